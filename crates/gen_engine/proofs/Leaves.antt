@@ -1,0 +1,97 @@
+-- The step of a leaf on a hart that stands before it.
+use Rattle.std.proofs.Common.{◌≡◌, ℕ, ◌+◌, ◌-◌, ◌*◌, ◌/◌, ◌%◌, ◌^◌, ◌<◌, ◌≤◌, true, false, List, [], ◌∷◌, length, Option, Some, None, refl, sym, ap, ◌∙◌, subst, inl, inr, ◌⊎◌, ◌&&◌, arith, if◌then◌else◌}
+use Rattle.std.specs.Prelude.{slice_index_or}
+use Rattle.std.specs.Option.{unwrap_or, IsSome}
+use Rattle.std.proofs.lemmas.Bool.{lt-ltb, le-ltb}
+use Rattle.rv_isa.specs.declared.instruction.Instr.{Instr}
+use Rattle.rv_isa.specs.Encoding.{Fits, IsEncoded, sign_extended, word_of}
+use Rattle.rv_isa.specs.Reading.{decoded}
+use Rattle.rv_isa.proofs.Codec.{read_encoded, encoded_below}
+use Rattle.rv_script.specs.declared.access.Access.{Access}
+use Rattle.rv_script.specs.declared.place.Place.{Place}
+use Rattle.rv_script.specs.declared.place.Place.TheVariants.{Reg, Word}
+use Rattle.rv_script.specs.Bytes.{word_address, part_of}
+use Rattle.rv_script.specs.Script.{Question.OfMemory, access_of, Script, Script.Outside, Label.Fetched, ◌>>=◌, read}
+use Rattle.rv_script.specs.Folds.{Known, by_known, Answer, Answer.Does, answer_on, prefixed, noted, on_told, play}
+use Rattle.rv_hart.specs.declared.csrs.Priv.{Priv}
+use Rattle.rv_hart.specs.declared.hart.Hart.{Hart}
+use Rattle.rv_hart.specs.declared.memory.Seen.{Seen}
+use Rattle.rv_hart.specs.declared.record.Change.{Change}
+use Rattle.rv_hart.specs.declared.record.Outcome.TheVariants.{Retired}
+use Rattle.rv_hart.specs.declared.record.Record.{Record}
+use Rattle.rv_hart.specs.declared.record.Stepped.{Stepped}
+use Rattle.rv_hart.specs.declared.record.Stepped.TheVariants.{Did}
+use Rattle.rv_hart.specs.Whole.{record_of}
+use Rattle.rv_hart.specs.View.{known, fixed_of, shown, known_word, is_there}
+use Rattle.rv_hart.specs.Machine.{Fixed, is_bare, rd_told, retired, immediate_row, instruction, script}
+use Rattle.tpl_parse.specs.declared.template.Leaf.{Leaf}
+use Rattle.tpl_parse.specs.Form.{IsFit}
+use Rattle.tpl_admit.specs.Admission.{instr_of}
+use Rattle.tpl_parse.specs.declared.template.Region.{Region}
+use Rattle.gen_engine.specs.Plan.{leaf_word, leaf_value, leaf_write, leaf_record, fetch_of}
+use Rattle.gen_engine.specs.Code.{code_at, IsAt}
+
+-- a fetch that is told its word
+fetched : (k : Known) (pc word : ℕ) (next : ℕ → Script Change) → pc % 4 ≡ 0 → word < 2 ^ 32 → k (Word pc) ≡ Some word
+    → answer_on k (read Fetched pc 4 >>= next) ≡ prefixed (fetch_of pc word ∷ []) (answer_on k (next word))
+fetched k pc word next aligned small there =
+    let at : word_address pc ≡ pc = omega arith in
+    let told : k (Word (word_address pc)) ≡ Some word = ap (λ (a : ℕ). k (Word a)) at ∙ there in
+    let whole : part_of pc 4 word ≡ word = rw aligned (omega arith) in
+    ap (λ (o : Option ℕ). on_told o (Word (word_address pc)) (λ v. noted (access_of (OfMemory Fetched pc 4) v) (answer_on k (next (part_of pc 4 v))))) told
+    ∙ ap (λ (n : ℕ). prefixed (fetch_of pc n ∷ []) (answer_on k (next n))) whole
+
+-- an operation on a known register
+pub row_answered : (f : Fixed) (k : Known) (word : ℕ) (l : Leaf) (a : ℕ) → k (Reg l.rs1) ≡ Some a
+    → answer_on k (immediate_row f word (instr_of l)) ≡ Does [] (retired f.pc word (rd_told l.rd ((a + l.imm) % 2 ^ 32)))
+unfolding immediate_row
+row_answered f k word l a there = rw there refl
+
+-- a leaf's instruction at the pc, with its source known
+pub leaf_answered : (f : Fixed) (k : Known) (l : Leaf) (word a : ℕ) → is_bare f.privilege f.satp ≡ true → f.ram f.pc ≡ true → f.pc % 4 ≡ 0 → word < 2 ^ 32
+    → k (Word f.pc) ≡ Some word → decoded word ≡ Some (instr_of l) → k (Reg l.rs1) ≡ Some a
+    → answer_on k (script f) ≡ Does (fetch_of f.pc word ∷ []) (retired f.pc word (rd_told l.rd ((a + l.imm) % 2 ^ 32)))
+unfolding script instruction
+leaf_answered f k l word a bare there aligned small fetches decodes source =
+    ap (λ b. answer_on k (if b && f.ram f.pc then read Fetched f.pc 4 >>= (λ w. instruction f w (decoded w)) else Outside)) bare
+    ∙ ap (λ b. answer_on k (if b then read Fetched f.pc 4 >>= (λ w. instruction f w (decoded w)) else Outside)) there
+    ∙ fetched k f.pc word (λ w. instruction f w (decoded w)) aligned small fetches
+    ∙ ap (λ o. prefixed (fetch_of f.pc word ∷ []) (answer_on k (instruction f word o))) decodes
+    ∙ ap (λ answer. prefixed (fetch_of f.pc word ∷ []) answer) (row_answered f k word l a source)
+
+-- a leaf's word is that of its instruction
+pub fits : (l : Leaf) → IsFit l → Fits (instr_of l)
+fits l fit = (fit.rd, fit.rs1, refl, immediate l.imm fit.imm, refl)
+  where
+    immediate : (imm : ℕ) → ((imm < 2 ^ 11) ⊎ ((2 ^ 32 - 2 ^ 11 ≤ imm) × (imm < 2 ^ 32))) → imm ≡ sign_extended 12 (imm % 2 ^ 12)
+    immediate imm (inl low) = let same : imm % 2 ^ 12 ≡ imm = omega arith in rw (same, lt-ltb imm (2 ^ 11) low) refl
+    immediate imm (inr high) =
+        let above : 2 ^ 11 ≤ imm % 2 ^ 12 = omega arith in
+        let back : imm ≡ imm % 2 ^ 12 + (2 ^ 32 - 2 ^ 12) = omega arith in
+        rw (le-ltb (imm % 2 ^ 12) (2 ^ 11) above) back
+
+pub encoded : (l : Leaf) → IsFit l → IsEncoded (instr_of l) (leaf_word l)
+unfolding leaf_word
+encoded l fit = record { fits = fits l fit; word = refl }
+
+pub leaf_decoded : (l : Leaf) → IsFit l → decoded (leaf_word l) ≡ Some (instr_of l)
+leaf_decoded l fit = read_encoded (leaf_word l) (instr_of l) (encoded l fit)
+
+-- the step of a hart that stands before a leaf
+pub step_is : (h : Hart) (ram : Region) (base : ℕ) (words : List ℕ) (l : Leaf) → IsAt h ram base words l
+    → shown (fixed_of h (code_at ram base words)) (answer_on (known h (code_at ram base words)) (script (fixed_of h (code_at ram base words)))) ≡ Did (leaf_record h.pc h.regs l)
+step_is h ram base words l at = go (slice_index_or h.regs l.rs1 None) refl at.known
+  where
+    go : (o : Option ℕ) → slice_index_or h.regs l.rs1 None ≡ o → IsSome o
+        → shown (fixed_of h (code_at ram base words)) (answer_on (known h (code_at ram base words)) (script (fixed_of h (code_at ram base words)))) ≡ Did (leaf_record h.pc h.regs l)
+    go None e some = absurd (cc some)
+    go (Some a) e some =
+        let answered = leaf_answered (fixed_of h (code_at ram base words)) (known h (code_at ram base words)) l (leaf_word l) a (rw at.privilege refl) (ap is_there at.word) h.aligned
+        (encoded_below (leaf_word l) (instr_of l) (encoded l at.fit)) (ap known_word at.word) (leaf_decoded l at.fit) e in
+        let value : (a + l.imm) % 2 ^ 32 ≡ leaf_value h.regs l = ap (λ (o : Option ℕ). (unwrap_or o 0 + l.imm) % 2 ^ 32) (sym e) in
+        ap (shown (fixed_of h (code_at ram base words))) answered
+        ∙ ap (λ (n : ℕ). Did (record_of (fixed_of h (code_at ram base words)) (fetch_of h.pc (leaf_word l) ∷ []) (retired h.pc (leaf_word l) (rd_told l.rd n)))) value
+        ∙ ap (λ (p : Priv). Did (record { pc = h.pc; privilege = p; word = leaf_word l; outcome = Retired; rd = leaf_write h.regs l; accesses = fetch_of h.pc (leaf_word l) ∷ []; next_pc = (h.pc + 4) % 2 ^ 32 })) at.privilege
+
+pub did_same : (r s : Record) → Did r ≡ Did s → r ≡ s
+did_same r s e = cc

@@ -1,0 +1,5 @@
+pub mod Leaves
+pub mod Lists
+pub mod Machines
+pub mod Courses
+pub mod Validity

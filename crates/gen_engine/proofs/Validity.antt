@@ -1,0 +1,381 @@
+-- The certificate of a template is valid.
+use Rattle.std.proofs.Common.{◌≡◌, ◌≢◌, ℕ, zero, suc, ◌+◌, ◌-◌, ◌*◌, ◌/◌, ◌%◌, ◌^◌, ◌<◌, ◌≤◌, Bool, true, false, eqb, leb, List, [], ◌∷◌, ◌++◌, length, map, drop, Option, Some, None, refl, sym, ap, ◌∙◌, subst, inl, inr, ◌⊎◌, arith, if◌then◌else◌}
+use Rattle.std.specs.Prelude.{slice_index_or, replicate, sum_by}
+use Rattle.std.specs.Option.{unwrap_or, is_some, IsSome}
+use Rattle.std.proofs.lemmas.Bool.{cases_Bool, cases_eq, cases_lt, eq-eqb, ne_eqb, eqb-true, le-leb, lt-leb, and_from, lt-ltb}
+use Rattle.std.proofs.lemmas.Bool.Decides.{nat_tests}
+use Rattle.std.proofs.Math.ListN.{set}
+use Rattle.std.proofs.lemmas.List.{get_or-replicate, get_or_past, length-map, length-drop, get_or-set_same, get_or-set_other}
+use Rattle.rv_script.specs.declared.access.Access.{Access}
+use Rattle.rv_script.specs.Lists.{HasItem}
+use Rattle.rv_script.specs.Bytes.{is_look}
+use Rattle.rv_script.specs.Memory.{memory_after}
+use Rattle.rv_hart.specs.declared.csrs.Priv.TheVariants.{M}
+use Rattle.rv_hart.specs.declared.hart.Hart.{Hart}
+use Rattle.rv_hart.specs.declared.record.Record.{Record}
+use Rattle.rv_hart.specs.Registers.{written, no_registers}
+use Rattle.rv_hart.specs.Machine.{rd_told}
+use Rattle.tpl_parse.specs.declared.template.Leaf.{Leaf}
+use Rattle.tpl_parse.specs.declared.template.Region.{Region}
+use Rattle.tpl_parse.specs.declared.template.Template.{Template}
+use Rattle.tpl_parse.specs.Form.{IsFit, AreLeavesFit, HasTarget, AreFed, IsAllowed}
+use Rattle.tpl_admit.specs.declared.certificate.Cert.{Cert}
+use Rattle.tpl_admit.specs.Starts.{found, trace_of, word_of, first_hart, first_memory, zero_elsewhere, is_in, is_given, start_of, final_of, ArePlaces, AreStartWords}
+use Rattle.tpl_admit.specs.Races.{footprint_of, IsRaceFree, Meet}
+use Rattle.tpl_admit.specs.Solo.{Solo, solo, solo_run, knows_after}
+use Rattle.tpl_admit.specs.Admission.{instr_of, Meets, AreMet}
+use Rattle.tpl_admit.specs.Validity.{IsHartValid, IsValid}
+use Rattle.tpl_admit.specs.Sizes.{trace_size, certificate_size}
+use Rattle.rv_isa.proofs.Codec.{encoded_below}
+use Rattle.gen_engine.specs.Plan.{leaf_word, leaf_write, leaf_value, leaf_record, fetch_of, records_from, regs_from, placed, known_from, state_at, assembled, planned}
+use Rattle.gen_engine.specs.Given.{addresses, GivesCodeAlone}
+use Rattle.gen_engine.specs.Code.{AreKnown, IsReady}
+use Rattle.gen_engine.proofs.Leaves.{encoded}
+use Rattle.gen_engine.proofs.Machines.{looks_leave, regs_known, Shows, written_size, written_zero, fixed_at}
+use Rattle.gen_engine.proofs.Courses.{AreThere, Before, Course, course}
+
+-- ---- sources
+
+fed_known : (targets : List ℕ) (regs : List (Option ℕ)) (ls : List Leaf) → AreFed targets ls → AreLeavesFit ls
+    → ((r : ℕ) → HasTarget targets r → IsSome (slice_index_or regs r None)) → slice_index_or regs 0 None ≡ Some 0 → length regs ≡ 32 → AreKnown regs ls
+fed_known targets regs [] fed fit knows zero_is size = tt
+fed_known targets regs (l ∷ ls) fed fit knows zero_is size = (
+  elim fed.0 [
+    | inl none ↦ subst (λ (r : ℕ). IsSome (slice_index_or regs r None)) (sym none) (subst (λ (o : Option ℕ). IsSome o) (sym zero_is) refl)
+    | inr target ↦ knows l.rs1 target
+  ],
+  fed_known (l.rd ∷ targets) (written (leaf_write regs l) regs) ls fed.1 fit.1 (still l.rd (leaf_value regs l) fit.0.rd)
+      (written_zero regs l.rd (leaf_value regs l) zero_is) (written_size regs l.rd (leaf_value regs l) size),
+)
+  where
+    still : (rd value : ℕ) → rd < 32 → (r : ℕ) → HasTarget (rd ∷ targets) r → IsSome (slice_index_or (written (rd_told rd value) regs) r None)
+    still rd value small r h = elim (cases_eq rd 0) [
+      | inl none ↦ rw (eq-eqb rd 0 none) (elim h [
+        | inl here ↦ subst (λ (k : ℕ). IsSome (slice_index_or regs k None)) (sym none ∙ here) (subst (λ (o : Option ℕ). IsSome o) (sym zero_is) refl)
+        | inr there ↦ knows r there
+      ])
+      | inr some ↦ rw (ne_eqb rd 0 some) (elim (cases_eq r rd) [
+        | inl same ↦ subst (λ (o : Option ℕ). IsSome o) (sym (ap (λ (k : ℕ). slice_index_or (set regs rd (Some value)) k None) same ∙ get_or-set_same regs rd (Some value) None (omega (arith, size, small)))) refl
+        | inr other ↦ subst (λ (o : Option ℕ). IsSome o) (sym (get_or-set_other regs rd r (Some value) None other)) (elim h [
+          | inl here ↦ absurd (other (sym here))
+          | inr there ↦ knows r there
+        ])
+      ])
+    ]
+
+-- ---- words with their addresses
+
+placed_below : (base : ℕ) (ws : List ℕ) (a : ℕ) → a < base → found (placed base ws) a ≡ None
+placed_below base [] a low = refl
+placed_below base (w ∷ ws) a low = rw (ne_eqb base a (λ e. omega (arith, e, low))) (placed_below (base + 4) ws a (omega arith))
+
+-- memory that has these words has the first of them there, and the others behind it
+pub words_there : (ram : Region) (words : ℕ → Option ℕ) (base : ℕ) (ls : List Leaf) → base % 4 ≡ 0 → ram.low ≤ base → base + 4 * length ls ≤ ram.high
+    → ((a : ℕ) → base ≤ a → words (a / 4) ≡ found (placed base (map leaf_word ls)) (a / 4 * 4)) → AreThere ram words base ls
+words_there ram words base [] aligned low high has = tt
+words_there ram words base (l ∷ ls) aligned low high has =
+    let back : base / 4 * 4 ≡ base = omega (arith, aligned) in (
+      has base (omega arith) ∙ ap (found (placed base (map leaf_word (l ∷ ls)))) back ∙ rw (eq-eqb base base refl) refl,
+      and_from _ _ (le-leb ram.low base low) (lt-ltb base ram.high (omega arith)),
+      words_there ram words (base + 4) ls (omega arith) (omega arith) (omega arith) (λ a above. has a (omega (arith, above)) ∙ rw (ne_eqb base (a / 4 * 4) (λ e. omega (arith, e, above, aligned))) refl),
+    )
+
+aligned_words : (base : ℕ) (ws : List ℕ) → base % 4 ≡ 0 → (a : ℕ) → is_some (found (placed base ws) a) ≡ true → a % 4 ≡ 0
+aligned_words base [] aligned a some = absurd cc
+aligned_words base (w ∷ ws) aligned a some = elim (cases_eq base a) [
+  | inl here ↦ ap (λ (n : ℕ). n % 4) (sym here) ∙ aligned
+  | inr other ↦ aligned_words (base + 4) ws (omega (arith, aligned)) a (rw (ne_eqb base a other) at some)
+]
+
+-- they are words of RAM from an address on
+placed_start : (ram : Region) (from base : ℕ) (ls : List Leaf) → from ≤ base → base % 4 ≡ 0 → ram.low ≤ base → base + 4 * length ls ≤ ram.high → AreLeavesFit ls
+    → AreStartWords ram from (placed base (map leaf_word ls))
+placed_start ram from base [] up aligned low high fit = tt
+placed_start ram from base (l ∷ ls) up aligned low high fit = (
+  up,
+  aligned,
+  and_from _ _ (le-leb ram.low base low) (lt-ltb base ram.high (omega arith)),
+  encoded_below (leaf_word l) (instr_of l) (encoded l fit.0),
+  placed_start ram (base + 4) (base + 4) ls (omega arith) (omega (arith, aligned)) (omega arith) (omega arith) fit.1,
+)
+
+-- the values of the words in memory
+values_are : (m : ℕ → ℕ) (base : ℕ) (ws : List ℕ) → ((a v : ℕ) → found (placed base ws) a ≡ Some v → m (a / 4) ≡ v) → map (λ (w : ℕ × ℕ). m (w.0 / 4)) (placed base ws) ≡ ws
+values_are m base [] has = refl
+values_are m base (w ∷ ws) has =
+    let head : m (base / 4) ≡ w = has base w (rw (eq-eqb base base refl) refl) in
+    let tail : map (λ (p : ℕ × ℕ). m (p.0 / 4)) (placed (base + 4) ws) ≡ ws = values_are m (base + 4) ws (λ a v e. has a v (elim (cases_eq base a) [
+      | inl here ↦ absurd (let none : found (placed (base + 4) ws) a ≡ None = placed_below (base + 4) ws a (omega (arith, here)) in let no : Some v ≡ None = sym e ∙ none in cc no)
+      | inr other ↦ rw (ne_eqb base a other) e
+    ])) in
+    rw (head, tail) refl
+
+-- ---- records
+
+fetches_look : (pc : ℕ) (regs : List (Option ℕ)) (ls : List Leaf) (x : Access) → HasItem (footprint_of (records_from pc regs ls)) x → is_look x.role ≡ true
+fetches_look pc regs [] x h = absurd h
+fetches_look pc regs (l ∷ ls) x h = elim h [
+  | inl here ↦ ap (λ (y : Access). is_look y.role) (sym here)
+  | inr there ↦ fetches_look (pc + 4) (written (leaf_write regs l) regs) ls x there
+]
+
+all_met : (pc : ℕ) (regs : List (Option ℕ)) (ls : List Leaf) → AreLeavesFit ls → AreMet ls (records_from pc regs ls)
+all_met pc regs [] fit = tt
+all_met pc regs (l ∷ ls) fit = (record { word = encoded l fit.0; outcome = refl }, all_met (pc + 4) (written (leaf_write regs l) regs) ls fit.1)
+
+records_length : (pc : ℕ) (regs : List (Option ℕ)) (ls : List Leaf) → length (records_from pc regs ls) ≡ length ls
+records_length pc regs [] = refl
+records_length pc regs (l ∷ ls) = ap suc (records_length (pc + 4) (written (leaf_write regs l) regs) ls)
+
+-- ---- the places at the end
+
+not_le : (a b : ℕ) → b < a → leb a b ≡ false
+not_le a b low = grind (arith, nat_tests)
+
+-- the value at a key among values that begin at number n
+abbrev pub value_from : ℕ → List (Option ℕ) → ℕ → Option ℕ
+value_from n regs key = if leb n key then slice_index_or regs (key - n) None else None
+
+value_below : (n key : ℕ) (regs : List (Option ℕ)) → key < n → value_from n regs key ≡ None
+value_below n key regs low = rw (not_le n key low) refl
+
+value_behind : (n key : ℕ) (o : Option ℕ) (regs : List (Option ℕ)) → n < key → value_from n (o ∷ regs) key ≡ value_from (n + 1) regs key
+value_behind n key o regs high =
+    let place : key - n ≡ suc (key - (n + 1)) = omega (arith, high) in
+    rw (le-leb n key (omega (arith, high)), le-leb (n + 1) key (omega (arith, high)), place) refl
+
+known_head : (o : Option ℕ) (n : ℕ) (regs : List (Option ℕ)) (key : ℕ) → found (known_from (n + 1) regs) key ≡ value_from (n + 1) regs key → found (known_from n (o ∷ regs)) key ≡ value_from n (o ∷ regs) key
+known_head None n regs key ih = elim (cases_lt n key) [
+  | inl behind ↦ ih ∙ sym (value_behind n key None regs behind)
+  | inr up ↦ ih ∙ value_below (n + 1) key regs (omega (arith, up)) ∙ sym (elim (cases_eq n key) [
+    | inl here ↦ let first : key - n ≡ 0 = omega (arith, here) in rw (le-leb n key (omega (arith, here)), first) refl
+    | inr other ↦ value_below n key (None ∷ regs) (omega (arith, up, other))
+  ])
+]
+known_head (Some v) n regs key ih = elim (cases_eq n key) [
+  | inl here ↦ let first : key - n ≡ 0 = omega (arith, here) in rw (eq-eqb n key here, le-leb n key (omega (arith, here)), first) refl
+  | inr other ↦ rw (ne_eqb n key other) (elim (cases_lt n key) [
+    | inl behind ↦ ih ∙ sym (value_behind n key (Some v) regs behind)
+    | inr up ↦ ih ∙ value_below (n + 1) key regs (omega (arith, up)) ∙ sym (value_below n key (Some v ∷ regs) (omega (arith, up, other)))
+  ])
+]
+
+found_known : (n : ℕ) (regs : List (Option ℕ)) (key : ℕ) → found (known_from n regs) key ≡ value_from n regs key
+found_known n [] key = elim (cases_Bool (leb n key)) [ inl above ↦ rw above refl | inr below ↦ rw below refl ]
+found_known n (o ∷ regs) key = known_head o n regs key (found_known (n + 1) regs key)
+
+-- the registers but x0, as places
+places_known : (regs : List (Option ℕ)) (key : ℕ) → found (known_from 1 (drop 1 regs)) key ≡ regs_known regs key
+places_known [] key = elim (cases_eq key 0) [ inl none ↦ rw (eq-eqb key 0 none) refl | inr some ↦ rw (ne_eqb key 0 some) refl ]
+places_known (o ∷ regs) key = found_known 1 regs key ∙ elim (cases_eq key 0) [
+  | inl none ↦ value_below 1 key regs (omega (arith, none)) ∙ rw (eq-eqb key 0 none) refl
+  | inr some ↦ let place : key ≡ suc (key - 1) = omega (arith, some) in rw (le-leb 1 key (omega (arith, some)), ne_eqb key 0 some) (sym (ap (λ (k : ℕ). slice_index_or (o ∷ regs) k None) place))
+]
+
+-- no register is known at first
+none_known : (key : ℕ) → regs_known no_registers key ≡ None
+none_known key = elim (cases_eq key 0) [
+  | inl none ↦ rw (eq-eqb key 0 none) refl
+  | inr some ↦
+      let place : key ≡ suc (key - 1) = omega (arith, some) in
+      rw (ne_eqb key 0 some) (ap (λ (k : ℕ). slice_index_or no_registers k None) place ∙ elim (cases_lt (key - 1) 31) [
+        | inl within ↦ get_or-replicate 31 (key - 1) None None within
+        | inr past ↦ get_or_past (replicate 31 None) (key - 1) None (omega (arith, past))
+      ])
+]
+
+regs_length : (regs : List (Option ℕ)) (ls : List Leaf) → length regs ≡ 32 → length (regs_from regs ls) ≡ 32
+regs_length regs [] size = size
+regs_length regs (l ∷ ls) size = regs_length (written (leaf_write regs l) regs) ls (written_size regs l.rd (leaf_value regs l) size)
+
+places_length : (t : Template) → length (drop 1 (regs_from no_registers t.leaves)) ≡ 31
+places_length t = length-drop 1 (regs_from no_registers t.leaves) ∙ ap (λ (n : ℕ). n - 1) (regs_length no_registers t.leaves refl)
+
+-- the registers that are known hold words
+abbrev AreSmall : List (Option ℕ) → Type 0
+AreSmall regs = (r v : ℕ) → slice_index_or regs r None ≡ Some v → v < 2 ^ 32
+
+small_written : (regs : List (Option ℕ)) (rd value : ℕ) → length regs ≡ 32 → rd < 32 → value < 2 ^ 32 → AreSmall regs → AreSmall (written (rd_told rd value) regs)
+small_written regs rd value size low small are r v e = elim (cases_eq rd 0) [
+  | inl none ↦ are r v (rw (eq-eqb rd 0 none) at e)
+  | inr some ↦
+      let now : slice_index_or (set regs rd (Some value)) r None ≡ Some v = rw (ne_eqb rd 0 some) at e in
+      elim (cases_eq r rd) [
+        | inl same ↦
+            let there : slice_index_or (set regs rd (Some value)) r None ≡ Some value =
+            ap (λ (k : ℕ). slice_index_or (set regs rd (Some value)) k None) same ∙ get_or-set_same regs rd (Some value) None (omega (arith, size, low)) in
+            let is : Some value ≡ Some v = sym there ∙ now in
+            subst (λ (n : ℕ). n < 2 ^ 32) (cc is) small
+        | inr other ↦ are r v (sym (get_or-set_other regs rd r (Some value) None other) ∙ now)
+      ]
+]
+
+small_from : (regs : List (Option ℕ)) (ls : List Leaf) → length regs ≡ 32 → AreLeavesFit ls → AreSmall regs → AreSmall (regs_from regs ls)
+small_from regs [] size fit are = are
+small_from regs (l ∷ ls) size fit are =
+    let small : leaf_value regs l < 2 ^ 32 = omega arith in
+    small_from (written (leaf_write regs l) regs) ls (written_size regs l.rd (leaf_value regs l) size) fit.1 (small_written regs l.rd (leaf_value regs l) size fit.0.rd small are)
+
+small_drop : (regs : List (Option ℕ)) → AreSmall regs → AreSmall (drop 1 regs)
+small_drop [] are r v e = absurd cc
+small_drop (o ∷ regs) are r v e = are (suc r) v e
+
+places_are : (from n : ℕ) (regs : List (Option ℕ)) → from ≤ n → 1 ≤ n → n + length regs ≤ 32 → AreSmall regs → ArePlaces from (known_from n regs)
+places_are from n [] up first within are = tt
+places_are from n (None ∷ regs) up first within are = places_are from (n + 1) regs (omega arith) (omega arith) (omega arith) (λ r v e. are (suc r) v e)
+places_are from n (Some v ∷ regs) up first within are = (
+  up,
+  rw (le-leb 1 n first, lt-ltb n 32 (omega arith)) refl,
+  are 0 v refl,
+  places_are (n + 1) (n + 1) regs (omega arith) (omega arith) (omega arith) (λ r v e. are (suc r) v e),
+)
+
+none_small : AreSmall no_registers
+none_small zero v e = let is : 0 ≡ v = cc e in omega (arith, is)
+none_small (suc k) v e =
+    let none : slice_index_or no_registers (suc k) None ≡ None = elim (cases_lt k 31) [
+      | inl within ↦ get_or-replicate 31 k None None within
+      | inr past ↦ get_or_past (replicate 31 None) k None (omega (arith, past))
+    ] in
+    absurd cc
+
+-- ---- the whole
+
+first_before : (t : Template) → IsAllowed t → Before t.ram (word_of (planned t)) t.start_pc no_registers t.leaves (first_hart (planned t) 0) (is_given (start_of (planned t) 0))
+first_before t is = record {
+  fixed = refl;
+  shows = λ key. none_known key;
+  zero_is = refl;
+  size = refl;
+  there = words_there t.ram (word_of (planned t)) t.start_pc t.leaves is.pc (omega (arith, is.above, is.first)) (omega (arith, is.last, is.within)) (λ a above. refl);
+  fit = is.fit;
+  known = fed_known [] no_registers t.leaves is.fed is.fit (λ r none. absurd none) refl refl;
+  aligned = is.pc;
+  small = omega (arith, is.last, is.within, is.high);
+}
+
+whole_course : (t : Template) → IsAllowed t → Course t.ram (word_of (planned t)) t.start_pc no_registers t.leaves (is_given (start_of (planned t) 0)) (solo_run (planned t) 0)
+whole_course t is =
+    subst (λ (n : ℕ). Course t.ram (word_of (planned t)) t.start_pc no_registers t.leaves (is_given (start_of (planned t) 0)) (solo n (first_hart (planned t) 0) (first_memory (planned t))))
+    (sym (records_length t.start_pc no_registers t.leaves))
+    (course t.ram (word_of (planned t)) t.start_pc no_registers t.leaves (first_hart (planned t) 0) (is_given (start_of (planned t) 0)) (first_before t is))
+
+first_valid : (t : Template) → IsAllowed t → IsHartValid (planned t) 0
+first_valid t is =
+    let went = whole_course t is in
+    record {
+      records = went.records;
+      initialised = went.initialised;
+      final_fixed = sym went.fixed;
+      final_places = λ key. places_known (regs_from no_registers t.leaves) key ∙ went.shows key;
+    }
+
+looks : (t : Template) (k : ℕ) (x : Access) → HasItem (footprint_of (trace_of (planned t) k)) x → is_look x.role ≡ true
+looks t zero x h = fetches_look t.start_pc no_registers t.leaves x h
+looks t (suc k) x h = absurd h
+
+starts_are : (t : Template) (k : ℕ) → ArePlaces 0 (start_of (planned t) k).places
+starts_are t zero = tt
+starts_are t (suc k) = tt
+
+ends_are : (t : Template) → IsAllowed t → (k : ℕ) → ArePlaces 0 (final_of (planned t) k).places
+ends_are t is zero =
+    let size : length (drop 1 (regs_from no_registers t.leaves)) ≡ 31 = places_length t in
+    places_are 0 1 (drop 1 (regs_from no_registers t.leaves)) (omega arith) (omega arith) (omega (arith, size)) (small_drop (regs_from no_registers t.leaves) (small_from no_registers t.leaves refl is.fit none_small))
+ends_are t is (suc k) = tt
+
+pub planned_valid : (t : Template) → IsAllowed t → IsValid (planned t)
+planned_valid t is = record {
+  sound = record {
+    traces = refl;
+    finals = refl;
+    start_places = starts_are t;
+    final_places = ends_are t is;
+    words = placed_start t.ram 0 t.start_pc t.leaves (omega arith) is.pc (omega (arith, is.above, is.first)) (omega (arith, is.last, is.within)) is.fit;
+    harts = λ k l. let first : 0 ≡ k = omega (arith, l) in subst (IsHartValid (planned t)) first (first_valid t is);
+    race_free = record { harts = λ j k ne x y hx hy meet. looks t j x hx; code = λ j k x y hx hy code meet. looks t j x hx };
+    last = ap (λ (m : ℕ → ℕ). map (λ (w : ℕ × ℕ). m (w.0 / 4)) (planned t).words) (looks_leave (footprint_of (trace_of (planned t) 0)) (first_memory (planned t)) (looks t 0))
+        ∙ values_are (first_memory (planned t)) t.start_pc (map leaf_word t.leaves) (λ a v e. memory_has a v e);
+  };
+  admits = record { harts = refl; pc = refl; privilege = refl; mstatus = refl; medeleg = refl; satp = refl; leaves = all_met t.start_pc no_registers t.leaves is.fit };
+}
+  where
+    memory_has : (a v : ℕ) → found (placed t.start_pc (map leaf_word t.leaves)) a ≡ Some v → first_memory (planned t) (a / 4) ≡ v
+    memory_has a v e =
+        let al : a % 4 ≡ 0 = aligned_words t.start_pc (map leaf_word t.leaves) is.pc a (ap is_some e) in
+        let back : a / 4 * 4 ≡ a = omega (arith, al) in
+        ap (λ (k : ℕ). unwrap_or (found (placed t.start_pc (map leaf_word t.leaves)) k) 0) back ∙ ap (λ (o : Option ℕ). unwrap_or o 0) e
+
+-- ---- what it gives
+
+placed_at : (base : ℕ) (ws : List ℕ) → map (λ (w : ℕ × ℕ). w.0) (placed base ws) ≡ addresses base (length ws)
+placed_at base [] = refl
+placed_at base (w ∷ ws) = ap (λ (rest : List ℕ). base ∷ rest) (placed_at (base + 4) ws)
+
+pub planned_gives : (t : Template) → GivesCodeAlone (planned t)
+planned_gives t = record {
+  places = none;
+  words = placed_at t.start_pc (map leaf_word t.leaves) ∙ ap (addresses t.start_pc) (length-map t.leaves leaf_word);
+}
+  where
+    none : (k : ℕ) → (start_of (planned t) k).places ≡ []
+    none zero = refl
+    none (suc k) = refl
+
+-- ---- how much it is
+
+two_each : (pc : ℕ) (regs : List (Option ℕ)) (ls : List Leaf) → trace_size (records_from pc regs ls) ≡ 2 * length ls
+two_each pc regs [] = refl
+two_each pc regs (l ∷ ls) = let ih = two_each (pc + 4) (written (leaf_write regs l) regs) ls in omega (arith, ih)
+
+placed_length : (base : ℕ) (ws : List ℕ) → length (placed base ws) ≡ length ws
+placed_length base [] = refl
+placed_length base (w ∷ ws) = ap suc (placed_length (base + 4) ws)
+
+known_length : (n : ℕ) (regs : List (Option ℕ)) → length (known_from n regs) ≤ length regs
+known_length n [] = omega arith
+known_length n (None ∷ regs) = let ih = known_length (n + 1) regs in omega (arith, ih)
+known_length n (Some v ∷ regs) = let ih = known_length (n + 1) regs in omega (arith, ih)
+
+pub planned_size : (t : Template) → certificate_size (planned t) ≤ 3 * length t.leaves + 33
+planned_size t =
+    let places = drop 1 (regs_from no_registers t.leaves) in
+    let a : trace_size (records_from t.start_pc no_registers t.leaves) ≡ 2 * length t.leaves = two_each t.start_pc no_registers t.leaves in
+    let b : length (placed t.start_pc (map leaf_word t.leaves)) ≡ length t.leaves = placed_length t.start_pc (map leaf_word t.leaves) ∙ length-map t.leaves leaf_word in
+    let c : length (known_from 1 (drop 1 (regs_from no_registers t.leaves))) ≤ length (drop 1 (regs_from no_registers t.leaves)) = known_length 1 (drop 1 (regs_from no_registers t.leaves)) in
+    let d : length (drop 1 (regs_from no_registers t.leaves)) ≡ 31 = places_length t in
+    omega (arith, a, b, c, d)
+
+-- ---- the certificate that is made
+
+pub is_planned : (t : Template) (words : List ℕ) (pc : ℕ) (regs : List (Option ℕ)) (records : List Record) (places : List (ℕ × ℕ)) (leaves : List Leaf) (first : ℕ) (at : List (Option ℕ))
+    → leaves ≡ t.leaves → first ≡ t.start_pc → at ≡ no_registers → words ≡ map leaf_word leaves → records ≡ records_from first at leaves → regs ≡ regs_from at leaves → pc ≡ first + 4 * length leaves
+    → places ≡ known_from 1 (drop 1 regs)
+    → assembled t words records pc places ≡ planned t
+is_planned t words pc regs records places leaves first at ls f none ws rs gs e ps = λ i. assembled t (same_words i) (same_records i) (same_pc i) (same_places i)
+  where
+    same_words : words ≡ map leaf_word t.leaves
+    same_words = ws ∙ ap (map leaf_word) ls
+
+    same_records : records ≡ records_from t.start_pc no_registers t.leaves
+    same_records = rs ∙ ap (λ (n : ℕ). records_from n at leaves) f ∙ ap (λ (q : List (Option ℕ)). records_from t.start_pc q leaves) none ∙ ap (records_from t.start_pc no_registers) ls
+
+    same_pc : pc ≡ t.start_pc + 4 * length t.leaves
+    same_pc = e ∙ ap (λ (n : ℕ). n + 4 * length leaves) f ∙ ap (λ (l : List Leaf). t.start_pc + 4 * length l) ls
+
+    same_places : places ≡ known_from 1 (drop 1 (regs_from no_registers t.leaves))
+    same_places = ps ∙ ap (λ (q : List (Option ℕ)). known_from 1 (drop 1 q)) (gs ∙ ap (λ (q : List (Option ℕ)). regs_from q leaves) none ∙ ap (regs_from no_registers) ls)
+
+-- the hart stands before the first leaf
+pub first_ready : (t : Template) (h : Hart) (words : List ℕ) (leaves : List Leaf) → IsAllowed t → h.pc ≡ t.start_pc → h.privilege ≡ M → h.regs ≡ no_registers → leaves ≡ t.leaves → words ≡ map leaf_word leaves
+    → IsReady h t.ram t.start_pc words leaves
+first_ready t h words leaves is pc privilege regs ls ws = record {
+  privilege = privilege;
+  pc = pc;
+  words_are = ws;
+  fit = subst AreLeavesFit (sym ls) is.fit;
+  known = subst (λ (q : List (Option ℕ)). AreKnown q leaves) (sym regs) (subst (AreKnown no_registers) (sym ls) (fed_known [] no_registers t.leaves is.fed is.fit (λ r none. absurd none) refl refl));
+  low = omega (arith, is.above, is.first);
+  high = omega (arith, is.last, is.within, ap length ls);
+  small = omega (arith, is.high);
+}

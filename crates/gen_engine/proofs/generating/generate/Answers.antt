@@ -1,0 +1,38 @@
+use Rattle.std.proofs.Common.{List, ℕ, map, sym, ap, subst, ◌≡◌, ◌∙◌, ◌≤◌, ◌+◌, ◌*◌, length}
+use Rattle.tpl_parse.specs.declared.template.Leaf.{Leaf}
+use Rattle.tpl_admit.specs.declared.certificate.Cert.{Cert}
+use Rattle.tpl_admit.specs.Sizes.{certificate_size}
+use Rattle.tpl_admit.specs.Validity.{IsValid}
+use Rattle.gen_engine.specs.Plan.{leaf_word, planned}
+use Rattle.gen_engine.specs.Given.{GivesCodeAlone}
+use Rattle.rv_system.proofs.Law.{faithful}
+use Rattle.gen_engine.proofs.Validity.{planned_valid, planned_gives, planned_size, is_planned, first_ready}
+use Rattle.gen_engine.proofs.generating.generate.Goals as goal
+
+pub records_of-requires : goal.records_of-requires
+records_of-requires c =
+    first_ready c.args.template c.new-hart.result c.in_ok-words.words.items c.as_slice-2.result.now c.requires c.new-hart.ensures.pc c.new-hart.ensures.privilege c.new-hart.ensures.regs c.as_slice-2.ensures
+    (c.in_ok-words.ensures ∙ ap (λ (ls : List Leaf). map leaf_word ls) (c.as_slice.ensures ∙ sym c.as_slice-2.ensures))
+
+pub returns-clause-exact : goal.returns-clause-exact
+returns-clause-exact c =
+    c.in_ok-assemble.ensures
+    ∙ is_planned c.args.template c.in_ok-words.words.items _ _ _ _ _ _ _ c.as_slice-2.ensures c.new-hart.ensures.pc c.new-hart.ensures.regs
+    (c.in_ok-words.ensures ∙ ap (λ (ls : List Leaf). map leaf_word ls) (c.as_slice.ensures ∙ sym c.as_slice-2.ensures))
+    c.in_ok-records.ensures.records c.in_ok-records.ensures.regs c.in_ok-records.ensures.pc c.in_ok-places.ensures
+
+pub returns-clause-template : goal.returns-clause-template
+returns-clause-template c = ap (λ (x : Cert). x.template) (returns-clause-exact c)
+
+pub returns-clause-valid : goal.returns-clause-valid
+returns-clause-valid c = subst IsValid (sym (returns-clause-exact c)) (planned_valid c.args.template c.requires)
+
+pub returns-clause-faithful : goal.returns-clause-faithful
+returns-clause-faithful c = faithful c.in_ok-assemble.field-0 (returns-clause-valid c).sound
+
+pub returns-clause-given : goal.returns-clause-given
+returns-clause-given c = subst GivesCodeAlone (sym (returns-clause-exact c)) (planned_gives c.args.template)
+
+pub returns-clause-size : goal.returns-clause-size
+returns-clause-size c =
+    subst (λ (x : Cert). certificate_size x ≤ 3 * length c.args.template.leaves + 33) (sym (returns-clause-exact c)) (planned_size c.args.template)

@@ -1,0 +1,79 @@
+// From a template to a certificate.
+ghost use Rattle.std.specs.Prelude.{◌≡◌, ◌≤◌, ◌+◌, ◌*◌, ◌<◌, length, IfOk};
+ghost use Rattle.tpl_parse.specs.declared.template.Leaf.{Leaf as ALeaf};
+ghost use Rattle.tpl_parse.specs.Form.{IsAllowed};
+ghost use Rattle.tpl_admit.specs.Validity.{IsValid};
+ghost use Rattle.tpl_admit.specs.Faithfulness.{IsFaithful};
+ghost use Rattle.tpl_admit.specs.Sizes.{certificate_size};
+ghost use Rattle.rv_hart.specs.Registers.{written};
+ghost use Rattle.gen_engine.specs.Plan.{leaf_record, leaf_write, records_from, regs_from, planned};
+ghost use Rattle.gen_engine.specs.Given.{GivesCodeAlone};
+ghost use Rattle.gen_engine.specs.Code.{IsAt, IsReady};
+
+use crate::OutOfMemory;
+use crate::assembling::{assemble, known_places};
+use crate::code::{Code, words_of};
+use rv_hart::{Hart, Priv, Record, Stepped, step};
+use std::alloc::{AllocError, Global};
+use tpl_admit::Cert;
+use tpl_parse::{Items, Leaf, Template};
+
+/// The step of the leaf whose instruction stands at the pc.
+fn take_leaf(hart: &mut Hart, code: &Code) -> Record
+    requires { (l : ALeaf) × IsAt hart.old code.now.ram code.now.base code.now.words.items l }
+    ensures record { (l : ALeaf) → IsAt hart.old code.now.ram code.now.base code.now.words.items l → result ≡ leaf_record hart.old.pc hart.old.regs l }
+    ensures regs { (l : ALeaf) → IsAt hart.old code.now.ram code.now.base code.now.words.items l → hart.new.regs ≡ written (leaf_write hart.old.regs l) hart.old.regs }
+    ensures pc { hart.new.pc ≡ hart.old.pc + 4 }
+    ensures privilege { hart.new.privilege ≡ hart.old.privilege }
+{
+    match step(hart, code) {
+        Stepped::Did(record) => record,
+        Stepped::Missing(_) => unreachable!(),
+        Stepped::Outside => unreachable!(),
+    }
+}
+
+/// The records of the leaves, one step after another.
+fn records_of(
+    alloc: Global,
+    hart: &mut Hart,
+    code: &Code,
+    leaves: &[Leaf],
+) -> Result<Items<Record>, AllocError>
+    requires { IsReady hart.old code.now.ram code.now.base code.now.words.items leaves.now }
+    ensures records { IfOk result (λ records. records ≡ records_from hart.old.pc hart.old.regs leaves.now) }
+    ensures regs { IfOk result (λ _. hart.new.regs ≡ regs_from hart.old.regs leaves.now) }
+    ensures pc { IfOk result (λ _. hart.new.pc ≡ hart.old.pc + 4 * length leaves.now) }
+{
+    let mut records = Items::new(alloc);
+    for _leaf in leaves {
+        records.push(take_leaf(hart, code))?;
+    }
+    Ok(records)
+}
+
+/// The certificate of a template: the steps of its leaves on a hart of which no register is known, over memory of
+/// which the leaves' words alone are known.
+pub fn generate(alloc: Global, template: Template) -> Result<Cert, OutOfMemory>
+    requires { IsAllowed template }
+    ensures exact { IfOk result (λ c. c ≡ planned template) }
+    ensures template { IfOk result (λ c. c.template ≡ template) }
+    ensures valid { IfOk result IsValid }
+    ensures faithful { IfOk result IsFaithful }
+    ensures given { IfOk result GivesCodeAlone }
+    ensures size { IfOk result (λ c. certificate_size c ≤ 3 * length template.leaves + 33) }
+{
+    let base = template.start_pc;
+    let words = words_of(alloc, template.leaves.as_slice())?;
+    let code = Code {
+        ram: template.ram,
+        base,
+        words,
+    };
+    let mut hart = Hart::new(0, base, Priv::M);
+    let records = records_of(alloc, &mut hart, &code, template.leaves.as_slice())?;
+    let places = known_places(alloc, &hart.regs)?;
+    let Code { words, .. } = code;
+    let end = hart.pc;
+    Ok(assemble(alloc, template, words, records, end, places)?)
+}

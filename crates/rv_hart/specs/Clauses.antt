@@ -1,0 +1,57 @@
+-- What a step on known places says of whole harts and memories.
+use Rattle.std.specs.Prelude.{◌≡◌, ℕ, Option, Some, None}
+use Rattle.std.specs.Option.{unwrap_or}
+use Rattle.rv_script.specs.declared.place.Place.{Place}
+use Rattle.rv_script.specs.Lists.{HasItem}
+use Rattle.rv_script.specs.Script.{place_of}
+use Rattle.rv_script.specs.Folds.{Known, by_known, Sight, Entry, asked_of, first_missing}
+use Rattle.rv_script.specs.Laws.{AreWords, IsSeenAlike}
+use Rattle.rv_hart.specs.declared.record.Record.{Record}
+use Rattle.rv_hart.specs.declared.record.Stepped.{Stepped}
+use Rattle.rv_hart.specs.declared.record.Stepped.TheVariants.{Did, Missing, Outside}
+use Rattle.rv_hart.specs.declared.stepping.Looked.{Looked}
+use Rattle.rv_hart.specs.declared.stepping.Looked.TheVariants.{Does, Missing as LooksMissing, Outside as LooksOutside}
+use Rattle.rv_hart.specs.Changes.{IsSoundChange}
+use Rattle.rv_hart.specs.Machine.{Fixed, script}
+use Rattle.rv_hart.specs.Whole.{WholeHart, value_at, sight_of, Step, step_of}
+
+-- a whole hart and memory have these fixed parts and all that is known
+pub record Has (f : Fixed) (known : Known) (h : WholeHart) (words : ℕ → ℕ) : Type 0 where
+  pub fixed : h.fixed ≡ f
+  pub values : (place : Place) (v : ℕ) → known place ≡ Some v → value_at h.file words place ≡ v
+
+-- the first needed place that is not known, or else the record of the step, or else that there is none
+abbrev pub stepped_by : Option Place → Option Step → Stepped
+stepped_by (Some place) step = Missing place
+stepped_by None None = Outside
+stepped_by None (Some s) = Did s.did
+
+abbrev pub first_needed : Known → WholeHart → (ℕ → ℕ) → Option Place
+first_needed known h words = first_missing (by_known known) (asked_of (script h.fixed) (sight_of h.file words))
+
+-- the answer is that of every whole hart and memory that have what is known
+abbrev pub IsMachineStep : Fixed → Known → Stepped → Type 0
+IsMachineStep f known result = (h : WholeHart) (words : ℕ → ℕ) → Has f known h words → result ≡ stepped_by (first_needed known h words) (step_of h words)
+
+-- what is known, and zero elsewhere
+abbrev pub zero_filled : Known → Sight
+zero_filled known q = unwrap_or (known (place_of q)) 0
+
+-- each whole hart with these fixed parts that has the registers and CSRs that the step asked for, over each memory that has the bytes
+-- that it looked at, makes this step
+abbrev pub IsLocal : Fixed → Known → Record → Type 0
+IsLocal f known r =
+    (h : WholeHart) (words : ℕ → ℕ) → h.fixed ≡ f → AreWords (zero_filled known) → AreWords (sight_of h.file words)
+    → ((e : Entry) → HasItem (asked_of (script f) (zero_filled known)) e → IsSeenAlike e.question e.value (sight_of h.file words e.question))
+    → (s : Step) × (step_of h words ≡ Some s) × (s.did ≡ r)
+
+abbrev pub IsLocalStep : Fixed → Known → Stepped → Type 0
+IsLocalStep f known (Did r) = IsLocal f known r
+IsLocalStep f known (Missing place) = Unit {0}
+IsLocalStep f known Outside = Unit {0}
+
+-- what is done leaves a hart as it must be
+abbrev pub IsSound : Looked → Type 0
+IsSound (Does c) = IsSoundChange c
+IsSound (LooksMissing place) = Unit {0}
+IsSound LooksOutside = Unit {0}

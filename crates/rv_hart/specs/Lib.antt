@@ -1,0 +1,6 @@
+pub mod Registers
+pub mod Changes
+pub mod Machine
+pub mod Whole
+pub mod View
+pub mod Clauses

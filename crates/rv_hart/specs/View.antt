@@ -1,0 +1,68 @@
+-- The code's harts and answers as the machine's.
+use Rattle.std.specs.Prelude.{ℕ, Bool, true, false, nat_eq, List, [], ◌∷◌, Option, Some, None, slice_index_or, position}
+use Rattle.rv_script.specs.declared.access.Access.{Access}
+use Rattle.rv_script.specs.declared.place.Place.TheVariants.{Reg, Csr, Word}
+use Rattle.rv_script.specs.Folds.{Known, Answer, Answer.Does as DoesSo, Answer.Missing as Lacks, Answer.Nowhere}
+use Rattle.rv_hart.specs.declared.hart.Hart.{Hart}
+use Rattle.rv_hart.specs.declared.memory.Seen.{Seen}
+use Rattle.rv_hart.specs.declared.memory.Seen.TheVariants.{Known as KnownWord, Vacant}
+use Rattle.rv_hart.specs.declared.record.Change.{Change}
+use Rattle.rv_hart.specs.declared.record.Stepped.{Stepped}
+use Rattle.rv_hart.specs.declared.record.Stepped.TheVariants.{Did, Missing, Outside}
+use Rattle.rv_hart.specs.declared.stepping.Looked.{Looked}
+use Rattle.rv_hart.specs.declared.stepping.Looked.TheVariants.{Does, Missing as LooksMissing, Outside as LooksOutside}
+use Rattle.rv_hart.specs.Registers.{written}
+use Rattle.rv_hart.specs.Machine.{Fixed}
+use Rattle.rv_hart.specs.Whole.{record_of}
+
+-- the addresses of the lazy CSRs, in the order of the field: stvec, sscratch, sepc, scause, stval, mtvec, mscratch, mepc, mcause, mtval
+abbrev pub lazy_csrs : List ℕ
+lazy_csrs = 0x105 ∷ 0x140 ∷ 0x141 ∷ 0x142 ∷ 0x143 ∷ 0x305 ∷ 0x340 ∷ 0x341 ∷ 0x342 ∷ 0x343 ∷ []
+
+abbrev pub at_position : List (Option ℕ) → Option ℕ → Option ℕ
+at_position values None = None
+at_position values (Some i) = slice_index_or values i None
+
+abbrev pub known_word : Seen → Option ℕ
+known_word (KnownWord w) = Some w
+known_word _ = None
+
+abbrev pub is_there : Seen → Bool
+is_there Vacant = false
+is_there _ = true
+
+-- what is known of a hart and of memory
+abbrev pub known : Hart → (ℕ → Seen) → Known
+known h at (Reg n) = slice_index_or h.regs n None
+known h at (Csr addr) = at_position h.csrs.lazy (position (λ a. nat_eq a addr) lazy_csrs)
+known h at (Word addr) = known_word (at addr)
+
+abbrev pub fixed_of : Hart → (ℕ → Seen) → Fixed
+fixed_of h at = record {
+  pc = h.pc;
+  privilege = h.privilege;
+  mstatus = h.csrs.mstatus;
+  medeleg = h.csrs.medeleg;
+  satp = h.csrs.satp;
+  number = h.csrs.hart;
+  ram = λ a. is_there (at a);
+}
+
+abbrev pub looked : List Access → Looked → Answer Access Change
+looked log (Does c) = DoesSo log c
+looked log (LooksMissing place) = Lacks place
+looked log LooksOutside = Nowhere
+
+-- an answer as `step` gives it
+abbrev pub shown : Fixed → Answer Access Change → Stepped
+shown f (DoesSo accesses c) = Did (record_of f accesses c)
+shown f (Lacks place) = Missing place
+shown f Nowhere = Outside
+
+abbrev pub pc_after : Stepped → ℕ → ℕ
+pc_after (Did r) pc = r.next_pc
+pc_after _ pc = pc
+
+abbrev pub regs_after : Stepped → List (Option ℕ) → List (Option ℕ)
+regs_after (Did r) regs = written r.rd regs
+regs_after _ regs = regs

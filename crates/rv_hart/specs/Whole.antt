@@ -1,0 +1,69 @@
+-- The step of a whole hart on a whole memory.
+use Rattle.std.specs.Prelude.{ℕ, ◌+◌, ◌/◌, nat_eq, if◌then◌else◌, List, Option, Some, None}
+use Rattle.rv_script.specs.declared.access.Access.{Access}
+use Rattle.rv_script.specs.declared.place.Place.{Place}
+use Rattle.rv_script.specs.declared.place.Place.TheVariants.{Reg, Csr, Word}
+use Rattle.rv_script.specs.Script.{place_of}
+use Rattle.rv_script.specs.Folds.{Sight, result_of, accesses_of, needs_of}
+use Rattle.rv_hart.specs.declared.record.Change.{Change}
+use Rattle.rv_hart.specs.declared.record.Record.{Record}
+use Rattle.rv_hart.specs.Machine.{Fixed, script}
+
+-- the key of a lazy place of a hart: a register's number, or 0x1000 and a CSR's address
+abbrev pub csr_key : ℕ → ℕ
+csr_key addr = 0x1000 + addr
+
+-- a hart of which all is known: registers and lazy CSRs by their keys
+pub record WholeHart : Type 0 where
+  pub fixed : Fixed
+  pub file : ℕ → ℕ
+
+-- the value of each place; x0 is 0, and a word of memory stands at its number
+abbrev pub value_at : (ℕ → ℕ) → (ℕ → ℕ) → Place → ℕ
+value_at file words (Reg n) = if nat_eq n 0 then 0 else file n
+value_at file words (Csr addr) = file (csr_key addr)
+value_at file words (Word addr) = words (addr / 4)
+
+abbrev pub sight_of : (ℕ → ℕ) → (ℕ → ℕ) → Sight
+sight_of file words q = value_at file words (place_of q)
+
+-- the record of a step
+abbrev pub record_of : Fixed → List Access → Change → Record
+record_of f accesses c = record {
+  pc = f.pc;
+  privilege = f.privilege;
+  word = c.word;
+  outcome = c.outcome;
+  rd = c.rd;
+  accesses = accesses;
+  next_pc = c.next_pc;
+}
+
+-- what a step records, and what it does to its hart; what it does to memory is what its accesses do
+pub record Step : Type 0 where
+  pub did : Record
+  pub change : Change
+
+abbrev pub planned : Fixed → List Access → Option Change → Option Step
+planned f accesses None = None
+planned f accesses (Some c) = Some (record { did = record_of f accesses c; change = c })
+
+-- the step where the words that each question sees are those of a sight
+abbrev pub sighted_step_of : Fixed → Sight → Option Step
+sighted_step_of f see = planned f (accesses_of (script f) see) (result_of (script f) see)
+
+-- one instruction or one trap, or none where the machine has none
+abbrev pub step_of : WholeHart → (ℕ → ℕ) → Option Step
+step_of h words = sighted_step_of h.fixed (sight_of h.file words)
+
+-- the places on which the step rests, in order
+abbrev pub needed_places : WholeHart → (ℕ → ℕ) → List Place
+needed_places h words = needs_of (script h.fixed) (sight_of h.file words)
+
+-- the registers after a write
+abbrev pub file_after : Option (ℕ × ℕ) → (ℕ → ℕ) → ℕ → ℕ
+file_after None file key = file key
+file_after (Some w) file key = if nat_eq w.0 key then w.1 else file key
+
+abbrev pub hart_after : Change → WholeHart → WholeHart
+hart_after c h = record { fixed = record h.fixed { pc = c.next_pc }; file = file_after c.rd h.file }

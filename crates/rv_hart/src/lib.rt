@@ -1,0 +1,18 @@
+//! One step of a hart of which some places may not be known yet. A step is defined by a script of questions;
+//! `step` plays it on what is known, and its contract says what that tells of every whole hart and memory.
+#![tactic(auto)]
+
+mod csrs;
+mod hart;
+mod memory;
+mod record;
+mod stepping;
+#[cfg(test)]
+mod tests;
+
+pub use csrs::{Csrs, Priv};
+pub use hart::Hart;
+pub use memory::{Seen, Words};
+pub use record::{Change, Outcome, Record, Stepped};
+pub use rv_script::{Access, Accesses, Place, Role};
+pub use stepping::step;

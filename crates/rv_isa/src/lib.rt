@@ -1,0 +1,23 @@
+//! The instructions of RV32IM with Zicsr, the returns from traps and SFENCE.VMA: one table of their
+//! encodings, by which an instruction is made a word and a word is read as an instruction, and the
+//! arithmetic of ADDI. The words of all zeros and all ones, which are defined to be illegal
+//! (Unprivileged, 1.5), are a row of the table too.
+#![tactic(auto)]
+
+mod arithmetic;
+mod decoding;
+mod encoding;
+mod instruction;
+mod laws;
+mod operation;
+mod parts;
+mod table;
+#[cfg(test)]
+mod tests;
+
+pub use arithmetic::alu;
+pub use decoding::decode;
+pub use encoding::encode;
+pub use instruction::Instr;
+pub use laws::codec_laws;
+pub use operation::Op;

@@ -1,0 +1,6 @@
+pub mod Lists
+pub mod Bytes
+pub mod Script
+pub mod Folds
+pub mod Laws
+pub mod Memory

@@ -1,0 +1,16 @@
+//! Systems of harts over one memory, and the law that a sound certificate is faithful: whatever the order of the
+//! harts' steps, each hart does what it does alone.
+#![tactic(auto)]
+
+ghost use Rattle.tpl_admit.specs.declared.certificate.Cert.{Cert};
+ghost use Rattle.tpl_admit.specs.Starts.{AgreesWith, first_system};
+ghost use Rattle.tpl_admit.specs.Validity.{IsSound};
+ghost use Rattle.tpl_admit.specs.Faithfulness.{IsFaithful};
+
+/// From every system that agrees with the start of a sound certificate, of any number of harts, under every order of
+/// whole steps in which no hart exceeds its records, each hart's steps are its printed records, and the printed end
+/// holds when all are taken. There is such a system: the one with zero wherever nothing is given.
+pub fn sound_certificates_are_faithful()
+    ensures faithful { (c : Cert) → IsSound c → IsFaithful c }
+    ensures agreed { (c : Cert) → IsSound c → AgreesWith c (first_system c) }
+{}

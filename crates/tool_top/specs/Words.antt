@@ -1,0 +1,16 @@
+-- The words that the program takes.
+use Rattle.std.specs.Prelude.{◌≡◌, ℕ, ◌^◌, ◌<◌, ◌≤◌, List, [], ◌∷◌, length, codes}
+use Rattle.std.specs.Str.Parse.{IsNumeral, digits_value}
+
+-- one to twenty decimal digits of a number below 2 ^ 64
+pub record IsSeed (word : List ℕ) : Type 0 where
+  pub short : length word ≤ 20
+  pub digits : IsNumeral 10 word
+  pub below : digits_value 10 word < 2 ^ 64
+
+-- the words are `gen --seed N` with this seed
+pub record IsGen (words : List (List ℕ)) (seed : ℕ) : Type 0 where
+  pub number : List ℕ
+  pub words_are : words ≡ codes "gen" ∷ codes "--seed" ∷ number ∷ []
+  pub is_seed : IsSeed number
+  pub value : seed ≡ digits_value 10 number

@@ -1,0 +1,87 @@
+// The top call.
+ghost use Rattle.std.specs.Prelude.{◌≡◌, ◌≢◌, ◌≤◌, ℕ, IsTrue};
+ghost use Rattle.streams.specs.Causes.{Rose};
+ghost use Rattle.streams.specs.Source.{TakesAtMost};
+ghost use Rattle.streams.specs.Sink.{HasRoom, Tells};
+ghost use Rattle.tool_top.specs.Words.{IsGen};
+ghost use Rattle.tool_top.specs.Promise.{IsDone, IsCutShort, IsNoTemplate, IsAllRead, IsComplete, is_status, told_line};
+
+use crate::making::report_for;
+use crate::words::ArgList;
+use std::alloc::Global;
+use streams::{ReadStop, Sink, Source, read_up_to, write_whole};
+use tpl_parse::ParseError;
+
+/// One byte more than a template may have.
+const LONGEST: usize = 65_537;
+
+const USAGE: &[u8] =
+    b"usage: testgen gen --seed N [--nodes N] [--turns N] | replay | exec --order N | show | demo N\n";
+
+/// Does what the words ask for, and answers the status:
+///
+/// - 0: the report of the template that the source had left was written to `out`;
+/// - 2: the words are not `gen --seed N`; the usage line was written to `report`;
+/// - 3: what the source had left is no template; a line that says so was written to `report`;
+/// - 6: a read failed; a line that says so was written to `report`;
+/// - 7: a write to `out` failed;
+/// - 8: memory ran out.
+pub fn run<S: Source, K: Sink, R: Sink>(
+    alloc: Global,
+    words: &ArgList,
+    source: &mut S,
+    out: &mut K,
+    report: &mut R,
+) -> u8
+    requires out_room { HasRoom (K.room out.old) 16777216 }
+    requires report_room { HasRoom (R.room report.old) 16777216 }
+
+    // Which statuses there are, and what each one says.
+    ensures status { IsTrue (is_status result) }
+    ensures done { result ≡ 0 → IsDone (S.left source.old) (K.held out.old) (K.held out.new) }
+    ensures usage { result ≡ 2 → (n : ℕ) → IsGen words.now n → ⊥ }
+    ensures words { result ≢ 2 → (n : ℕ) × IsGen words.now n }
+    ensures template { result ≡ 3 → IsNoTemplate (S.left source.old) }
+    ensures read { result ≡ 6 → Rose (S.faults source.old) (S.faults source.new) }
+    ensures write { result ≡ 7 → Rose (K.faults out.old) (K.faults out.new) }
+    ensures prefix { result ≡ 7 → IsCutShort (S.left source.old) (K.held out.old) (K.held out.new) }
+
+    // A valid command on a valid input is done, or memory ran out, where no count of faults rose.
+    ensures complete { IsComplete words.now (S.left source.old) (S.faults source.old) (S.faults source.new) (K.faults out.old) (K.faults out.new) result }
+
+    // What is read and written beside that.
+    ensures taken { TakesAtMost (S.left source.old) (S.left source.new) (S.reads source.old) (S.reads source.new) 65537 }
+    ensures input { IsAllRead (S.left source.old) (S.left source.new) result }
+    ensures unread { result ≡ 2 → source.new ≡ source.old }
+    ensures out { result ≢ 0 → result ≢ 7 → out.new ≡ out.old }
+    ensures silent { result ≢ 2 → result ≢ 3 → result ≢ 6 → report.new ≡ report.old }
+    ensures told { Tells (R.held report.old) (R.held report.new) (told_line result) (R.faults report.old) (R.faults report.new) }
+    ensures source_later { S.faults source.old ≤ S.faults source.new }
+    ensures out_later { K.faults out.old ≤ K.faults out.new }
+    ensures report_later { R.faults report.old ≤ R.faults report.new }
+{
+    let Some(_seed) = words.seed() else {
+        let _ = write_whole(report, USAGE);
+        return 2;
+    };
+    let text = match read_up_to(alloc, source, LONGEST) {
+        Ok(text) => text,
+        Err(ReadStop::OutOfMemory) => return 8,
+        Err(ReadStop::Fault) => {
+            let _ = write_whole(report, b"read fault\n");
+            return 6;
+        }
+    };
+    let made = match report_for(alloc, &text) {
+        Ok(made) => made,
+        Err(ParseError::Fault(_)) => {
+            let _ = write_whole(report, b"template line 0: not built\n");
+            return 3;
+        }
+        Err(ParseError::OutOfMemory) => return 8,
+    };
+    match write_whole(out, made.as_bytes()) {
+        Ok(()) => 0,
+        Err(_) => 7,
+    }
+}

@@ -1,0 +1,280 @@
+ghost use Rattle.std.specs.Prelude.{◌≤◌};
+ghost use Rattle.streams.specs.Sink.{HasRoom};
+
+use crate::command::run;
+use crate::words::ArgList;
+use std::alloc::{AllocError, Global};
+use std::test::Fail;
+use streams::{MemSink, MemSource, ReadSource, Sink, Source, SureSink, SureSource, WriteSink};
+
+const ROOM: usize = 16_777_216;
+
+const GEN: [&str; 3] = ["gen", "--seed", "1"];
+
+const ONE_LEAF: &str = "ram 0x80000000 0x80001000
+pool 0x80000000
+hart 0 {
+start pc 0x80000000 priv m
+body {
+do op in {addi}; rd in {5}; rs1 in {0}; imm in {7}
+}
+}
+";
+
+const ONE_LEAF_REPORT: &str = "harts 1
+hart 0 pc 80000000 priv m mstatus 00000000 medeleg 00000000 satp 00000000
+step 0 0 pc 80000000 m 00700293 retire x5=00000007 fetch@80000000:4=00700293 next 80000004
+end 0 pc 80000004 priv m mstatus 00000000 medeleg 00000000 satp 00000000
+final 0 x5 00000007
+word 80000000 00700293 00700293
+";
+
+const NO_LEAF: &str = "ram 0x80000000 0x80001000
+pool 0x80000000
+hart 0 {
+start pc 0x80000000 priv m
+body {
+}
+}
+";
+
+const NO_LEAF_REPORT: &str = "harts 1
+hart 0 pc 80000000 priv m mstatus 00000000 medeleg 00000000 satp 00000000
+end 0 pc 80000000 priv m mstatus 00000000 medeleg 00000000 satp 00000000
+";
+
+const THREE_LEAVES: &str = "ram 0x1000 8192
+pool 4096
+hart 0 {
+start pc 0x1ff4 priv m
+body {
+do op in {addi}; rd in {1}; rs1 in {0}; imm in {-1}
+do op in {addi}; rd in {0}; rs1 in {1}; imm in {5}
+do op in {addi}; rd in {31}; rs1 in {1}; imm in {2047}
+}
+}
+";
+
+// The words are those of `addi x1,x0,-1`, `addi x0,x1,5` and `addi x31,x1,2047`.
+const THREE_LEAVES_REPORT: &str = "harts 1
+hart 0 pc 00001ff4 priv m mstatus 00000000 medeleg 00000000 satp 00000000
+step 0 0 pc 00001ff4 m fff00093 retire x1=ffffffff fetch@00001ff4:4=fff00093 next 00001ff8
+step 0 1 pc 00001ff8 m 00508013 retire fetch@00001ff8:4=00508013 next 00001ffc
+step 0 2 pc 00001ffc m 7ff08f93 retire x31=000007fe fetch@00001ffc:4=7ff08f93 next 00002000
+end 0 pc 00002000 priv m mstatus 00000000 medeleg 00000000 satp 00000000
+final 0 x1 ffffffff
+final 0 x31 000007fe
+word 00001ff4 fff00093 fff00093
+word 00001ff8 00508013 00508013
+word 00001ffc 7ff08f93 7ff08f93
+";
+
+const NOT_BUILT: &str = "template line 0: not built\n";
+
+const USAGE: &str =
+    "usage: testgen gen --seed N [--nodes N] [--turns N] | replay | exec --order N | show | demo N\n";
+
+/// Runs the program on these words.
+fn status_of<S: Source, K: Sink, R: Sink>(
+    alloc: Global,
+    words: &[&str],
+    source: &mut S,
+    out: &mut K,
+    report: &mut R,
+) -> Result<u8, AllocError>
+    requires out_room { HasRoom (K.room out.old) 16777216 }
+    requires report_room { HasRoom (R.room report.old) 16777216 }
+{
+    let mut list = ArgList::new(alloc);
+    for word in words {
+        list.push(alloc, word)?;
+    }
+    Ok(run(alloc, &list, source, out, report))
+}
+
+#[test]
+fn templates_give_their_reports(rt: HostRuntime) -> Result<(), Fail> {
+    let alloc = rt.alloc();
+    for (text, expected) in [
+        (ONE_LEAF, ONE_LEAF_REPORT),
+        (NO_LEAF, NO_LEAF_REPORT),
+        (THREE_LEAVES, THREE_LEAVES_REPORT),
+    ] {
+        let mut source = SureSource::new(text.as_bytes().to_vec(alloc)?);
+        let mut out = SureSink::with_room(alloc, ROOM)?;
+        let mut report = SureSink::with_room(alloc, ROOM)?;
+        let status = status_of(alloc, &GEN, &mut source, &mut out, &mut report)?;
+        assert_eq!(rt; status, 0);
+        assert_eq!(rt; out.bytes(), expected.as_bytes());
+        assert_eq!(rt; report.bytes().len(), 0);
+    }
+    Ok(())
+}
+
+#[test]
+fn every_chunk_size_gives_the_same(rt: HostRuntime) -> Result<(), Fail> {
+    let alloc = rt.alloc();
+    for chunk in [1usize, 7, 4096] {
+        assert!(rt; chunk > 0);
+        let text = ONE_LEAF.as_bytes().to_vec(alloc)?;
+        let mut source = MemSource::new(text, chunk, Vec::new(alloc));
+        let mut out = MemSink::with_room(alloc, ROOM, chunk, Vec::new(alloc))?;
+        let mut report = MemSink::with_room(alloc, ROOM, chunk, Vec::new(alloc))?;
+        let status = status_of(alloc, &GEN, &mut source, &mut out, &mut report)?;
+        assert_eq!(rt; status, 0);
+        assert_eq!(rt; out.bytes(), ONE_LEAF_REPORT.as_bytes());
+        assert_eq!(rt; report.bytes().len(), 0);
+    }
+    Ok(())
+}
+
+#[test]
+fn readers_and_writers_give_the_same(rt: HostRuntime) -> Result<(), Fail> {
+    let alloc = rt.alloc();
+    let mut source = ReadSource::new(ONE_LEAF.as_bytes());
+    let mut written = Vec::new(alloc);
+    let mut told = Vec::new(alloc);
+    let mut out = WriteSink::new(&mut written);
+    let mut report = WriteSink::new(&mut told);
+    let status = status_of(alloc, &GEN, &mut source, &mut out, &mut report)?;
+    assert_eq!(rt; status, 0);
+    assert_eq!(rt; written.as_slice(), ONE_LEAF_REPORT.as_bytes());
+    assert_eq!(rt; told.len(), 0);
+    Ok(())
+}
+
+#[test]
+fn what_is_no_template_is_told(rt: HostRuntime) -> Result<(), Fail> {
+    let alloc = rt.alloc();
+    let mut subtracts = String::new(alloc);
+    let Some((before, after)) = ONE_LEAF.split_once("addi") else {
+        return Ok(());
+    };
+    subtracts.push_str(before)?;
+    subtracts.push_str("sub")?;
+    subtracts.push_str(after)?;
+    for text in [
+        subtracts.as_bytes().to_vec(alloc)?,
+        vec![in alloc; b' '; 65_537]?,
+        vec![in alloc; 0xFF; 1000]?,
+        Vec::new(alloc),
+    ] {
+        let mut source = SureSource::new(text);
+        let mut out = SureSink::with_room(alloc, ROOM)?;
+        let mut report = SureSink::with_room(alloc, ROOM)?;
+        let status = status_of(alloc, &GEN, &mut source, &mut out, &mut report)?;
+        assert_eq!(rt; status, 3);
+        assert_eq!(rt; out.bytes().len(), 0);
+        assert_eq!(rt; report.bytes(), NOT_BUILT.as_bytes());
+    }
+    Ok(())
+}
+
+#[test]
+fn other_words_are_told_the_usage(rt: HostRuntime) -> Result<(), Fail> {
+    let alloc = rt.alloc();
+    for words in [
+        &[][..],
+        &["gen"],
+        &["gen", "--seed"],
+        &["gen", "--seed", "x"],
+        &["gen", "--seed", ""],
+        &["gen", "--seed", "+1"],
+        &["gen", "--seed", "18446744073709551616"],
+        &["gen", "--seed", "000000000000000000001"],
+        &["gen", "--seed", "1", "2"],
+        &["replay"],
+    ] {
+        let mut source = SureSource::new(ONE_LEAF.as_bytes().to_vec(alloc)?);
+        let mut out = SureSink::with_room(alloc, ROOM)?;
+        let mut report = SureSink::with_room(alloc, ROOM)?;
+        let status = status_of(alloc, words, &mut source, &mut out, &mut report)?;
+        assert_eq!(rt; status, 2);
+        assert_eq!(rt; out.bytes().len(), 0);
+        assert_eq!(rt; report.bytes(), USAGE.as_bytes());
+    }
+    Ok(())
+}
+
+#[test]
+fn every_seed_is_read(rt: HostRuntime) -> Result<(), Fail> {
+    let alloc = rt.alloc();
+    for seed in ["0", "18446744073709551615", "00000000000000000001"] {
+        let mut source = SureSource::new(NO_LEAF.as_bytes().to_vec(alloc)?);
+        let mut out = SureSink::with_room(alloc, ROOM)?;
+        let mut report = SureSink::with_room(alloc, ROOM)?;
+        let words = ["gen", "--seed", seed];
+        let status = status_of(alloc, &words, &mut source, &mut out, &mut report)?;
+        assert_eq!(rt; status, 0);
+    }
+    Ok(())
+}
+
+#[test]
+fn a_failing_read_is_told(rt: HostRuntime) -> Result<(), Fail> {
+    let alloc = rt.alloc();
+    // The text of 140 bytes is read by calls of 100, 40 and 0 bytes.
+    for call in [1u64, 2, 3] {
+        let text = ONE_LEAF.as_bytes().to_vec(alloc)?;
+        let mut source = MemSource::new(text, 100, vec![in alloc; call]?);
+        let mut out = SureSink::with_room(alloc, ROOM)?;
+        let mut report = SureSink::with_room(alloc, ROOM)?;
+        let status = status_of(alloc, &GEN, &mut source, &mut out, &mut report)?;
+        assert_eq!(rt; status, 6);
+        assert_eq!(rt; out.bytes().len(), 0);
+        assert_eq!(rt; report.bytes(), b"read fault\n".as_slice());
+    }
+    Ok(())
+}
+
+#[test]
+fn a_failing_write_leaves_a_front_of_the_report(rt: HostRuntime) -> Result<(), Fail> {
+    let alloc = rt.alloc();
+    // The report of 298 bytes is written by calls of 100, 100 and 98 bytes.
+    for (call, kept) in [(1u64, 0), (2, 100), (3, 200)] {
+        let mut source = SureSource::new(ONE_LEAF.as_bytes().to_vec(alloc)?);
+        let mut out = MemSink::with_room(alloc, ROOM, 100, vec![in alloc; call]?)?;
+        let mut report = SureSink::with_room(alloc, ROOM)?;
+        let status = status_of(alloc, &GEN, &mut source, &mut out, &mut report)?;
+        assert_eq!(rt; status, 7);
+        assert_eq!(rt; out.bytes().len(), kept);
+        assert!(rt; ONE_LEAF_REPORT.as_bytes().starts_with(out.bytes()));
+        assert_eq!(rt; report.bytes().len(), 0);
+    }
+    Ok(())
+}
+
+#[test]
+fn a_failing_line_keeps_its_status(rt: HostRuntime) -> Result<(), Fail> {
+    let alloc = rt.alloc();
+    let mut source = SureSource::new(ONE_LEAF.as_bytes().to_vec(alloc)?);
+    let mut out = SureSink::with_room(alloc, ROOM)?;
+    let mut report = MemSink::with_room(alloc, ROOM, 10, vec![in alloc; 2u64]?)?;
+    let status = status_of(alloc, &["gen"], &mut source, &mut out, &mut report)?;
+    assert_eq!(rt; status, 2);
+    assert_eq!(rt; report.bytes(), b"usage: tes".as_slice());
+    Ok(())
+}
+
+#[test]
+fn a_frame_is_filled_by_1024_leaves(rt: HostRuntime) -> Result<(), Fail> {
+    let alloc = rt.alloc();
+    let mut text = String::from_str(
+        alloc,
+        "ram 0 4096\npool 0\nhart 0 {\nstart pc 0 priv m\nbody {\n",
+    )?;
+    for _ in 0..512 {
+        text.push_str("do op in {addi}; rd in {7}; rs1 in {0}; imm in {1}\n")?;
+        text.push_str("do op in {addi}; rd in {8}; rs1 in {7}; imm in {-2048}\n")?;
+    }
+    text.push_str("}\n}\n")?;
+    let mut source = SureSource::new(text.as_bytes().to_vec(alloc)?);
+    let mut out = SureSink::with_room(alloc, ROOM)?;
+    let mut report = SureSink::with_room(alloc, ROOM)?;
+    let status = status_of(alloc, &GEN, &mut source, &mut out, &mut report)?;
+    assert_eq!(rt; status, 0);
+    // Beside the lines of the harts, the start, the end and two registers: a step and a word for each leaf.
+    let lines = out.bytes().iter().filter(|b| **b == b'\n').count();
+    assert_eq!(rt; lines, 5 + 2 * 1024);
+    Ok(())
+}

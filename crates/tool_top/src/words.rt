@@ -1,0 +1,65 @@
+// The words of the command line.
+ghost use Rattle.std.specs.Prelude.{◌≡◌, ℕ, Some, [], ◌∷◌, ◌++◌, OnOk, OnErr, IfSome, SomeIff};
+ghost use Rattle.std.specs.Str.Parse.{digits_value};
+ghost use Rattle.tool_top.specs.Words.{IsSeed, IsGen};
+
+use std::alloc::{AllocError, Global};
+use std::marker::Model;
+
+/// The words after the program's name, which a contract sees as the list of their bytes.
+#[derive(Drop)]
+pub struct ArgList {
+    texts: Vec<String>,
+}
+
+impl Model for ArgList {
+    ghost use Rattle.std.specs.Prelude.{List, ℕ, map, string_bytes};
+
+    ghost Value = { List (List ℕ) };
+
+    ghost view = { λ a. map (λ s. string_bytes s) a.texts.items };
+}
+
+impl ArgList {
+    /// No words.
+    pub fn new(alloc: Global) -> Self
+        ensures { result ≡ [] }
+    {
+        ArgList {
+            texts: Vec::new(alloc),
+        }
+    }
+
+    /// Puts a word at the end. Without memory for it the list stays as it is.
+    pub fn push(&mut self, alloc: Global, word: &str) -> Result<(), AllocError>
+        ensures ok { OnOk result (self.new ≡ self.old ++ word.now ∷ []) }
+        ensures err { OnErr result (self.new ≡ self.old) }
+    {
+        let text = String::from_str(alloc, word)?;
+        self.texts.push(text)?;
+        Ok(())
+    }
+
+    /// The seed, where the words are those of `gen`.
+    pub fn seed(&self) -> Option<u64>
+        ensures found { IfSome result (λ n. IsGen self.now n) }
+        ensures only { (n : ℕ) → IsGen self.now n → result ≡ Some n }
+    {
+        match self.texts.as_slice() {
+            [name, option, number] if name.as_str() == "gen" && option.as_str() == "--seed" => {
+                seed_of(number.as_str())
+            }
+            _ => None,
+        }
+    }
+}
+
+/// A number of at most twenty digits.
+fn seed_of(word: &str) -> Option<u64>
+    ensures { SomeIff result (IsSeed word.now) (digits_value 10 word.now) }
+{
+    if word.len() > 20 || word.as_bytes().first() == Some(&b'+') {
+        return None;
+    }
+    word.parse::<u64>().ok()
+}

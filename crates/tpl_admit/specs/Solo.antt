@@ -1,0 +1,60 @@
+-- One hart alone, from the start with zero elsewhere.
+use Rattle.std.specs.Prelude.{◌≡◌, ℕ, zero, suc, ◌/◌, Bool, true, nat_eq, ◌||◌, List, [], ◌∷◌, length, Option, Some, None}
+use Rattle.std.specs.Option.{is_some}
+use Rattle.rv_script.specs.declared.place.Place.{Place}
+use Rattle.rv_script.specs.declared.place.Place.TheVariants.{Reg, Csr, Word}
+use Rattle.rv_script.specs.Lists.{HasItem}
+use Rattle.rv_script.specs.Memory.{memory_after}
+use Rattle.rv_hart.specs.Whole.{WholeHart, Step, step_of, needed_places, hart_after, csr_key}
+use Rattle.tpl_admit.specs.declared.certificate.Cert.{Cert}
+use Rattle.tpl_admit.specs.Starts.{start_of, trace_of, word_of, first_hart, first_memory, is_given}
+
+-- one step, and the state before it
+pub record Moment : Type 0 where
+  pub hart : WholeHart
+  pub memory : ℕ → ℕ
+  pub step : Step
+
+pub record Solo : Type 0 where
+  pub moments : List Moment
+  pub hart : WholeHart
+
+abbrev pub solo_on : Option Step → WholeHart → (ℕ → ℕ) → (WholeHart → (ℕ → ℕ) → Solo) → Solo
+solo_on None h words rest = record { moments = []; hart = h }
+solo_on (Some s) h words rest =
+    let r = rest (hart_after s.change h) (memory_after s.did.accesses words) in
+    record { moments = record { hart = h; memory = words; step = s } ∷ r.moments; hart = r.hart }
+
+-- so many steps of one hart, or as many as it has
+abbrev pub solo : ℕ → WholeHart → (ℕ → ℕ) → Solo
+solo zero h words = record { moments = []; hart = h }
+solo (suc n) h words = solo_on (step_of h words) h words (λ h' words'. solo n h' words')
+
+-- as many steps of hart k as it has records
+abbrev pub solo_run : Cert → ℕ → Solo
+solo_run c k = solo (length (trace_of c k)) (first_hart c k) (first_memory c)
+
+-- a place has a value that was given or written; x0 always has
+abbrev pub is_set : (ℕ → Bool) → (ℕ → Option ℕ) → Place → Bool
+is_set knows words (Reg n) = nat_eq n 0 || knows n
+is_set knows words (Csr addr) = knows (csr_key addr)
+is_set knows words (Word addr) = is_some (words (addr / 4))
+
+-- the keys that are known after a write
+abbrev pub knows_also : Option (ℕ × ℕ) → (ℕ → Bool) → ℕ → Bool
+knows_also None knows key = knows key
+knows_also (Some w) knows key = nat_eq w.0 key || knows key
+
+-- each step rests on what was given or written before it
+abbrev pub AreInitialised : (ℕ → Option ℕ) → (ℕ → Bool) → List Moment → Type 0
+AreInitialised words knows [] = Unit {0}
+AreInitialised words knows (x ∷ xs) =
+    ((place : Place) → HasItem (needed_places x.hart x.memory) place → is_set knows words place ≡ true) × AreInitialised words (knows_also x.step.change.rd knows) xs
+
+abbrev pub IsInitialised : Cert → ℕ → Type 0
+IsInitialised c k = AreInitialised (word_of c) (is_given (start_of c k)) (solo_run c k).moments
+
+-- the keys that are known in the end
+abbrev pub knows_after : (ℕ → Bool) → List Moment → ℕ → Bool
+knows_after knows [] = knows
+knows_after knows (x ∷ xs) = knows_after (knows_also x.step.change.rd knows) xs

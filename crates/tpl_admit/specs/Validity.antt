@@ -1,0 +1,39 @@
+-- A valid certificate.
+use Rattle.std.specs.Prelude.{◌≡◌, ℕ, zero, suc, ◌/◌, ◌<◌, if◌then◌else◌, List, length, map, Some, None}
+use Rattle.rv_script.specs.declared.access.Access.{Access}
+use Rattle.rv_script.specs.Memory.{memory_after}
+use Rattle.tpl_admit.specs.declared.certificate.Cert.{Cert}
+use Rattle.tpl_admit.specs.Starts.{found, ArePlaces, AreStartWords, start_of, final_of, trace_of, fixed_in, first_memory, is_given}
+use Rattle.tpl_admit.specs.Races.{footprint_of, IsRaceFree}
+use Rattle.tpl_admit.specs.Solo.{solo_run, IsInitialised, knows_after}
+use Rattle.tpl_admit.specs.Admission.{Admits}
+
+-- memory after what n harts did, hart by hart in ascending order
+abbrev pub in_turn : ℕ → (ℕ → List Access) → (ℕ → ℕ) → ℕ → ℕ
+in_turn zero did words = words
+in_turn (suc n) did words = memory_after (did n) (in_turn n did words)
+
+-- hart k alone does what is printed, rests on what was given or written, and ends as is printed
+pub record IsHartValid (c : Cert) (k : ℕ) : Type 0 where
+  pub records : map (λ x. x.step.did) (solo_run c k).moments ≡ trace_of c k
+  pub initialised : IsInitialised c k
+  pub final_fixed : fixed_in c.template.ram k (final_of c k) ≡ (solo_run c k).hart.fixed
+  -- every place that was given or written, and no other
+  pub final_places : (key : ℕ) → found (final_of c k).places key ≡ (if knows_after (is_given (start_of c k)) (solo_run c k).moments key then Some ((solo_run c k).hart.file key) else None)
+
+-- all that a certificate says of its harts is so, whatever template it was made from
+pub record IsSound (c : Cert) : Type 0 where
+  pub traces : length c.traces ≡ length c.start
+  pub finals : length c.finals ≡ length c.start
+  pub start_places : (k : ℕ) → ArePlaces 0 (start_of c k).places
+  pub final_places : (k : ℕ) → ArePlaces 0 (final_of c k).places
+  pub words : AreStartWords c.template.ram 0 c.words
+  pub harts : (k : ℕ) → k < length c.start → IsHartValid c k
+  pub race_free : IsRaceFree (trace_of c)
+  -- the given words with all stores applied
+  pub last : map (λ w. in_turn (length c.start) (λ k. footprint_of (trace_of c k)) (first_memory c) (w.0 / 4)) c.words ≡ c.last
+
+-- that, and the template admits the trace
+pub record IsValid (c : Cert) : Type 0 where
+  pub sound : IsSound c
+  pub admits : Admits c

@@ -1,0 +1,190 @@
+-- How long numbers, names and lines are.
+use Rattle.std.proofs.Common.{◌≡◌, ℕ, zero, suc, ◌+◌, ◌-◌, ◌*◌, ◌/◌, ◌%◌, ◌^◌, ◌≤◌, inl, inr, Bool, false, true, if◌then◌else◌, nat_eq, nat_lt, Option, None, Some, List, [], ◌∷◌, ◌++◌, length, drop, ap, arith, length-append, codes}
+use Rattle.std.proofs.Math.ListN.{get_or}
+use Rattle.std.proofs.lemmas.Bool.{cases_eq}
+use Rattle.std.proofs.lemmas.List.{length-replicate}
+use Rattle.std.proofs.lemmas.Slice.Zip.{length-zip}
+use Rattle.std.proofs.lemmas.Bool.Decides.{nat_tests}
+use Rattle.std.specs.List.{flat_map, enumerate_from, zip}
+use Rattle.std.specs.Fmt.{digits_onto, digit_glyph, digits, decimal, padded_integral, char_count, format_spec}
+use Rattle.rv_script.specs.declared.access.Access.{Access}
+use Rattle.rv_script.specs.declared.access.Role.{Role}
+use Rattle.rv_script.specs.declared.access.Role.TheVariants.{Fetch, Walk, Load, Store}
+use Rattle.rv_hart.specs.declared.csrs.Priv.{Priv}
+use Rattle.rv_hart.specs.declared.csrs.Priv.TheVariants.{U, S, M}
+use Rattle.rv_hart.specs.declared.record.Outcome.{Outcome}
+use Rattle.rv_hart.specs.declared.record.Outcome.TheVariants.{Retired, Trap}
+use Rattle.rv_hart.specs.declared.record.Record.{Record}
+use Rattle.tpl_admit.specs.declared.certificate.Cert.{Cert}
+use Rattle.tpl_admit.specs.declared.certificate.HartState.{HartState}
+use Rattle.tpl_admit.specs.Sizes.{states_size, trace_size, traces_size, certificate_size}
+use Rattle.tpl_admit.specs.Starts.{trace_of, final_of, no_state}
+use Rattle.trace_text.specs.Numbers.{hex8, letter, role_name, csr_name, place_name}
+use Rattle.trace_text.specs.Steps.{access_text, accesses_text, outcome_text, rd_text, step_head, fetched_text, step_end, step_line, steps_text}
+use Rattle.trace_text.specs.Report.{state_head, state_csrs, state_line, place_line, places_text, hart_text, harts_text, word_line, words_text, harts_line, report_text}
+use Rattle.trace_text.proofs.Parts.{hart_of}
+
+onto_short : (k base n : ℕ) (acc : List ℕ) → length (digits_onto k base false n acc) ≤ k + length acc
+onto_short zero base n acc = omega arith
+onto_short (suc k) base n acc =
+    let more : length (digits_onto k base false (n / base) (digit_glyph false (n % base) ∷ acc)) ≤ k + suc (length acc) = onto_short k base (n / base) (digit_glyph false (n % base) ∷ acc) in
+    elim (cases_eq (n / base) 0) [
+      | inl none ↦ let step : digits_onto (suc k) base false n acc ≡ digit_glyph false (n % base) ∷ acc = grind (arith, nat_tests) in omega (arith, ap length step)
+      | inr some ↦ let step : digits_onto (suc k) base false n acc ≡ digits_onto k base false (n / base) (digit_glyph false (n % base) ∷ acc) = grind (arith, nat_tests) in omega (arith, ap length step, more)
+    ]
+
+pub digits_short : (base n : ℕ) → length (digits base false n) ≤ 64
+unfolding digits
+digits_short base n = omega (arith, onto_short 64 base n [])
+
+padded_short : (ds : List ℕ) → length ds ≤ 64 → length (padded_integral (format_spec 32 0 4 8 (2 ^ 64 - 1)) false [] ds) ≤ 64
+unfolding padded_integral char_count
+padded_short ds short = simp (length-append, length-replicate) (omega arith)
+
+pub hex_short : (n : ℕ) → length (hex8 n) ≤ 64
+hex_short n = padded_short (digits 16 false n) (digits_short 16 n)
+
+pub decimal_short : (n : ℕ) → length (decimal n) ≤ 64
+decimal_short n = digits_short 10 n
+
+pub step_end_short : (pc : ℕ) → length (step_end pc) ≤ 128
+unfolding step_end
+step_end_short pc = simp length-append (omega (arith, hex_short pc))
+
+pub step_head_short : (hart step pc : ℕ) → length (step_head hart step pc) ≤ 256
+unfolding step_head
+step_head_short hart step pc = simp length-append (omega (arith, decimal_short hart, decimal_short step, hex_short pc))
+
+letter_short : (p : Priv) → length (letter p) ≤ 1
+letter_short U = omega arith
+letter_short S = omega arith
+letter_short M = omega arith
+
+role_short : (r : Role) → length (role_name r) ≤ 5
+role_short Fetch = omega arith
+role_short Walk = omega arith
+role_short Load = omega arith
+role_short Store = omega arith
+
+either_short : (b : Bool) (x y : List ℕ) → length x ≤ 8 → length y ≤ 8 → length (if b then x else y) ≤ 8
+either_short true x y hx hy = hx
+either_short false x y hx hy = hy
+
+csr_short : (key : ℕ) → length (csr_name key) ≤ 8
+csr_short key = either_short (nat_eq key 0x1105) _ _ (omega arith) (either_short (nat_eq key 0x1140) _ _ (omega arith) (either_short (nat_eq key 0x1141) _ _ (omega arith) (either_short (nat_eq key 0x1142) _ _ (omega arith) (either_short (nat_eq key 0x1143) _ _ (omega arith) (either_short (nat_eq key 0x1305) _ _ (omega arith) (either_short (nat_eq key 0x1340) _ _ (omega arith) (either_short (nat_eq key 0x1341) _ _ (omega arith) (either_short (nat_eq key 0x1342) _ _ (omega arith) (omega arith)))))))))
+
+register_short : (key : ℕ) → length (codes "x" ++ decimal key) ≤ 65
+register_short key = simp length-append (omega (arith, decimal_short key))
+
+split_short : (b : Bool) (x y : List ℕ) → length x ≤ 65 → length y ≤ 8 → length (if b then x else y) ≤ 65
+split_short true x y hx hy = hx
+split_short false x y hx hy = omega (arith, hy)
+
+place_name_short : (key : ℕ) → length (place_name key) ≤ 65
+unfolding place_name
+place_name_short key = split_short (nat_lt key 32) (codes "x" ++ decimal key) (csr_name key) (register_short key) (csr_short key)
+
+access_short : (a : Access) → length (access_text a) ≤ 256
+unfolding access_text
+access_short a = simp length-append (omega (arith, role_short a.role, hex_short a.addr, decimal_short a.size, hex_short a.value))
+
+outcome_short : (o : Outcome) → length (outcome_text o) ≤ 140
+unfolding outcome_text
+outcome_short Retired = omega arith
+outcome_short (Trap cause value to) = simp length-append (omega (arith, decimal_short cause, hex_short value, letter_short to))
+
+rd_short : (rd : Option (ℕ × ℕ)) → length (rd_text rd) ≤ 140
+unfolding rd_text
+rd_short None = omega arith
+rd_short (Some (n, value)) = simp length-append (omega (arith, decimal_short n, hex_short value))
+
+fetched_short : (p : Priv) (word : ℕ) → length (fetched_text p word) ≤ 128
+unfolding fetched_text
+fetched_short p word = simp length-append (omega (arith, letter_short p, hex_short word))
+
+-- lines of at most 256 bytes each
+lines_short : {X : Type 0} (f : X → List ℕ) (xs : List X) → ((x : X) → length (f x) ≤ 256) → length (flat_map f xs) ≤ 256 * length xs
+lines_short f [] each = omega arith
+lines_short f (x ∷ xs) each = simp length-append (omega (arith, each x, lines_short f xs each))
+
+accesses_short : (accesses : List Access) → length (accesses_text accesses) ≤ 256 * length accesses
+unfolding accesses_text
+accesses_short accesses = lines_short access_text accesses access_short
+
+step_short : (hart step : ℕ) (r : Record) → length (step_line hart step r) ≤ 1024 + 256 * length r.accesses
+unfolding step_line
+step_short hart step r = simp length-append (omega (arith, step_head_short hart step r.pc, fetched_short r.privilege r.word, outcome_short r.outcome, rd_short r.rd, accesses_short r.accesses, step_end_short r.next_pc))
+
+steps_from_short : (hart n : ℕ) (records : List Record) → length (flat_map (λ (p : ℕ × Record). step_line hart p.0 p.1) (enumerate_from n records)) ≤ 1024 * trace_size records
+steps_from_short hart n [] = omega arith
+steps_from_short hart n (r ∷ rs) = simp length-append (omega (arith, step_short hart n r, steps_from_short hart (n + 1) rs))
+
+steps_short : (hart : ℕ) (records : List Record) → length (steps_text hart records) ≤ 1024 * trace_size records
+unfolding steps_text
+steps_short hart records = steps_from_short hart 0 records
+
+state_head_short : (word : List ℕ) (k : ℕ) (s : HartState) → length word ≤ 8 → length (state_head word k s) ≤ 256
+unfolding state_head
+state_head_short word k s short = simp length-append (omega (arith, short, decimal_short k, hex_short s.pc, letter_short s.privilege))
+
+state_csrs_short : (s : HartState) → length (state_csrs s) ≤ 256
+unfolding state_csrs
+state_csrs_short s = simp length-append (omega (arith, hex_short s.mstatus, hex_short s.medeleg, hex_short s.satp))
+
+state_short : (word : List ℕ) (k : ℕ) (s : HartState) → length word ≤ 8 → length (state_line word k s) ≤ 512
+unfolding state_line
+state_short word k s short = simp length-append (omega (arith, state_head_short word k s short, state_csrs_short s))
+
+place_short : (word : List ℕ) (k : ℕ) → length word ≤ 8 → (place : ℕ × ℕ) → length (place_line word k place) ≤ 256
+unfolding place_line
+place_short word k short place = simp length-append (omega (arith, short, decimal_short k, place_name_short place.0, hex_short place.1))
+
+places_short : (word : List ℕ) (k : ℕ) → length word ≤ 8 → (places : List (ℕ × ℕ)) → length (places_text word k places) ≤ 256 * length places
+unfolding places_text
+places_short word k short places = lines_short (place_line word k) places (place_short word k short)
+
+hart_short : (k : ℕ) (start : HartState) (records : List Record) (end : HartState) → length (hart_text k start records end) ≤ 1024 + 256 * length start.places + 1024 * trace_size records + 256 * length end.places
+unfolding hart_text
+hart_short k start records end = simp length-append (omega (arith, state_short (codes "hart") k start (omega arith), places_short (codes "start") k (omega arith) start.places, steps_short k records, state_short (codes "end") k end (omega arith), places_short (codes "final") k (omega arith) end.places))
+
+-- what stands at n counts with what stands after it
+trace_counted : (traces : List (List Record)) (n : ℕ) → trace_size (get_or traces n []) + traces_size (drop (suc n) traces) ≤ traces_size (drop n traces)
+trace_counted [] zero = omega arith
+trace_counted [] (suc n) = omega arith
+trace_counted (t ∷ ts) zero = omega arith
+trace_counted (t ∷ ts) (suc n) = trace_counted ts n
+
+final_counted : (finals : List HartState) (n : ℕ) → length (get_or finals n no_state).places + states_size (drop (suc n) finals) ≤ states_size (drop n finals)
+final_counted [] zero = omega arith
+final_counted [] (suc n) = omega arith
+final_counted (s ∷ ss) zero = omega arith
+final_counted (s ∷ ss) (suc n) = final_counted ss n
+
+harts_from_short : (c : Cert) (n : ℕ) (ss : List HartState) → length (flat_map (hart_of c) (enumerate_from n ss)) ≤ 1024 * (states_size ss + traces_size (drop n c.traces) + states_size (drop n c.finals))
+harts_from_short c n [] = omega arith
+harts_from_short c n (s ∷ ss) =
+    let next : n + 1 ≡ suc n = omega arith in
+    let traces : traces_size (drop (n + 1) c.traces) ≡ traces_size (drop (suc n) c.traces) = ap (λ m. traces_size (drop m c.traces)) next in
+    let finals : states_size (drop (n + 1) c.finals) ≡ states_size (drop (suc n) c.finals) = ap (λ m. states_size (drop m c.finals)) next in
+    simp length-append (omega (arith, hart_short n s (trace_of c n) (final_of c n), harts_from_short c (n + 1) ss, trace_counted c.traces n, final_counted c.finals n))
+
+harts_short : (c : Cert) → length (harts_text c) ≤ 1024 * (states_size c.start + traces_size c.traces + states_size c.finals)
+unfolding harts_text
+harts_short c = harts_from_short c 0 c.start
+
+word_short : (w : (ℕ × ℕ) × ℕ) → length (word_line w) ≤ 256
+unfolding word_line
+word_short w = simp length-append (omega (arith, hex_short w.0.0, hex_short w.0.1, hex_short w.1))
+
+words_short : (words : List (ℕ × ℕ)) (last : List ℕ) → length (words_text words last) ≤ 256 * length words
+unfolding words_text
+words_short words last = omega (arith, lines_short word_line (zip words last) word_short, length-zip words last)
+
+harts_line_short : (n : ℕ) → length (harts_line n) ≤ 128
+unfolding harts_line
+harts_line_short n = simp length-append (omega (arith, decimal_short n))
+
+-- how long a report can be
+pub report_short : (c : Cert) → length (report_text c) ≤ 2048 * certificate_size c + 2048
+unfolding report_text
+report_short c = simp length-append (omega (arith, harts_line_short (length c.start), harts_short c, words_short c.words c.last))
