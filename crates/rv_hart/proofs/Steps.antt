@@ -14,7 +14,7 @@ use Rattle.rv_hart.specs.declared.record.Stepped.TheVariants.{Did, Missing, Outs
 use Rattle.rv_hart.specs.Machine.{Fixed, script}
 use Rattle.rv_hart.specs.Whole.{sight_of, record_of, Step, planned, sighted_step_of}
 use Rattle.rv_hart.specs.View.{shown}
-use Rattle.rv_hart.specs.Clauses.{stepped_by, IsMachineStep, zero_filled, IsLocalStep}
+use Rattle.rv_hart.specs.Clauses.{stepped_by, IsMachineStep, zero_filled, change_of, IsLocalStep}
 
 shown_by : (f : Fixed) (missing : Option Place) (xs : List Access) (o : Option Change) → shown f (answer_by missing xs o) ≡ stepped_by missing (planned f xs o)
 shown_by f (Some place) xs o = refl
@@ -39,15 +39,15 @@ did f None xs None r e = absurd cc
 did f None xs (Some c) r e = (c, refl, cc)
 
 pub local_step : (f : Fixed) (known : Known) (result : Stepped) → result ≡ shown f (answer_on known (script f)) → IsLocalStep f known result
-local_step f known (Did r) e = λ h words fixed are are' alike.
+local_step f known (Did r) e = λ h words fixed alike.
     let zero : Sight = zero_filled known in
     let see : Sight = sight_of h.file words in
     let w = whole access_of (script f) (by_known known) zero (filled_extends known) in
     let d = did f (first_missing (by_known known) (asked_of (script f) zero)) (accesses_of (script f) zero) (result_of (script f) zero) r (e ∙ ap (λ (a : Answer Access Change). shown f a) w) in
-    let same = local (script f) zero see are are' alike in
+    let same = local (script f) zero see alike in
     let s : Step = record { did = record_of f (accesses_of (script f) zero) d.0; change = d.0 } in
     let on_f : sighted_step_of f see ≡ Some s =
     ap (λ (xs : List Access). planned f xs (result_of (script f) see)) same.accesses ∙ ap (λ (o : Option Change). planned f (accesses_of (script f) zero) o) (same.result ∙ d.1) in
-    (s, subst (λ (g : Fixed). sighted_step_of g see ≡ Some s) (sym fixed) on_f, d.2)
+    (s, subst (λ (g : Fixed). sighted_step_of g see ≡ Some s) (sym fixed) on_f, d.2, ap change_of d.2)
 local_step f known (Missing place) e = tt
 local_step f known Outside e = tt

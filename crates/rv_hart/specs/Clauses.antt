@@ -5,7 +5,8 @@ use Rattle.rv_script.specs.declared.place.Place.{Place}
 use Rattle.rv_script.specs.Lists.{HasItem}
 use Rattle.rv_script.specs.Script.{place_of}
 use Rattle.rv_script.specs.Folds.{Known, by_known, Sight, Entry, asked_of, first_missing}
-use Rattle.rv_script.specs.Laws.{AreWords, IsSeenAlike}
+use Rattle.rv_script.specs.Laws.{IsSeenAlike}
+use Rattle.rv_hart.specs.declared.record.Change.{Change}
 use Rattle.rv_hart.specs.declared.record.Record.{Record}
 use Rattle.rv_hart.specs.declared.record.Stepped.{Stepped}
 use Rattle.rv_hart.specs.declared.record.Stepped.TheVariants.{Did, Missing, Outside}
@@ -37,13 +38,17 @@ IsMachineStep f known result = (h : WholeHart) (words : ℕ → ℕ) → Has f k
 abbrev pub zero_filled : Known → Sight
 zero_filled known q = unwrap_or (known (place_of q)) 0
 
+-- what a record says of its hart
+abbrev pub change_of : Record → Change
+change_of r = record { word = r.word; outcome = r.outcome; rd = r.rd; next_pc = r.next_pc }
+
 -- each whole hart with these fixed parts that has the registers and CSRs that the step asked for, over each memory that has the bytes
--- that it looked at, makes this step
+-- that it looked at, makes this step, with the same changes
 abbrev pub IsLocal : Fixed → Known → Record → Type 0
 IsLocal f known r =
-    (h : WholeHart) (words : ℕ → ℕ) → h.fixed ≡ f → AreWords (zero_filled known) → AreWords (sight_of h.file words)
+    (h : WholeHart) (words : ℕ → ℕ) → h.fixed ≡ f
     → ((e : Entry) → HasItem (asked_of (script f) (zero_filled known)) e → IsSeenAlike e.question e.value (sight_of h.file words e.question))
-    → (s : Step) × (step_of h words ≡ Some s) × (s.did ≡ r)
+    → (s : Step) × (step_of h words ≡ Some s) × (s.did ≡ r) × (s.change ≡ change_of r)
 
 abbrev pub IsLocalStep : Fixed → Known → Stepped → Type 0
 IsLocalStep f known (Did r) = IsLocal f known r

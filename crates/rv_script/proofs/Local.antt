@@ -5,7 +5,7 @@ use Rattle.rv_script.specs.declared.place.Place.{Place}
 use Rattle.rv_script.specs.Lists.{HasItem}
 use Rattle.rv_script.specs.Script.{Question, Question.OfRegister, Question.OfCsr, Question.OfMemory, Question.ToMemory, role_of, place_of, told, access_of, Script, Script.Ask, Script.Outside, Script.Done}
 use Rattle.rv_script.specs.Folds.{Entry, Sight, asked_of, result_of, on_note, accesses_of, needs_of}
-use Rattle.rv_script.specs.Laws.{IsSeenAlike, AreWords, IsSame, LocalLaw}
+use Rattle.rv_script.specs.Laws.{IsSeenAlike, IsSame, LocalLaw}
 use Rattle.rv_script.proofs.Parts.{part_same}
 
 -- an access rests on what is told alone
@@ -33,13 +33,11 @@ told_same Outside see other same = record { result = refl; accesses = refl; need
 told_same (Done a) see other same = record { result = refl; accesses = refl; needs = refl }
 
 -- bytes that are the same tell the same
-alike_told : (q : Question) (see other : Sight) → AreWords see → AreWords other → IsSeenAlike q (see q) (other q) → told q (other q) ≡ told q (see q)
-alike_told (OfRegister label n) see other are are' alike = alike
-alike_told (OfCsr label addr) see other are are' alike = alike
-alike_told (OfMemory label addr size) see other are are' alike =
-    let q : Question = OfMemory label addr size in
-    part_same (record { role = role_of label; addr = addr; size = size; value = 0 }) size (other q) (see q) refl (are' label addr size) (are label addr size) alike
-alike_told (ToMemory addr size value) see other are are' alike = refl
+alike_told : (q : Question) (v w : ℕ) → IsSeenAlike q v w → told q w ≡ told q v
+alike_told (OfRegister label n) v w alike = alike
+alike_told (OfCsr label addr) v w alike = alike
+alike_told (OfMemory label addr size) v w alike = part_same (record { role = role_of label; addr = addr; size = size; value = 0 }) size w v refl alike.1 alike.0 alike.2
+alike_told (ToMemory addr size value) v w alike = refl
 
 -- each entry has the value that is seen
 pub seen_value : {A : Type 0} (s : Script A) (see : Sight) (e : Entry) → HasItem (asked_of s see) e → e.value ≡ see e.question
@@ -51,6 +49,4 @@ seen_value Outside see e h = absurd h
 seen_value (Done a) see e h = absurd h
 
 pub local : {A : Type 0} (s : Script A) → LocalLaw s
-local s see other are are' alike = told_same s see other (λ e h.
-    let v : e.value ≡ see e.question = seen_value s see e h in
-    alike_told e.question see other are are' (subst (λ (n : ℕ). IsSeenAlike e.question n (other e.question)) v (alike e h)) ∙ ap (told e.question) (sym v))
+local s see other alike = told_same s see other (λ e h. alike_told e.question e.value (other e.question) (alike e h))

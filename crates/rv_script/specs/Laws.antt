@@ -23,16 +23,14 @@ TellsMore tell more = (q : Question) (v : ℕ) → tell q ≡ Some v → more q 
 abbrev pub MoreLaw : {L A : Type 0} → (Question → ℕ → Option L) → Script A → Type 0
 MoreLaw {L} {A} note s = (tell more : Teller) → TellsMore tell more → (notes : List L) (a : A) → play note tell s ≡ Does notes a → play note more s ≡ Does notes a
 
--- the same is told of two values of a question's place: of a register or a CSR the value, of memory the bytes that are looked at, of a store nothing
+-- the same is told of two values of a question's place: of a register or a CSR the value, of two words of memory the bytes that are looked at,
+-- of a store nothing
 abbrev pub IsSeenAlike : Question → ℕ → ℕ → Type 0
 IsSeenAlike (OfRegister label n) v w = w ≡ v
 IsSeenAlike (OfCsr label addr) v w = w ≡ v
-IsSeenAlike (OfMemory label addr size) v w = (b : ℕ) → covers (record { role = role_of label; addr = addr; size = size; value = 0 }) b ≡ true → byte_at b w ≡ byte_at b v
+IsSeenAlike (OfMemory label addr size) v w =
+    (v < 2 ^ 32) × (w < 2 ^ 32) × ((b : ℕ) → covers (record { role = role_of label; addr = addr; size = size; value = 0 }) b ≡ true → byte_at b w ≡ byte_at b v)
 IsSeenAlike (ToMemory addr size value) v w = Unit {0}
-
--- what is seen of memory are words
-abbrev pub AreWords : Sight → Type 0
-AreWords see = (label : Label) (addr size : ℕ) → see (OfMemory label addr size) < 2 ^ 32
 
 pub record IsSame {A : Type 0} (s : Script A) (see other : Sight) : Type 0 where
   pub result : result_of s other ≡ result_of s see
@@ -42,6 +40,6 @@ pub record IsSame {A : Type 0} (s : Script A) (see other : Sight) : Type 0 where
 -- a script rests on the registers and CSRs that it asks for and on the bytes that it looks at, and on nothing else
 abbrev pub LocalLaw : {A : Type 0} → Script A → Type 0
 LocalLaw s =
-    (see other : Sight) → AreWords see → AreWords other
+    (see other : Sight)
     → ((e : Entry) → HasItem (asked_of s see) e → IsSeenAlike e.question e.value (other e.question))
     → IsSame s see other

@@ -1,28 +1,26 @@
 -- A sound certificate's harts do in every order of steps what they do alone.
-use Rattle.std.proofs.Common.{◌≡◌, ◌≢◌, ℕ, zero, suc, ◌+◌, ◌-◌, ◌*◌, ◌/◌, ◌%◌, ◌^◌, ◌<◌, ◌≤◌, Bool, true, false, cond, eqb, List, [], ◌∷◌, ◌++◌, Option, Some, None, refl, sym, ap, ◌∙◌, subst, inl, inr, ◌⊎◌, map, length, take, drop, append-nil, get_or, arith}
+use Rattle.std.proofs.Common.{◌≡◌, ℕ, ◌+◌, ◌*◌, ◌/◌, ◌%◌, ◌^◌, ◌<◌, Bool, true, false, eqb, List, [], ◌∷◌, ◌++◌, Option, Some, None, refl, sym, ap, ◌∙◌, subst, inl, inr, map, length, append-nil, arith}
 use Rattle.std.specs.Option.{is_some, unwrap_or}
-use Rattle.std.proofs.lemmas.Bool.{cases_Bool, cases_eq, cases_lt, eq-eqb, eqb-true, false_from_ne_true}
+use Rattle.std.proofs.lemmas.Bool.{cases_Bool, eq-eqb, eqb-true, false_from_ne_true}
 use Rattle.std.proofs.lemmas.List.{drop_all, get_or_past}
 use Rattle.rv_script.specs.declared.access.Access.{Access}
-use Rattle.rv_script.specs.declared.place.Place.TheVariants.{Reg, Csr, Word}
+use Rattle.rv_script.specs.declared.place.Place.TheVariants.{Word}
 use Rattle.rv_script.specs.Lists.{HasItem}
 use Rattle.rv_script.specs.Bytes.{word_address}
 use Rattle.rv_script.specs.Memory.{memory_after}
 use Rattle.rv_hart.specs.declared.record.Record.{Record}
-use Rattle.rv_hart.specs.Machine.{Fixed}
 use Rattle.rv_hart.specs.Whole.{WholeHart, sight_of, Step, step_of, hart_after}
 use Rattle.tpl_admit.specs.declared.certificate.Cert.{Cert}
-use Rattle.tpl_admit.specs.declared.certificate.HartState.{HartState}
-use Rattle.tpl_admit.specs.System.{System, run_of, of_hart, times}
-use Rattle.tpl_admit.specs.Starts.{found, start_of, final_of, trace_of, word_of, fixed_in, IsInState, AgreesWith, zero_elsewhere, first_hart, first_memory, first_system, is_given, AreStartWords}
+use Rattle.tpl_admit.specs.System.{System, run_of, times}
+use Rattle.tpl_admit.specs.Starts.{found, start_of, final_of, trace_of, word_of, fixed_in, AgreesWith, zero_elsewhere, first_hart, first_memory, first_system, is_given, AreStartWords}
 use Rattle.tpl_admit.specs.Races.{footprint_of}
-use Rattle.tpl_admit.specs.Solo.{Moment, Solo, solo, solo_on, solo_run, knows_also, AreInitialised, knows_after}
+use Rattle.tpl_admit.specs.Solo.{Moment, solo, solo_on, knows_also, AreInitialised, knows_after}
 use Rattle.tpl_admit.specs.Validity.{in_turn, IsHartValid, IsSound}
 use Rattle.tpl_parse.specs.declared.template.Region.{Region}
-use Rattle.tpl_admit.specs.Faithfulness.{IsFinished, IsBounded, IsComplete, Keeps as KeepsPromise, IsFaithful}
+use Rattle.tpl_admit.specs.Faithfulness.{IsFinished, IsFaithful}
 use Rattle.rv_system.proofs.Steps.{step_word}
 use Rattle.rv_system.proofs.Memory.{HoldsWords, has_cases, in_turn_none, in_turn_agree, in_turn_at, in_turn_apart}
-use Rattle.rv_system.proofs.Orders.{End, Ends, Goes, Alone, Follows, Setting, Good, Keeps, FollowsAt, Whole, whole_run}
+use Rattle.rv_system.proofs.Orders.{End, Ends, Goes, Alone, Setting, Good, Keeps, Whole, whole_run}
 
 -- what a hart does alone, as a chain
 solo_goes : (words : ℕ → Option ℕ) (end : End) (rs : List Record) (knows : ℕ → Bool) (h : WholeHart) (m : ℕ → ℕ)

@@ -1,26 +1,26 @@
 -- In every order of steps each hart does what it does alone.
-use Rattle.std.proofs.Common.{◌≡◌, ◌≢◌, ℕ, zero, suc, ◌+◌, ◌-◌, ◌*◌, ◌/◌, ◌%◌, ◌^◌, ◌<◌, ◌≤◌, Bool, true, false, cond, if◌then◌else◌, eqb, List, [], ◌∷◌, ◌++◌, Option, Some, None, refl, sym, ap, ◌∙◌, subst, inl, inr, ◌⊎◌, map, length, take, drop, append_assoc, append-nil, arith}
-use Rattle.std.specs.Option.{is_some, unwrap_or}
-use Rattle.std.proofs.lemmas.Bool.{cases_Bool, cases_eq, cases_lt, eq-eqb, ne_eqb, false_from_ne_true, eqb-true, and_parts, or_parts}
+use Rattle.std.proofs.Common.{◌≡◌, ◌≢◌, ℕ, suc, ◌/◌, ◌%◌, ◌^◌, ◌<◌, ◌≤◌, Bool, true, false, cond, if◌then◌else◌, eqb, List, [], ◌∷◌, ◌++◌, Option, Some, None, refl, sym, ap, ◌∙◌, subst, inl, inr, length, take, drop, append_assoc, arith}
+use Rattle.std.specs.Option.{is_some}
+use Rattle.std.proofs.lemmas.Bool.{cases_Bool, cases_eq, cases_lt, eq-eqb, ne_eqb, eqb-true, and_parts}
 use Rattle.rv_script.specs.declared.access.Access.{Access}
 use Rattle.rv_script.specs.declared.place.Place.{Place}
-use Rattle.rv_script.specs.declared.place.Place.TheVariants.{Reg, Csr, Word}
+use Rattle.rv_script.specs.declared.place.Place.TheVariants.{Reg}
 use Rattle.rv_script.specs.Lists.{HasItem}
-use Rattle.rv_script.specs.Bytes.{word_address, covers, is_look, part_of, byte_at}
+use Rattle.rv_script.specs.Bytes.{word_address, covers, part_of, byte_at}
 use Rattle.rv_script.specs.Script.{Label, role_of, Question, Question.OfRegister, Question.OfCsr, Question.OfMemory, Question.ToMemory, place_of, access_of}
-use Rattle.rv_script.specs.Folds.{Entry, Sight, asked_of, result_of, accesses_of, needs_of}
-use Rattle.rv_script.specs.Laws.{AreWords, IsSeenAlike}
+use Rattle.rv_script.specs.Folds.{Entry, Sight, asked_of, result_of, accesses_of}
+use Rattle.rv_script.specs.Laws.{IsSeenAlike}
 use Rattle.rv_script.specs.Memory.{memory_after}
 use Rattle.rv_script.proofs.Local.{seen_value}
 use Rattle.rv_hart.specs.declared.record.Record.{Record}
 use Rattle.rv_hart.specs.Machine.{Fixed, script}
-use Rattle.rv_hart.specs.Whole.{WholeHart, csr_key, value_at, sight_of, Step, sighted_step_of, step_of, needed_places, file_after, hart_after}
-use Rattle.tpl_admit.specs.System.{System, replaced, moved, Ran, goes_on, run_of, of_hart, times}
-use Rattle.tpl_admit.specs.Races.{footprint_of, Meet, IsRaceFree}
+use Rattle.rv_hart.specs.Whole.{WholeHart, csr_key, sight_of, Step, sighted_step_of, step_of, needed_places, hart_after}
+use Rattle.tpl_admit.specs.System.{System, replaced, moved, run_of, of_hart, times}
+use Rattle.tpl_admit.specs.Races.{footprint_of, IsRaceFree}
 use Rattle.tpl_admit.specs.Solo.{is_set, knows_also}
 use Rattle.tpl_admit.specs.Validity.{in_turn}
-use Rattle.rv_system.proofs.Steps.{step_local, step_word, planned_accesses, entry_access, entry_place}
-use Rattle.rv_system.proofs.Memory.{byte_of, Fits, AllFit, HoldsWords, has_left, has_right, memory_after_at, memory_after_words, memory_after_append, in_turn_one, in_turn_more, file_after_same, file_after_other}
+use Rattle.rv_system.proofs.Steps.{step_local, planned_accesses, entry_access, entry_place}
+use Rattle.rv_system.proofs.Memory.{byte_of, Fits, HoldsWords, has_left, has_right, memory_after_at, memory_after_words, memory_after_append, in_turn_one, in_turn_more, file_after_same, file_after_other}
 
 -- where a hart ends
 pub record End : Type 0 where
@@ -73,7 +73,7 @@ next s a rs = record {
 pub record Sees (file : ℕ → ℕ) (see : Sight) : Type 0 where
   pub register : (label : Label) (n : ℕ) → see (OfRegister label n) ≡ (if eqb n 0 then 0 else file n)
   pub csr : (label : Label) (addr : ℕ) → see (OfCsr label addr) ≡ file (csr_key addr)
-  pub small : AreWords see
+  pub small : (label : Label) (addr size : ℕ) → see (OfMemory label addr size) < 2 ^ 32
 
 -- for what the hart looks at in its next record, where the word is given, the sight is as good as this memory
 abbrev pub IsSound : (ℕ → Option ℕ) → Sight → (ℕ → ℕ) → Record → Type 0
@@ -107,7 +107,7 @@ one_step words origin first trace end now see a r rs f e sees sound =
     λ d at. alike_at d.question d.value (seen_value (script a.hart.fixed) mine d at)
     (goes.3 (place_of d.question) (entry_place log d at))
     (λ x is. subst (λ (q : Record). HasItem q.accesses x) goes.2 (subst (λ (xs : List Access). HasItem xs x) (sym (planned_accesses a.hart.fixed (accesses_of (script a.hart.fixed) mine) (result_of (script a.hart.fixed) mine) s goes.1)) (entry_access log d x at is))) in
-    let local : sighted_step_of now.fixed see ≡ Some s = ap (λ (g : Fixed). sighted_step_of g see) f.fixed ∙ step_local a.hart.fixed mine see s goes.1 (λ label addr size. f.small (word_address addr / 4)) sees.small alike in
+    let local : sighted_step_of now.fixed see ≡ Some s = ap (λ (g : Fixed). sighted_step_of g see) f.fixed ∙ step_local a.hart.fixed mine see s goes.1 alike in
     record {
       step' = s;
       was = local;
@@ -126,10 +126,14 @@ one_step words origin first trace end now see a r rs f e sees sound =
     alike_at : (q : Question) (v : ℕ) → v ≡ sight_of a.hart.file a.memory q → is_set a.knows words (place_of q) ≡ true → ((x : Access) → access_of q v ≡ Some x → HasItem r.accesses x) → IsSeenAlike q v (see q)
     alike_at (OfRegister label n) v is set at = sees.register label n ∙ known_register words a.knows now.file a.hart.file n f.known set ∙ sym is
     alike_at (OfCsr label addr) v is set at = sees.csr label addr ∙ f.known (csr_key addr) set ∙ sym is
-    alike_at (OfMemory label addr size) v is set at = λ b u.
-        let word : b / 4 ≡ word_address addr / 4 = let w : b / 4 ≡ addr / 4 = eqb-true _ _ (and_parts _ _ u).0 in omega (arith, w) in
-        sound label addr size (part_of addr size v) (at (record { role = role_of label; addr = addr; size = size; value = part_of addr size v }) refl) b u (ap (λ (n : ℕ). is_some (words n)) word ∙ set)
-        ∙ ap (λ (n : ℕ). byte_at b (a.memory n)) word ∙ ap (byte_at b) (sym is)
+    alike_at (OfMemory label addr size) v is set at = (
+      subst (λ (n : ℕ). n < 2 ^ 32) (sym is) (f.small (word_address addr / 4)),
+      sees.small label addr size,
+      λ b u.
+          let word : b / 4 ≡ word_address addr / 4 = let w : b / 4 ≡ addr / 4 = eqb-true _ _ (and_parts _ _ u).0 in omega (arith, w) in
+          sound label addr size (part_of addr size v) (at (record { role = role_of label; addr = addr; size = size; value = part_of addr size v }) refl) b u (ap (λ (n : ℕ). is_some (words n)) word ∙ set)
+          ∙ ap (λ (n : ℕ). byte_at b (a.memory n)) word ∙ ap (byte_at b) (sym is),
+    )
     alike_at (ToMemory addr size value) v is set at = tt
 
 -- at one number, or at another

@@ -1,28 +1,27 @@
 -- A step rests on what it asks alone.
-use Rattle.std.proofs.Common.{◌≡◌, ℕ, ◌-◌, ◌/◌, ◌%◌, ◌^◌, ◌<◌, Bool, true, List, [], ◌∷◌, Option, Some, None, refl, sym, ap, ◌∙◌, subst, inl, inr, map, arith}
+use Rattle.std.proofs.Common.{◌≡◌, ℕ, List, [], ◌∷◌, Option, Some, None, refl, sym, ap, ◌∙◌, subst, inl, inr, map}
 use Rattle.rv_script.specs.declared.access.Access.{Access}
-use Rattle.rv_script.specs.declared.place.Place.{Place}
-use Rattle.rv_script.specs.declared.place.Place.TheVariants.{Reg, Csr, Word}
+use Rattle.rv_script.specs.declared.place.Place.TheVariants.{Word}
 use Rattle.rv_script.specs.Lists.{HasItem}
 use Rattle.rv_script.specs.Bytes.{word_address}
 use Rattle.rv_script.specs.Script.{Question, Question.OfRegister, Question.OfCsr, Question.OfMemory, Question.ToMemory, place_of, access_of}
 use Rattle.rv_script.specs.Folds.{Entry, Sight, asked_of, result_of, on_note, notes_of, accesses_of, needs_of}
-use Rattle.rv_script.specs.Laws.{AreWords, IsSeenAlike}
-use Rattle.rv_script.proofs.Local.{local, seen_value}
+use Rattle.rv_script.specs.Laws.{IsSeenAlike}
+use Rattle.rv_script.proofs.Local.{local}
 use Rattle.rv_hart.specs.declared.record.Change.{Change}
 use Rattle.rv_hart.specs.Machine.{Fixed, script}
-use Rattle.rv_hart.specs.Whole.{WholeHart, sight_of, record_of, Step, planned, sighted_step_of, step_of, needed_places}
+use Rattle.rv_hart.specs.Whole.{record_of, Step, planned, sighted_step_of}
 
 pub planned_accesses : (f : Fixed) (xs : List Access) (o : Option Change) (s : Step) → planned f xs o ≡ Some s → s.did.accesses ≡ xs
 planned_accesses f xs None s e = absurd cc
 planned_accesses f xs (Some c) s e = let is : record { did = record_of f xs c; change = c } ≡ s = cc in ap (λ (t : Step). t.did.accesses) (sym is)
 
 -- the same step where the same is seen
-pub step_local : (f : Fixed) (see other : Sight) (s : Step) → sighted_step_of f see ≡ Some s → AreWords see → AreWords other
+pub step_local : (f : Fixed) (see other : Sight) (s : Step) → sighted_step_of f see ≡ Some s
     → ((e : Entry) → HasItem (asked_of (script f) see) e → IsSeenAlike e.question e.value (other e.question))
     → sighted_step_of f other ≡ Some s
-step_local f see other s is are are' alike =
-    let same = local (script f) see other are are' alike in
+step_local f see other s is alike =
+    let same = local (script f) see other alike in
     ap (λ (xs : List Access). planned f xs (result_of (script f) other)) same.accesses ∙ ap (λ (o : Option Change). planned f (accesses_of (script f) see) o) same.result ∙ is
 
 note_here : {L : Type 0} (o : Option L) (xs : List L) (x : L) → o ≡ Some x → HasItem (on_note o xs) x

@@ -41,6 +41,10 @@ mem_source_faults s = s.plan.faults
 abbrev pub mem_sink_held : MemSink → List ℕ
 mem_sink_held s = s.stored.bytes.items
 
+-- how many bytes it held when a write last failed, and 0 before that
+abbrev pub mem_sink_fault_at : MemSink → ℕ
+mem_sink_fault_at s = s.fault_at
+
 -- how many more bytes it has room for
 abbrev pub mem_sink_room : MemSink → ℕ
 mem_sink_room s = s.stored.room

@@ -4,7 +4,7 @@ ghost use Rattle.std.specs.Io.{ReadsAtMost};
 ghost use Rattle.std.specs.Io.KnownBytes.{ReadConsumes, WriteAppends};
 ghost use Rattle.streams.specs.Causes.{HasCause, CountsErrors};
 ghost use Rattle.streams.specs.Source.{AsksOnce};
-ghost use Rattle.streams.specs.Sink.{Uses};
+ghost use Rattle.streams.specs.Sink.{Uses, MarksFault};
 
 use crate::error::Failed;
 use crate::sink::Sink;
@@ -88,6 +88,8 @@ impl<W: Write> Sink for WriteSink<W> {
 
     ghost faults = { λ s. writer_faults s };
 
+    ghost fault_at = { λ _. None };
+
     fn write(&mut self, bytes: &[u8]) -> Result<usize, Failed>
         ensures bound { IfOk result (λ n. n ≤ length bytes.now) }
         ensures some { IfOk result (λ n. 0 < length bytes.now → 0 < n) }
@@ -96,6 +98,7 @@ impl<W: Write> Sink for WriteSink<W> {
         ensures room { Uses None None result }
         ensures cause { HasCause (writer_faults self.old) (writer_faults self.new) result }
         ensures faults { CountsErrors (writer_faults self.old) (writer_faults self.new) result }
+        ensures fault_at { MarksFault (W.contents (adapted_writer self.new)) None None result }
     {
         match self.inner.write(bytes) {
             Ok(count) if count > 0 || bytes.is_empty() => Ok(count),

@@ -4,7 +4,7 @@ ghost use Rattle.std.specs.Io.{ReadsAtMost};
 ghost use Rattle.std.specs.Io.KnownBytes.{ReadConsumes, WriteAppends};
 ghost use Rattle.streams.specs.Causes.{HasCause, CountsErrors, one_more};
 ghost use Rattle.streams.specs.Source.{AsksOnce};
-ghost use Rattle.streams.specs.Sink.{Uses};
+ghost use Rattle.streams.specs.Sink.{Uses, MarksFault};
 
 use crate::error::{Failed, OutOfMemory};
 use crate::sink::Sink;
@@ -80,7 +80,7 @@ impl SureSink {
 }
 
 impl Sink for SureSink {
-    ghost use Rattle.std.specs.Prelude.{Some};
+    ghost use Rattle.std.specs.Prelude.{Some, None};
     ghost use Rattle.streams.specs.Memory.{sure_sink_held, sure_sink_room};
 
     ghost held = { λ s. Some (sure_sink_held s) };
@@ -88,6 +88,8 @@ impl Sink for SureSink {
     ghost room = { λ s. Some (sure_sink_room s) };
 
     ghost faults = { λ _. 0 };
+
+    ghost fault_at = { λ _. None };
 
     fn write(&mut self, bytes: &[u8]) -> Result<usize, Failed>
         requires { length bytes.now ≤ sure_sink_room self.old }
@@ -165,10 +167,11 @@ impl Source for MemSource {
 pub struct MemSink {
     stored: Stored,
     plan: CallPlan,
+    fault_at: usize,
 }
 
 impl MemSink {
-    ghost use Rattle.streams.specs.Memory.{mem_sink_held, mem_sink_room, mem_sink_chunk, mem_sink_fails, mem_sink_calls, mem_sink_faults};
+    ghost use Rattle.streams.specs.Memory.{mem_sink_held, mem_sink_room, mem_sink_chunk, mem_sink_fails, mem_sink_calls, mem_sink_faults, mem_sink_fault_at};
 
     /// A sink with no bytes and room for `n`. `fails` has the numbers of the writes that fail,
     /// counted from 1. It fails where there is no memory for the bytes.
@@ -185,10 +188,12 @@ impl MemSink {
         ensures fails { IfOk result (λ s. mem_sink_fails s ≡ fails.items) }
         ensures calls { IfOk result (λ s. mem_sink_calls s ≡ 0) }
         ensures faults { IfOk result (λ s. mem_sink_faults s ≡ 0) }
+        ensures fault_at { IfOk result (λ s. mem_sink_fault_at s ≡ 0) }
     {
         Ok(MemSink {
             stored: Stored::with_room(alloc, n)?,
             plan: CallPlan::new(chunk, fails),
+            fault_at: 0,
         })
     }
 
@@ -202,13 +207,15 @@ impl MemSink {
 
 impl Sink for MemSink {
     ghost use Rattle.std.specs.Prelude.{Some};
-    ghost use Rattle.streams.specs.Memory.{mem_sink_held, mem_sink_room, mem_sink_chunk, mem_sink_fails, mem_sink_calls, mem_sink_faults};
+    ghost use Rattle.streams.specs.Memory.{mem_sink_held, mem_sink_room, mem_sink_chunk, mem_sink_fails, mem_sink_calls, mem_sink_faults, mem_sink_fault_at};
 
     ghost held = { λ s. Some (mem_sink_held s) };
 
     ghost room = { λ s. Some (mem_sink_room s) };
 
     ghost faults = { λ s. mem_sink_faults s };
+
+    ghost fault_at = { λ s. Some (mem_sink_fault_at s) };
 
     fn write(&mut self, bytes: &[u8]) -> Result<usize, Failed>
         requires { length bytes.now ≤ mem_sink_room self.old }
@@ -224,11 +231,19 @@ impl Sink for MemSink {
         ensures fails { IsErr result ↔ Contains (mem_sink_fails self.old) (mem_sink_calls self.new) }
         ensures faults { CountsErrors (mem_sink_faults self.old)
             (mem_sink_faults self.new) result }
+        ensures fault_at { MarksFault (Some (mem_sink_held self.new))
+            (Some (mem_sink_fault_at self.old)) (Some (mem_sink_fault_at self.new)) result }
         ensures count { IfOk result (λ n. n ≡ min (mem_sink_chunk self.old) (length bytes.now)) }
         ensures chunk_kept { mem_sink_chunk self.new ≡ mem_sink_chunk self.old }
         ensures fails_kept { mem_sink_fails self.new ≡ mem_sink_fails self.old }
     {
-        let chunk = self.plan.begin_call()?;
+        let chunk = match self.plan.begin_call() {
+            Ok(chunk) => chunk,
+            Err(failed) => {
+                self.fault_at = self.stored.bytes().len();
+                return Err(failed);
+            }
+        };
         let count = chunk.min(bytes.len());
         self.stored.push(&bytes[..count]);
         Ok(count)

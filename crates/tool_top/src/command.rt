@@ -2,7 +2,7 @@
 ghost use Rattle.std.specs.Prelude.{◌≡◌, ◌≢◌, ◌≤◌, ℕ, IsTrue};
 ghost use Rattle.streams.specs.Causes.{Rose};
 ghost use Rattle.streams.specs.Source.{TakesAtMost};
-ghost use Rattle.streams.specs.Sink.{HasRoom, Tells};
+ghost use Rattle.streams.specs.Sink.{HasRoom, EndsAtFault, Tells};
 ghost use Rattle.tool_top.specs.Words.{IsGen};
 ghost use Rattle.tool_top.specs.Promise.{IsDone, IsCutShort, IsNoTemplate, IsAllRead, IsComplete, is_status, told_line};
 
@@ -45,6 +45,8 @@ pub fn run<S: Source, K: Sink, R: Sink>(
     ensures read { result ≡ 6 → Rose (S.faults source.old) (S.faults source.new) }
     ensures write { result ≡ 7 → Rose (K.faults out.old) (K.faults out.new) }
     ensures prefix { result ≡ 7 → IsCutShort (S.left source.old) (K.held out.old) (K.held out.new) }
+    ensures stopped { result ≡ 7 → EndsAtFault (K.held out.new) (K.fault_at out.new) (K.faults out.old) (K.faults out.new) }
+    ensures none_failed { result ≢ 7 → K.faults out.new ≡ K.faults out.old }
 
     // A valid command on a valid input is done, or memory ran out, where no count of faults rose.
     ensures complete { IsComplete words.now (S.left source.old) (S.faults source.old) (S.faults source.new) (K.faults out.old) (K.faults out.new) result }
@@ -55,7 +57,7 @@ pub fn run<S: Source, K: Sink, R: Sink>(
     ensures unread { result ≡ 2 → source.new ≡ source.old }
     ensures out { result ≢ 0 → result ≢ 7 → out.new ≡ out.old }
     ensures silent { result ≢ 2 → result ≢ 3 → result ≢ 6 → report.new ≡ report.old }
-    ensures told { Tells (R.held report.old) (R.held report.new) (told_line result) (R.faults report.old) (R.faults report.new) }
+    ensures told { Tells (R.held report.old) (R.held report.new) (told_line result) (R.fault_at report.new) (R.faults report.old) (R.faults report.new) }
     ensures source_later { S.faults source.old ≤ S.faults source.new }
     ensures out_later { K.faults out.old ≤ K.faults out.new }
     ensures report_later { R.faults report.old ≤ R.faults report.new }

@@ -11,5 +11,5 @@ loop-rest-preserved g c =
     record {
       written = written_more _ _ _ _ _ _ _ _ _ _ c.loop-rest.invariant.written c.in_ok-count.ensures.bound c.in_ok-count.ensures.bytes c.in_ok-count.ensures.room is;
       room = HasRoom-after _ _ n (length text) _ c.loop-rest.invariant.room c.in_ok-count.ensures.room c.in_ok-count.ensures.bound (ap length is ∙ length-drop n text);
-      later = omega (arith, c.write.ensures.cause.later);
+      none_failed = c.in_ok-count.ensures.faults ∙ c.loop-rest.invariant.none_failed;
     }
