@@ -1,7 +1,6 @@
 //! The operations, in the order of the table.
 
-/// An operation, by its name in the manuals: one row of the table of encodings. `op as u8` is the
-/// number of the row, 0 to 57.
+/// An operation, by its name in the manuals: one row of the table of encodings.
 #[derive(Clone, Copy, Debug, PartialEq, Eq)]
 pub enum Op {
     // Unprivileged, 2.4 to 2.8.

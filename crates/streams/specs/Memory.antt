@@ -37,6 +37,14 @@ mem_source_calls s = s.plan.calls
 abbrev pub mem_source_faults : MemSource → ℕ
 mem_source_faults s = s.plan.faults
 
+-- how many bytes were left when a read last failed, and 0 before that
+abbrev pub mem_source_fault_at : MemSource → ℕ
+mem_source_fault_at s = s.fault_at
+
+-- how many reads took no byte and did not fail, up to the largest u64
+abbrev pub mem_source_empty : MemSource → ℕ
+mem_source_empty s = s.empty
+
 -- the bytes held
 abbrev pub mem_sink_held : MemSink → List ℕ
 mem_sink_held s = s.stored.bytes.items

@@ -2,7 +2,7 @@
 use Rattle.std.specs.Prelude.{◌≡◌, ℕ, ◌+◌, ◌≤◌, List, length, take, Result, MatchResult, ◌⊎◌, ⊤, Some, None}
 use Rattle.std.specs.declared.option.Option.{Option}
 use Rattle.std.specs.Io.KnownBytes.{Appends}
-use Rattle.streams.specs.Causes.{Rose, one_more}
+use Rattle.streams.specs.Causes.{Rose, EndsAtFault}
 
 -- a room that is told holds n bytes
 abbrev pub HasRoom : Option ℕ → ℕ → Type 0
@@ -29,21 +29,6 @@ pub record TakesPrefix (old new : Option (List ℕ)) (before after : Option ℕ)
   pub within : count ≤ length text
   pub appended : Appends old new (take count text)
   pub used : RoomFalls before after count
-
--- it holds as many bytes as when a write last failed, where both are told
-abbrev pub IsAtFault : Option (List ℕ) → Option ℕ → Type 0
-IsAtFault None fault_at = ⊤
-IsAtFault (Some bytes) None = ⊤
-IsAtFault (Some bytes) (Some n) = n ≡ length bytes
-
--- a write that fails tells how many bytes are held, and another one leaves what was told
-abbrev pub MarksFault : {E : Type 0} → Option (List ℕ) → Option ℕ → Option ℕ → Result ℕ E → Type 0
-MarksFault held old new r = MatchResult r (λ _. new ≡ old) (λ _. IsAtFault held new)
-
--- one write failed, and nothing was taken after it
-pub record EndsAtFault (held : Option (List ℕ)) (fault_at : Option ℕ) (before now : ℕ) : Type 0 where
-  pub once : now ≡ one_more before
-  pub last : IsAtFault held fault_at
 
 -- the whole text was appended; or a front of it, and then one write failed, and nothing was taken after it
 abbrev pub Tells : Option (List ℕ) → Option (List ℕ) → List ℕ → Option ℕ → ℕ → ℕ → Type 0

@@ -2,9 +2,9 @@
 ghost use Rattle.std.specs.Prelude.{◌≡◌, ◌<◌, ◌≤◌, length, IfOk, None};
 ghost use Rattle.std.specs.Io.{ReadsAtMost};
 ghost use Rattle.std.specs.Io.KnownBytes.{ReadConsumes, WriteAppends};
-ghost use Rattle.streams.specs.Causes.{HasCause, CountsErrors};
-ghost use Rattle.streams.specs.Source.{AsksOnce};
-ghost use Rattle.streams.specs.Sink.{Uses, MarksFault};
+ghost use Rattle.streams.specs.Causes.{HasCause, CountsErrors, MarksFault};
+ghost use Rattle.streams.specs.Source.{AsksOnce, CountsEmpty};
+ghost use Rattle.streams.specs.Sink.{Uses};
 
 use crate::error::Failed;
 use crate::sink::Sink;
@@ -41,12 +41,19 @@ impl<R: Read> Source for ReadSource<R> {
 
     ghost reads = { λ _. None };
 
+    ghost fault_at = { λ _. None };
+
+    ghost empty = { λ _. None };
+
     fn read(&mut self, buf: &mut [u8]) -> Result<usize, Failed>
         ensures bound { ReadsAtMost result buf.new }
         ensures bytes { ReadConsumes (R.remaining (adapted_reader self.old))
             (R.remaining (adapted_reader self.new)) result buf.new }
         ensures cause { HasCause (reader_faults self.old) (reader_faults self.new) result }
+        ensures reads { AsksOnce None None }
         ensures faults { CountsErrors (reader_faults self.old) (reader_faults self.new) result }
+        ensures fault_at { MarksFault (R.remaining (adapted_reader self.new)) None None result }
+        ensures empty { CountsEmpty None None result }
     {
         match self.inner.read(buf) {
             Ok(count) => Ok(count),

@@ -2,9 +2,9 @@
 ghost use Rattle.std.specs.Prelude.{◌≡◌, ◌+◌, ◌<◌, ◌≤◌, ◌↔◌, [], ◌++◌, length, min, Some, IsErr, IfOk, Contains};
 ghost use Rattle.std.specs.Io.{ReadsAtMost};
 ghost use Rattle.std.specs.Io.KnownBytes.{ReadConsumes, WriteAppends};
-ghost use Rattle.streams.specs.Causes.{HasCause, CountsErrors, one_more};
-ghost use Rattle.streams.specs.Source.{AsksOnce};
-ghost use Rattle.streams.specs.Sink.{Uses, MarksFault};
+ghost use Rattle.streams.specs.Causes.{HasCause, CountsErrors, MarksFault, one_more};
+ghost use Rattle.streams.specs.Source.{AsksOnce, CountsEmpty};
+ghost use Rattle.streams.specs.Sink.{Uses};
 
 use crate::error::{Failed, OutOfMemory};
 use crate::sink::Sink;
@@ -40,6 +40,10 @@ impl Source for SureSource {
     ghost faults = { λ _. 0 };
 
     ghost reads = { λ _. None };
+
+    ghost fault_at = { λ _. None };
+
+    ghost empty = { λ _. None };
 
     fn read(&mut self, buf: &mut [u8]) -> Result<usize, Failed>
         ensures bound { ReadsAtMost result buf.new }
@@ -107,10 +111,12 @@ impl Sink for SureSink {
 pub struct MemSource {
     unread: Unread,
     plan: CallPlan,
+    fault_at: usize,
+    empty: u64,
 }
 
 impl MemSource {
-    ghost use Rattle.streams.specs.Memory.{mem_source_left, mem_source_chunk, mem_source_fails, mem_source_calls, mem_source_faults};
+    ghost use Rattle.streams.specs.Memory.{mem_source_left, mem_source_chunk, mem_source_fails, mem_source_calls, mem_source_faults, mem_source_fault_at, mem_source_empty};
 
     /// A source of these bytes. `fails` has the numbers of the reads that fail, counted from 1.
     pub fn new(bytes: Vec<u8>, chunk: usize, fails: Vec<u64>) -> Self
@@ -120,23 +126,31 @@ impl MemSource {
         ensures fails { mem_source_fails result ≡ fails.items }
         ensures calls { mem_source_calls result ≡ 0 }
         ensures faults { mem_source_faults result ≡ 0 }
+        ensures fault_at { mem_source_fault_at result ≡ 0 }
+        ensures empty { mem_source_empty result ≡ 0 }
     {
         MemSource {
             unread: Unread::new(bytes),
             plan: CallPlan::new(chunk, fails),
+            fault_at: 0,
+            empty: 0,
         }
     }
 }
 
 impl Source for MemSource {
     ghost use Rattle.std.specs.Prelude.{Some};
-    ghost use Rattle.streams.specs.Memory.{mem_source_left, mem_source_chunk, mem_source_fails, mem_source_calls, mem_source_faults};
+    ghost use Rattle.streams.specs.Memory.{mem_source_left, mem_source_chunk, mem_source_fails, mem_source_calls, mem_source_faults, mem_source_fault_at, mem_source_empty};
 
     ghost left = { λ s. Some (mem_source_left s) };
 
     ghost faults = { λ s. mem_source_faults s };
 
     ghost reads = { λ s. Some (mem_source_calls s) };
+
+    ghost fault_at = { λ s. Some (mem_source_fault_at s) };
+
+    ghost empty = { λ s. Some (mem_source_empty s) };
 
     fn read(&mut self, buf: &mut [u8]) -> Result<usize, Failed>
         ensures bound { ReadsAtMost result buf.new }
@@ -151,13 +165,27 @@ impl Source for MemSource {
             Contains (mem_source_fails self.old) (mem_source_calls self.new) }
         ensures faults { CountsErrors (mem_source_faults self.old)
             (mem_source_faults self.new) result }
+        ensures fault_at { MarksFault (Some (mem_source_left self.new))
+            (Some (mem_source_fault_at self.old)) (Some (mem_source_fault_at self.new)) result }
+        ensures empty { CountsEmpty (Some (mem_source_empty self.old))
+            (Some (mem_source_empty self.new)) result }
         ensures count { IfOk result (λ n. n ≡ min (mem_source_chunk self.old)
             (min (length buf.old) (length (mem_source_left self.old)))) }
         ensures chunk_kept { mem_source_chunk self.new ≡ mem_source_chunk self.old }
         ensures fails_kept { mem_source_fails self.new ≡ mem_source_fails self.old }
     {
-        let most = self.plan.begin_call()?;
-        Ok(self.unread.give(buf, most))
+        let most = match self.plan.begin_call() {
+            Ok(most) => most,
+            Err(failed) => {
+                self.fault_at = self.unread.len();
+                return Err(failed);
+            }
+        };
+        let count = self.unread.give(buf, most);
+        if count == 0 {
+            self.empty = self.empty.saturating_add(1);
+        }
+        Ok(count)
     }
 }
 

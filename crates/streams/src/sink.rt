@@ -2,8 +2,8 @@
 ghost use Rattle.std.specs.Prelude.{◌≡◌, ◌<◌, ◌≤◌, List, ℕ, length, IfOk, OnOk, OnErr};
 ghost use Rattle.std.specs.declared.option.Option.{Option};
 ghost use Rattle.std.specs.Io.KnownBytes.{WriteAppends, Appends};
-ghost use Rattle.streams.specs.Causes.{HasCause, CountsErrors};
-ghost use Rattle.streams.specs.Sink.{HasRoom, RoomFalls, Uses, GrowsByPrefix, TakesPrefix, MarksFault, EndsAtFault, Tells};
+ghost use Rattle.streams.specs.Causes.{HasCause, CountsErrors, MarksFault, EndsAtFault};
+ghost use Rattle.streams.specs.Sink.{HasRoom, RoomFalls, Uses, GrowsByPrefix, TakesPrefix, Tells};
 
 use crate::error::Failed;
 

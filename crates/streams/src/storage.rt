@@ -28,6 +28,13 @@ impl Unread {
         Unread { bytes, at: 0 }
     }
 
+    /// How many bytes are left.
+    pub fn len(&self) -> usize
+        ensures { result ≡ length self.now }
+    {
+        self.bytes.len() - self.at
+    }
+
     /// Gives at most `most` bytes to the front of the buffer, and returns how many it gave.
     pub fn give(&mut self, buf: &mut [u8], most: usize) -> usize
         ensures count { result ≡ min most (min (length buf.old) (length self.old)) }

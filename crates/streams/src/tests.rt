@@ -21,6 +21,32 @@ impl Read for Broken {
     }
 }
 
+/// A reader whose first read is interrupted, and that is at its end then.
+#[derive(Drop)]
+struct Interrupted {
+    failed: bool,
+}
+
+impl Read for Interrupted {
+    fn read(&mut self, _buf: &mut [u8]) -> io::Result<usize> {
+        if self.failed {
+            return Ok(0);
+        }
+        self.failed = true;
+        Err(Error::from(ErrorKind::Interrupted))
+    }
+}
+
+#[test]
+fn an_error_is_a_fault_and_is_not_tried_again(rt: HostRuntime) -> Result<(), Fail> {
+    let mut source = ReadSource::new(Interrupted { failed: false });
+    let stopped = read_up_to(rt.alloc(), &mut source, 10);
+    assert!(rt; matches!(&stopped, Err(ReadStop::Fault)));
+    let bytes = read_up_to(rt.alloc(), &mut source, 10)?;
+    assert_eq!(rt; bytes.len(), 0);
+    Ok(())
+}
+
 #[test]
 fn a_reader_is_read_to_its_end_or_its_fault(rt: HostRuntime) -> Result<(), Fail> {
     let text: &[u8] = b"0123456789";

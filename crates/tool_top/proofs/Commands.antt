@@ -1,6 +1,6 @@
 -- What the words and the bytes that were read say.
-use Rattle.std.proofs.Common.{◌≡◌, ℕ, ◌+◌, ◌-◌, ◌*◌, ◌<◌, ◌≤◌, inl, inr, List, [], ◌∷◌, ◌++◌, length, get_or, map, drop, refl, sym, ◌∙◌, ap, subst, arith, None, Some, codes}
-use Rattle.std.specs.Prelude.{IfSome, SomeIff, IsSome}
+use Rattle.std.proofs.Common.{◌≡◌, ℕ, ◌<◌, ◌≤◌, inl, inr, List, [], ◌∷◌, ◌++◌, length, get_or, map, drop, refl, sym, ◌∙◌, ap, arith, None, Some, codes}
+use Rattle.std.specs.Prelude.{IfSome, SomeIff}
 use Rattle.std.specs.declared.option.Option.{Option}
 use Rattle.std.specs.Io.KnownBytes.{Consumes, IsAtEnd}
 use Rattle.std.specs.Str.Parse.{digits_value}
@@ -25,6 +25,14 @@ same_three a b c x y z p q r = λ i. p i ∷ q i ∷ r i ∷ []
 pub seed_found : (o : Option ℕ) (words : List (List ℕ)) (number : List ℕ) → words ≡ codes "gen" ∷ codes "--seed" ∷ number ∷ [] → SomeIff o (IsSeed number) (digits_value 10 number) → IfSome o (λ n. IsGen words n)
 seed_found None words number is s = tt
 seed_found (Some n) words number is s = record { number = number; words_are = is; is_seed = s.0; value = s.1 }
+
+pub first_dropped : {A B : Type 0} (f : A → B) (items : List A) → map f (drop 1 items) ≡ drop 1 (map f items)
+first_dropped f [] = refl
+first_dropped f (x ∷ items) = refl
+
+pub none_dropped : {A B : Type 0} (f : A → B) (items : List A) → length items ≡ 0 → map f items ≡ drop 1 (map f items)
+none_dropped f [] none = refl
+none_dropped f (x ∷ items) none = absurd (omega (arith, none))
 
 -- what was read begins what there was to read
 pub read_front : (old new : Option (List ℕ)) (bytes text : List ℕ) → Consumes old new bytes → old ≡ Some text → (rest : List ℕ) × (new ≡ Some rest) × (text ≡ bytes ++ rest)

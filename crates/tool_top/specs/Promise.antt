@@ -57,6 +57,12 @@ IsComplete words left read_before read_now written_before written_now status =
     (n : ℕ) (text : List ℕ) (t : Template) → IsGen words n → left ≡ Some text → Parses text t → (Rose read_before read_now → ⊥) → (Rose written_before written_now → ⊥)
     → (status ≡ 0) ⊎ (status ≡ 8)
 
+-- where the words are accepted, the input is no template and the count of failed reads did not rise, that is said or memory ran out
+abbrev pub IsRefused : List (List ℕ) → Option (List ℕ) → ℕ → ℕ → ℕ → Type 0
+IsRefused words left read_before read_now status =
+    (n : ℕ) (text : List ℕ) → IsGen words n → left ≡ Some text → ((t : Template) → Parses text t → ⊥) → (Rose read_before read_now → ⊥)
+    → (status ≡ 3) ⊎ (status ≡ 8)
+
 -- the line that a status tells
 abbrev pub told_line : ℕ → List ℕ
 told_line status =

@@ -1,5 +1,8 @@
 -- The words that the program takes.
-use Rattle.std.specs.Prelude.{◌≡◌, ℕ, ◌^◌, ◌<◌, ◌≤◌, List, [], ◌∷◌, length, codes}
+use Rattle.std.specs.Prelude.{◌≡◌, ℕ, ◌^◌, ◌<◌, ◌≤◌, List, [], ◌∷◌, length, codes, drop, map, string_bytes, Result, MatchResult, String}
+use Rattle.std.specs.Global.{Global}
+use Rattle.std.specs.Vec.Iter.{into_iter_items}
+use Rattle.std.specs.declared.vec.IntoIter.{IntoIter}
 use Rattle.std.specs.Str.Parse.{IsNumeral, digits_value}
 
 -- one to twenty decimal digits of a number below 2 ^ 64
@@ -14,3 +17,7 @@ pub record IsGen (words : List (List ℕ)) (seed : ℕ) : Type 0 where
   pub words_are : words ≡ codes "gen" ∷ codes "--seed" ∷ number ∷ []
   pub is_seed : IsSeed number
   pub value : seed ≡ digits_value 10 number
+
+-- the words are the arguments behind the first one, which is the program's own name, or none where the arguments can't be told
+abbrev pub AreWordsOf : {E : Type 0} → List (List ℕ) → Result (IntoIter (String Global) Global) E → Type 0
+AreWordsOf words args = MatchResult args (λ it. words ≡ drop 1 (map (λ s. string_bytes s) (into_iter_items it))) (λ _. words ≡ [])

@@ -1,10 +1,10 @@
 // The top call.
 ghost use Rattle.std.specs.Prelude.{◌≡◌, ◌≢◌, ◌≤◌, ℕ, IsTrue};
-ghost use Rattle.streams.specs.Causes.{Rose};
+ghost use Rattle.streams.specs.Causes.{Rose, EndsAtFault};
 ghost use Rattle.streams.specs.Source.{TakesAtMost};
-ghost use Rattle.streams.specs.Sink.{HasRoom, EndsAtFault, Tells};
+ghost use Rattle.streams.specs.Sink.{HasRoom, Tells};
 ghost use Rattle.tool_top.specs.Words.{IsGen};
-ghost use Rattle.tool_top.specs.Promise.{IsDone, IsCutShort, IsNoTemplate, IsAllRead, IsComplete, is_status, told_line};
+ghost use Rattle.tool_top.specs.Promise.{IsDone, IsCutShort, IsNoTemplate, IsAllRead, IsComplete, IsRefused, is_status, told_line};
 
 use crate::making::report_for;
 use crate::words::ArgList;
@@ -43,16 +43,21 @@ pub fn run<S: Source, K: Sink, R: Sink>(
     ensures words { result ≢ 2 → (n : ℕ) × IsGen words.now n }
     ensures template { result ≡ 3 → IsNoTemplate (S.left source.old) }
     ensures read { result ≡ 6 → Rose (S.faults source.old) (S.faults source.new) }
+    ensures read_stopped { result ≡ 6 → EndsAtFault (S.left source.new) (S.fault_at source.new) (S.faults source.old) (S.faults source.new) }
+    ensures no_read_failed { result ≢ 6 → S.faults source.new ≡ S.faults source.old }
     ensures write { result ≡ 7 → Rose (K.faults out.old) (K.faults out.new) }
     ensures prefix { result ≡ 7 → IsCutShort (S.left source.old) (K.held out.old) (K.held out.new) }
     ensures stopped { result ≡ 7 → EndsAtFault (K.held out.new) (K.fault_at out.new) (K.faults out.old) (K.faults out.new) }
-    ensures none_failed { result ≢ 7 → K.faults out.new ≡ K.faults out.old }
+    ensures no_write_failed { result ≢ 7 → K.faults out.new ≡ K.faults out.old }
 
     // A valid command on a valid input is done, or memory ran out, where no count of faults rose.
     ensures complete { IsComplete words.now (S.left source.old) (S.faults source.old) (S.faults source.new) (K.faults out.old) (K.faults out.new) result }
 
+    // A valid command on what is no template is refused, or memory ran out, where no read failed.
+    ensures refused { IsRefused words.now (S.left source.old) (S.faults source.old) (S.faults source.new) result }
+
     // What is read and written beside that.
-    ensures taken { TakesAtMost (S.left source.old) (S.left source.new) (S.reads source.old) (S.reads source.new) 65537 }
+    ensures taken { TakesAtMost (S.left source.old) (S.left source.new) (S.reads source.old) (S.reads source.new) (S.empty source.old) (S.empty source.new) 65537 }
     ensures input { IsAllRead (S.left source.old) (S.left source.new) result }
     ensures unread { result ≡ 2 → source.new ≡ source.old }
     ensures out { result ≢ 0 → result ≢ 7 → out.new ≡ out.old }

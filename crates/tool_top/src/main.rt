@@ -12,23 +12,16 @@ use command::run;
 use std::env;
 use std::process::ExitCode;
 use streams::{ReadSource, WriteSink};
-use words::ArgList;
+use words::words_of;
 
 /// The status that says that memory ran out.
 const NO_MEMORY: u8 = 8;
 
 fn main(rt: HostRuntime) -> ExitCode {
     let alloc = rt.alloc();
-    let mut words = ArgList::new(alloc);
-    let Ok(args) = env::args(&rt) else {
+    let Ok(words) = words_of(alloc, env::args(&rt)) else {
         return ExitCode::from(NO_MEMORY);
     };
-    // The first argument is the program's own name.
-    for arg in args.skip(1) {
-        if words.push(alloc, arg.as_str()).is_err() {
-            return ExitCode::from(NO_MEMORY);
-        }
-    }
     let mut source = ReadSource::new(rt.stdin());
     let mut out = WriteSink::new(rt.stdout());
     let mut report = WriteSink::new(rt.stderr());

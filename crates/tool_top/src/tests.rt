@@ -2,8 +2,9 @@ ghost use Rattle.std.specs.Prelude.{◌≤◌};
 ghost use Rattle.streams.specs.Sink.{HasRoom};
 
 use crate::command::run;
-use crate::words::ArgList;
+use crate::words::{ArgList, words_of};
 use std::alloc::{AllocError, Global};
+use std::io::{Error, ErrorKind};
 use std::test::Fail;
 use streams::{MemSink, MemSource, ReadSource, Sink, Source, SureSink, SureSource, WriteSink};
 
@@ -193,6 +194,23 @@ fn other_words_are_told_the_usage(rt: HostRuntime) -> Result<(), Fail> {
         assert_eq!(rt; out.bytes().len(), 0);
         assert_eq!(rt; report.bytes(), USAGE.as_bytes());
     }
+    Ok(())
+}
+
+#[test]
+fn the_words_stand_behind_the_program_s_name(rt: HostRuntime) -> Result<(), Fail> {
+    let alloc = rt.alloc();
+    let mut arguments = Vec::new(alloc);
+    for argument in ["testgen", "gen", "--seed", "7"] {
+        arguments.push(String::from_str(alloc, argument)?)?;
+    }
+    let words = words_of(alloc, Ok(arguments.into_iter()))?;
+    assert_eq!(rt; words.seed(), Some(7));
+
+    let none = words_of(alloc, Err(Error::from(ErrorKind::InvalidData)))?;
+    assert_eq!(rt; none.seed(), None);
+    let refused = words_of(alloc, Err(Error::from(ErrorKind::OutOfMemory)));
+    assert!(rt; refused.is_err());
     Ok(())
 }
 

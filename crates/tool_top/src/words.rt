@@ -1,9 +1,13 @@
 // The words of the command line.
-ghost use Rattle.std.specs.Prelude.{◌≡◌, ℕ, Some, [], ◌∷◌, ◌++◌, OnOk, OnErr, IfSome, SomeIff};
+ghost use Rattle.std.specs.Prelude.{◌≡◌, ℕ, Some, [], ◌∷◌, ◌++◌, drop, map, string_bytes, IfOk, OnOk, OnErr, IfSome, SomeIff};
+ghost use Rattle.std.specs.Vec.Iter.{into_iter_items};
 ghost use Rattle.std.specs.Str.Parse.{digits_value};
-ghost use Rattle.tool_top.specs.Words.{IsSeed, IsGen};
+ghost use Rattle.tool_top.specs.Words.{IsSeed, IsGen, AreWordsOf};
 
 use std::alloc::{AllocError, Global};
+use std::env::Args;
+use std::io;
+use std::io::ErrorKind;
 use std::marker::Model;
 
 /// The words after the program's name, which a contract sees as the list of their bytes.
@@ -30,6 +34,17 @@ impl ArgList {
         }
     }
 
+    /// The words behind the first one of a program's arguments, its own name.
+    pub fn from_args(alloc: Global, args: Args) -> Result<Self, AllocError>
+        ensures { IfOk result (λ a. a ≡ drop 1 (map (λ s. string_bytes s) (into_iter_items args))) }
+    {
+        let mut texts: Vec<String> = args.collect(alloc)?;
+        if !texts.is_empty() {
+            texts.remove(0);
+        }
+        Ok(ArgList { texts })
+    }
+
     /// Puts a word at the end. Without memory for it the list stays as it is.
     pub fn push(&mut self, alloc: Global, word: &str) -> Result<(), AllocError>
         ensures ok { OnOk result (self.new ≡ self.old ++ word.now ∷ []) }
@@ -51,6 +66,18 @@ impl ArgList {
             }
             _ => None,
         }
+    }
+}
+
+/// The words of a program's arguments, or memory ran out. The program takes no word that is not
+/// UTF-8: with such a word among them no word is passed on.
+pub fn words_of(alloc: Global, args: io::Result<Args>) -> Result<ArgList, AllocError>
+    ensures { IfOk result (λ a. AreWordsOf a args) }
+{
+    match args {
+        Ok(args) => ArgList::from_args(alloc, args),
+        Err(e) if e.kind() == ErrorKind::InvalidData => Ok(ArgList::new(alloc)),
+        Err(_) => Err(AllocError),
     }
 }
 

@@ -10,4 +10,4 @@ mod steps;
 mod tests;
 
 pub use error::OutOfMemory;
-pub use printing::{push_report, report};
+pub use printing::report;

@@ -37,7 +37,7 @@ fn push_count(text: &mut String, harts: usize) -> Result<(), AllocError>
 
 /// Writes the report of a certificate.
 #[tactic(auto, unfolding(crate::specs::Report::report_text))]
-pub fn push_report(text: &mut String, cert: &Cert) -> Result<(), AllocError>
+fn push_report(text: &mut String, cert: &Cert) -> Result<(), AllocError>
     requires traces { length cert.now.traces ≡ length cert.now.start }
     requires finals { length cert.now.finals ≡ length cert.now.start }
     ensures { OnOk result (string_bytes text.new ≡ string_bytes text.old ++ report_text cert.now) }

@@ -1,4 +1,4 @@
-use Rattle.std.proofs.Common.{length, ap, ◌∙◌, arith, length-drop}
+use Rattle.std.proofs.Common.{length, ap, ◌∙◌, length-drop}
 use Rattle.std.proofs.lemmas.List.{take_rest}
 use Rattle.streams.proofs.Written.{written_more, HasRoom-after}
 use Rattle.streams.proofs.sink.write_whole.Goals as goal

@@ -8,7 +8,8 @@ invariant-loop-buf g l = record {
   taken : Consumes (g.S.Source.left l.initial.source) (g.S.Source.left l.source) l.bytes.items;
   bound : length l.bytes.items ≤ l.limit;
   asked : AsksAtMost (g.S.Source.reads l.initial.source) (g.S.Source.reads l.source) (length l.bytes.items);
-  later : g.S.Source.faults l.initial.source ≤ g.S.Source.faults l.source;
+  none_failed : g.S.Source.faults l.source ≡ g.S.Source.faults l.initial.source;
+  none_empty : g.S.Source.empty l.source ≡ g.S.Source.empty l.initial.source;
   idle : l.limit ≡ 0 → l.source ≡ l.initial.source;
 }
 
