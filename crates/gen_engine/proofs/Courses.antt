@@ -1,29 +1,27 @@
 -- The course of a whole hart over the code of leaves.
-use Rattle.std.proofs.Common.{◌≡◌, ◌≢◌, ℕ, zero, suc, ◌+◌, ◌-◌, ◌*◌, ◌/◌, ◌%◌, ◌^◌, ◌<◌, ◌≤◌, Bool, true, false, List, [], ◌∷◌, ◌++◌, length, map, Option, Some, None, refl, sym, ap, ◌∙◌, subst, inl, inr, ◌⊎◌, arith, if◌then◌else◌}
+use Rattle.std.proofs.Common.{◌≡◌, ℕ, suc, ◌+◌, ◌*◌, ◌/◌, ◌%◌, ◌^◌, ◌<◌, Bool, true, List, [], ◌∷◌, length, map, Option, Some, None, refl, sym, ap, ◌∙◌, subst, inl, inr, arith}
 use Rattle.std.specs.Prelude.{slice_index_or}
-use Rattle.std.specs.Option.{unwrap_or, is_some, IsSome}
+use Rattle.std.specs.Option.{unwrap_or, IsSome}
 use Rattle.rv_script.specs.declared.access.Access.{Access}
-use Rattle.rv_script.specs.declared.place.Place.{Place}
-use Rattle.rv_script.specs.Lists.{HasItem}
 use Rattle.rv_script.specs.Bytes.{is_look}
-use Rattle.rv_script.specs.Folds.{Answer.Does, answer_on}
+use Rattle.rv_script.specs.Folds.{Answer.Does}
 use Rattle.rv_script.specs.Memory.{memory_after}
 use Rattle.rv_hart.specs.declared.record.Change.{Change}
 use Rattle.rv_hart.specs.declared.record.Record.{Record}
 use Rattle.rv_hart.specs.Registers.{written}
-use Rattle.rv_hart.specs.Machine.{Fixed, rd_told, retired, script}
-use Rattle.rv_hart.specs.Whole.{WholeHart, record_of, Step, step_of, needed_places, hart_after, file_after}
+use Rattle.rv_hart.specs.Machine.{Fixed, rd_told, retired}
+use Rattle.rv_hart.specs.Whole.{WholeHart, record_of, Step, hart_after}
 use Rattle.tpl_parse.specs.declared.template.Leaf.{Leaf}
 use Rattle.tpl_parse.specs.declared.template.Region.{Region}
-use Rattle.tpl_parse.specs.Form.{IsFit, AreLeavesFit}
-use Rattle.tpl_admit.specs.Starts.{fixed_in, zero_elsewhere, is_in}
-use Rattle.tpl_admit.specs.Solo.{Moment, Solo, solo, solo_on, is_set, knows_also, AreInitialised, knows_after}
+use Rattle.tpl_parse.specs.Form.{AreLeavesFit}
+use Rattle.tpl_admit.specs.Starts.{zero_elsewhere, is_in}
+use Rattle.tpl_admit.specs.Solo.{Moment, Solo, solo, solo_on, knows_also, AreInitialised, knows_after}
 use Rattle.rv_isa.proofs.Codec.{encoded_below}
 use Rattle.tpl_admit.specs.Admission.{instr_of}
-use Rattle.gen_engine.specs.Plan.{leaf_word, leaf_value, leaf_write, leaf_record, fetch_of, records_from, regs_from}
+use Rattle.gen_engine.specs.Plan.{leaf_word, leaf_value, leaf_write, fetch_of, records_from, regs_from}
 use Rattle.gen_engine.specs.Code.{AreKnown}
 use Rattle.gen_engine.proofs.Leaves.{leaf_answered, leaf_decoded, encoded}
-use Rattle.gen_engine.proofs.Machines.{Takes, takes, looks_leave, Shows, shows_write, written_size, written_zero, known_of, fixed_at, has_known, known_set, regs_known}
+use Rattle.gen_engine.proofs.Machines.{Takes, takes, looks_leave, Shows, shows_write, written_size, written_zero, known_of, fixed_at, has_known, known_set}
 
 -- the words of the leaves stand in memory from a pc on, in RAM
 abbrev pub AreThere : Region → (ℕ → Option ℕ) → ℕ → List Leaf → Type 0

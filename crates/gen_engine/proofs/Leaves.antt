@@ -1,25 +1,20 @@
 -- The step of a leaf on a hart that stands before it.
-use Rattle.std.proofs.Common.{◌≡◌, ℕ, ◌+◌, ◌-◌, ◌*◌, ◌/◌, ◌%◌, ◌^◌, ◌<◌, ◌≤◌, true, false, List, [], ◌∷◌, length, Option, Some, None, refl, sym, ap, ◌∙◌, subst, inl, inr, ◌⊎◌, ◌&&◌, arith, if◌then◌else◌}
+use Rattle.std.proofs.Common.{◌≡◌, ℕ, ◌+◌, ◌-◌, ◌%◌, ◌^◌, ◌<◌, ◌≤◌, true, List, [], ◌∷◌, Option, Some, None, refl, sym, ap, ◌∙◌, inl, inr, ◌⊎◌, ◌&&◌, arith, if◌then◌else◌}
 use Rattle.std.specs.Prelude.{slice_index_or}
 use Rattle.std.specs.Option.{unwrap_or, IsSome}
 use Rattle.std.proofs.lemmas.Bool.{lt-ltb, le-ltb}
-use Rattle.rv_isa.specs.declared.instruction.Instr.{Instr}
-use Rattle.rv_isa.specs.Encoding.{Fits, IsEncoded, sign_extended, word_of}
+use Rattle.rv_isa.specs.Encoding.{Fits, IsEncoded, sign_extended}
 use Rattle.rv_isa.specs.Reading.{decoded}
 use Rattle.rv_isa.proofs.Codec.{read_encoded, encoded_below}
-use Rattle.rv_script.specs.declared.access.Access.{Access}
-use Rattle.rv_script.specs.declared.place.Place.{Place}
 use Rattle.rv_script.specs.declared.place.Place.TheVariants.{Reg, Word}
 use Rattle.rv_script.specs.Bytes.{word_address, part_of}
 use Rattle.rv_script.specs.Script.{Question.OfMemory, access_of, Script, Script.Outside, Label.Fetched, ◌>>=◌, read}
-use Rattle.rv_script.specs.Folds.{Known, by_known, Answer, Answer.Does, answer_on, prefixed, noted, on_told, play}
+use Rattle.rv_script.specs.Folds.{Known, Answer.Does, answer_on, prefixed, noted, on_told}
 use Rattle.rv_hart.specs.declared.csrs.Priv.{Priv}
 use Rattle.rv_hart.specs.declared.hart.Hart.{Hart}
-use Rattle.rv_hart.specs.declared.memory.Seen.{Seen}
 use Rattle.rv_hart.specs.declared.record.Change.{Change}
 use Rattle.rv_hart.specs.declared.record.Outcome.TheVariants.{Retired}
 use Rattle.rv_hart.specs.declared.record.Record.{Record}
-use Rattle.rv_hart.specs.declared.record.Stepped.{Stepped}
 use Rattle.rv_hart.specs.declared.record.Stepped.TheVariants.{Did}
 use Rattle.rv_hart.specs.Whole.{record_of}
 use Rattle.rv_hart.specs.View.{known, fixed_of, shown, known_word, is_there}

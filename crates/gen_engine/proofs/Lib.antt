@@ -3,3 +3,4 @@ pub mod Lists
 pub mod Machines
 pub mod Courses
 pub mod Validity
+pub mod Files

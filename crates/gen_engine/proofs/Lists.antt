@@ -1,12 +1,10 @@
 -- Leaves one after another in lists.
-use Rattle.std.proofs.Common.{◌≡◌, ℕ, zero, suc, ◌+◌, ◌-◌, ◌*◌, ◌/◌, ◌%◌, ◌^◌, ◌<◌, ◌≤◌, List, [], ◌∷◌, ◌++◌, length, map, drop, Option, Some, None, refl, sym, ap, ◌∙◌, subst, arith, true, if◌then◌else◌, append_assoc, add-one}
-use Rattle.std.specs.Prelude.{slice_get, slice_index_or}
-use Rattle.std.specs.Option.{IsSome}
+use Rattle.std.proofs.Common.{◌≡◌, ℕ, zero, suc, ◌+◌, ◌-◌, ◌*◌, ◌/◌, ◌<◌, ◌≤◌, List, [], ◌∷◌, ◌++◌, length, map, drop, Option, Some, refl, sym, ap, ◌∙◌, subst, arith, true, append_assoc, add-one}
+use Rattle.std.specs.Prelude.{slice_get}
 use Rattle.std.proofs.lemmas.Bool.{le-leb, lt-ltb, and_from}
 use Rattle.rv_hart.specs.declared.csrs.Priv.TheVariants.{M}
 use Rattle.rv_hart.specs.declared.hart.Hart.{Hart}
-use Rattle.rv_hart.specs.declared.memory.Seen.{Seen}
-use Rattle.rv_hart.specs.declared.memory.Seen.TheVariants.{Known, Untouched, Vacant}
+use Rattle.rv_hart.specs.declared.memory.Seen.TheVariants.{Known}
 use Rattle.rv_hart.specs.declared.record.Record.{Record}
 use Rattle.rv_hart.specs.Registers.{written}
 use Rattle.tpl_parse.specs.declared.template.Leaf.{Leaf}
@@ -14,7 +12,7 @@ use Rattle.tpl_parse.specs.declared.template.Region.{Region}
 use Rattle.tpl_parse.specs.Form.{IsFit, AreLeavesFit}
 use Rattle.tpl_admit.specs.Starts.{is_in}
 use Rattle.gen_engine.specs.Plan.{leaf_word, leaf_write, leaf_record, records_from, regs_from}
-use Rattle.gen_engine.specs.Code.{code_at, seen_word, AreKnown, IsAt, IsReady}
+use Rattle.gen_engine.specs.Code.{code_at, AreKnown, IsAt, IsReady}
 
 -- the item at a place, and what follows it
 pub record IsItem {A : Type 0} (items : List A) (i : ℕ) (x : A) : Type 0 where

@@ -1,10 +1,10 @@
 -- A whole hart over the code does what its leaves say.
-use Rattle.std.proofs.Common.{◌≡◌, ◌≢◌, ℕ, zero, suc, ◌+◌, ◌-◌, ◌*◌, ◌/◌, ◌%◌, ◌^◌, ◌<◌, ◌≤◌, ◌||◌, Bool, true, false, cond, eqb, List, [], ◌∷◌, ◌++◌, length, map, drop, Option, Some, None, refl, sym, ap, ◌∙◌, subst, inl, inr, ◌⊎◌, arith, if◌then◌else◌, get_or}
-use Rattle.std.specs.Prelude.{slice_index_or, replicate}
+use Rattle.std.proofs.Common.{◌≡◌, ◌≢◌, ℕ, ◌/◌, ◌<◌, Bool, true, false, eqb, List, [], ◌∷◌, length, map, Option, Some, None, refl, sym, ap, ◌∙◌, subst, inl, inr, arith, if◌then◌else◌}
+use Rattle.std.specs.Prelude.{slice_index_or}
 use Rattle.std.specs.Option.{unwrap_or, is_some, IsSome}
 use Rattle.std.proofs.Math.ListN.{set}
 use Rattle.std.proofs.Math.Path.{fun_ext}
-use Rattle.std.proofs.lemmas.Bool.{cases_Bool, cases_eq, eq-eqb, ne_eqb, eqb-true, or_left, or_right}
+use Rattle.std.proofs.lemmas.Bool.{cases_Bool, cases_eq, eq-eqb, ne_eqb}
 use Rattle.std.proofs.lemmas.List.{get_or-set_same, get_or-set_other, length-set}
 use Rattle.rv_script.specs.declared.access.Access.{Access}
 use Rattle.rv_script.specs.declared.access.Role.{Role}
@@ -13,13 +13,13 @@ use Rattle.rv_script.specs.declared.place.Place.{Place}
 use Rattle.rv_script.specs.declared.place.Place.TheVariants.{Reg, Csr, Word}
 use Rattle.rv_script.specs.Lists.{HasItem}
 use Rattle.rv_script.specs.Bytes.{is_look}
-use Rattle.rv_script.specs.Script.{Question, place_of, access_of}
-use Rattle.rv_script.specs.Folds.{Known, Teller, by_known, Answer, Answer.Does, Answer.Missing, Answer.Nowhere, answer_on, Entry, Sight, asked_of, result_of, accesses_of, or_next, first_missing, answer_by}
+use Rattle.rv_script.specs.Script.{place_of, access_of}
+use Rattle.rv_script.specs.Folds.{Known, Teller, by_known, Answer.Does, answer_on, Entry, Sight, asked_of, result_of, accesses_of, or_next, first_missing, answer_by}
 use Rattle.rv_script.specs.Memory.{word_after, accessed, memory_after}
 use Rattle.rv_script.proofs.Wholes.{whole}
 use Rattle.rv_hart.specs.declared.record.Change.{Change}
 use Rattle.rv_hart.specs.Machine.{Fixed, script}
-use Rattle.rv_hart.specs.Whole.{WholeHart, value_at, sight_of, record_of, Step, planned, step_of, needed_places, sighted_step_of}
+use Rattle.rv_hart.specs.Whole.{WholeHart, value_at, sight_of, record_of, planned, step_of, needed_places, sighted_step_of}
 use Rattle.rv_hart.specs.Registers.{written}
 use Rattle.rv_hart.specs.Machine.{rd_told}
 use Rattle.rv_hart.specs.Whole.{file_after}

@@ -1,15 +1,14 @@
 -- The certificate of a template is valid.
-use Rattle.std.proofs.Common.{◌≡◌, ◌≢◌, ℕ, zero, suc, ◌+◌, ◌-◌, ◌*◌, ◌/◌, ◌%◌, ◌^◌, ◌<◌, ◌≤◌, Bool, true, false, eqb, leb, List, [], ◌∷◌, ◌++◌, length, map, drop, Option, Some, None, refl, sym, ap, ◌∙◌, subst, inl, inr, ◌⊎◌, arith, if◌then◌else◌}
-use Rattle.std.specs.Prelude.{slice_index_or, replicate, sum_by}
+use Rattle.std.proofs.Common.{◌≡◌, ℕ, zero, suc, ◌+◌, ◌-◌, ◌*◌, ◌/◌, ◌%◌, ◌^◌, ◌<◌, ◌≤◌, true, false, leb, List, [], ◌∷◌, length, map, drop, Option, Some, None, refl, sym, ap, ◌∙◌, subst, inl, inr, arith, if◌then◌else◌}
+use Rattle.std.specs.Prelude.{slice_index_or, replicate}
 use Rattle.std.specs.Option.{unwrap_or, is_some, IsSome}
-use Rattle.std.proofs.lemmas.Bool.{cases_Bool, cases_eq, cases_lt, eq-eqb, ne_eqb, eqb-true, le-leb, lt-leb, and_from, lt-ltb}
+use Rattle.std.proofs.lemmas.Bool.{cases_Bool, cases_eq, cases_lt, eq-eqb, ne_eqb, le-leb, and_from, lt-ltb}
 use Rattle.std.proofs.lemmas.Bool.Decides.{nat_tests}
 use Rattle.std.proofs.Math.ListN.{set}
 use Rattle.std.proofs.lemmas.List.{get_or-replicate, get_or_past, length-map, length-drop, get_or-set_same, get_or-set_other}
 use Rattle.rv_script.specs.declared.access.Access.{Access}
 use Rattle.rv_script.specs.Lists.{HasItem}
 use Rattle.rv_script.specs.Bytes.{is_look}
-use Rattle.rv_script.specs.Memory.{memory_after}
 use Rattle.rv_hart.specs.declared.csrs.Priv.TheVariants.{M}
 use Rattle.rv_hart.specs.declared.hart.Hart.{Hart}
 use Rattle.rv_hart.specs.declared.record.Record.{Record}
@@ -18,20 +17,19 @@ use Rattle.rv_hart.specs.Machine.{rd_told}
 use Rattle.tpl_parse.specs.declared.template.Leaf.{Leaf}
 use Rattle.tpl_parse.specs.declared.template.Region.{Region}
 use Rattle.tpl_parse.specs.declared.template.Template.{Template}
-use Rattle.tpl_parse.specs.Form.{IsFit, AreLeavesFit, HasTarget, AreFed, IsAllowed}
-use Rattle.tpl_admit.specs.declared.certificate.Cert.{Cert}
-use Rattle.tpl_admit.specs.Starts.{found, trace_of, word_of, first_hart, first_memory, zero_elsewhere, is_in, is_given, start_of, final_of, ArePlaces, AreStartWords}
-use Rattle.tpl_admit.specs.Races.{footprint_of, IsRaceFree, Meet}
-use Rattle.tpl_admit.specs.Solo.{Solo, solo, solo_run, knows_after}
-use Rattle.tpl_admit.specs.Admission.{instr_of, Meets, AreMet}
+use Rattle.tpl_parse.specs.Form.{AreLeavesFit, HasTarget, AreFed, IsAllowed}
+use Rattle.tpl_admit.specs.Starts.{found, trace_of, word_of, first_hart, first_memory, is_given, start_of, final_of, ArePlaces, AreStartWords}
+use Rattle.tpl_admit.specs.Races.{footprint_of}
+use Rattle.tpl_admit.specs.Solo.{solo, solo_run}
+use Rattle.tpl_admit.specs.Admission.{instr_of, AreMet}
 use Rattle.tpl_admit.specs.Validity.{IsHartValid, IsValid}
 use Rattle.tpl_admit.specs.Sizes.{trace_size, certificate_size}
 use Rattle.rv_isa.proofs.Codec.{encoded_below}
-use Rattle.gen_engine.specs.Plan.{leaf_word, leaf_write, leaf_value, leaf_record, fetch_of, records_from, regs_from, placed, known_from, state_at, assembled, planned}
+use Rattle.gen_engine.specs.Plan.{leaf_word, leaf_write, leaf_value, records_from, regs_from, placed, known_from, assembled, planned}
 use Rattle.gen_engine.specs.Given.{addresses, GivesCodeAlone}
 use Rattle.gen_engine.specs.Code.{AreKnown, IsReady}
 use Rattle.gen_engine.proofs.Leaves.{encoded}
-use Rattle.gen_engine.proofs.Machines.{looks_leave, regs_known, Shows, written_size, written_zero, fixed_at}
+use Rattle.gen_engine.proofs.Machines.{looks_leave, regs_known, written_size, written_zero}
 use Rattle.gen_engine.proofs.Courses.{AreThere, Before, Course, course}
 
 -- ---- sources
@@ -123,7 +121,7 @@ all_met : (pc : ℕ) (regs : List (Option ℕ)) (ls : List Leaf) → AreLeavesFi
 all_met pc regs [] fit = tt
 all_met pc regs (l ∷ ls) fit = (record { word = encoded l fit.0; outcome = refl }, all_met (pc + 4) (written (leaf_write regs l) regs) ls fit.1)
 
-records_length : (pc : ℕ) (regs : List (Option ℕ)) (ls : List Leaf) → length (records_from pc regs ls) ≡ length ls
+pub records_length : (pc : ℕ) (regs : List (Option ℕ)) (ls : List Leaf) → length (records_from pc regs ls) ≡ length ls
 records_length pc regs [] = refl
 records_length pc regs (l ∷ ls) = ap suc (records_length (pc + 4) (written (leaf_write regs l) regs) ls)
 
@@ -188,7 +186,7 @@ regs_length : (regs : List (Option ℕ)) (ls : List Leaf) → length regs ≡ 32
 regs_length regs [] size = size
 regs_length regs (l ∷ ls) size = regs_length (written (leaf_write regs l) regs) ls (written_size regs l.rd (leaf_value regs l) size)
 
-places_length : (t : Template) → length (drop 1 (regs_from no_registers t.leaves)) ≡ 31
+pub places_length : (t : Template) → length (drop 1 (regs_from no_registers t.leaves)) ≡ 31
 places_length t = length-drop 1 (regs_from no_registers t.leaves) ∙ ap (λ (n : ℕ). n - 1) (regs_length no_registers t.leaves refl)
 
 -- the registers that are known hold words
@@ -328,11 +326,11 @@ two_each : (pc : ℕ) (regs : List (Option ℕ)) (ls : List Leaf) → trace_size
 two_each pc regs [] = refl
 two_each pc regs (l ∷ ls) = let ih = two_each (pc + 4) (written (leaf_write regs l) regs) ls in omega (arith, ih)
 
-placed_length : (base : ℕ) (ws : List ℕ) → length (placed base ws) ≡ length ws
+pub placed_length : (base : ℕ) (ws : List ℕ) → length (placed base ws) ≡ length ws
 placed_length base [] = refl
 placed_length base (w ∷ ws) = ap suc (placed_length (base + 4) ws)
 
-known_length : (n : ℕ) (regs : List (Option ℕ)) → length (known_from n regs) ≤ length regs
+pub known_length : (n : ℕ) (regs : List (Option ℕ)) → length (known_from n regs) ≤ length regs
 known_length n [] = omega arith
 known_length n (None ∷ regs) = let ih = known_length (n + 1) regs in omega (arith, ih)
 known_length n (Some v ∷ regs) = let ih = known_length (n + 1) regs in omega (arith, ih)

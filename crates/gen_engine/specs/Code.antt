@@ -1,7 +1,6 @@
 -- Memory of which the code is known, and harts that stand before it.
-use Rattle.std.specs.Prelude.{◌≡◌, ℕ, ◌+◌, ◌-◌, ◌*◌, ◌/◌, ◌%◌, ◌^◌, ◌≤◌, ◌<◌, nat_le, if◌then◌else◌, List, [], ◌∷◌, length, map, slice_get, slice_index_or, Option, Some, None}
-use Rattle.std.specs.Option.{unwrap_or, IsSome}
-use Rattle.rv_hart.specs.declared.csrs.Csrs.{Csrs}
+use Rattle.std.specs.Prelude.{◌≡◌, ℕ, ◌+◌, ◌-◌, ◌*◌, ◌/◌, ◌^◌, ◌≤◌, ◌<◌, nat_le, if◌then◌else◌, List, [], ◌∷◌, length, map, slice_get, slice_index_or, Option, Some, None}
+use Rattle.std.specs.Option.{IsSome}
 use Rattle.rv_hart.specs.declared.csrs.Priv.TheVariants.{M}
 use Rattle.rv_hart.specs.declared.hart.Hart.{Hart}
 use Rattle.rv_hart.specs.declared.memory.Seen.{Seen}

@@ -1,8 +1,6 @@
 -- What a certificate gives at its start.
 use Rattle.std.specs.Prelude.{◌≡◌, ℕ, zero, suc, ◌+◌, List, [], ◌∷◌, map, length}
-use Rattle.tpl_parse.specs.declared.template.Leaf.{Leaf}
 use Rattle.tpl_admit.specs.declared.certificate.Cert.{Cert}
-use Rattle.tpl_admit.specs.declared.certificate.HartState.{HartState}
 use Rattle.tpl_admit.specs.Starts.{start_of}
 
 -- the addresses of n words, one after another

@@ -1,10 +1,11 @@
 // From a template to a certificate.
 ghost use Rattle.std.specs.Prelude.{◌≡◌, ◌≤◌, ◌+◌, ◌*◌, ◌<◌, length, IfOk};
 ghost use Rattle.tpl_parse.specs.declared.template.Leaf.{Leaf as ALeaf};
-ghost use Rattle.tpl_parse.specs.Form.{IsAllowed};
+ghost use Rattle.tpl_parse.specs.Form.{Parses};
 ghost use Rattle.tpl_admit.specs.Validity.{IsValid};
 ghost use Rattle.tpl_admit.specs.Faithfulness.{IsFaithful};
 ghost use Rattle.tpl_admit.specs.Sizes.{certificate_size};
+ghost use Rattle.tpl_admit.specs.WellFormed.{IsWellFormed};
 ghost use Rattle.rv_hart.specs.Registers.{written};
 ghost use Rattle.gen_engine.specs.Plan.{leaf_record, leaf_write, records_from, regs_from, planned};
 ghost use Rattle.gen_engine.specs.Given.{GivesCodeAlone};
@@ -55,9 +56,10 @@ fn records_of(
 /// The certificate of a template: the steps of its leaves on a hart of which no register is known, over memory of
 /// which the leaves' words alone are known.
 pub fn generate(alloc: Global, template: Template) -> Result<Cert, OutOfMemory>
-    requires { IsAllowed template }
+    requires { Parses template.text template }
     ensures exact { IfOk result (λ c. c ≡ planned template) }
     ensures template { IfOk result (λ c. c.template ≡ template) }
+    ensures well_formed { IfOk result IsWellFormed }
     ensures valid { IfOk result IsValid }
     ensures faithful { IfOk result IsFaithful }
     ensures given { IfOk result GivesCodeAlone }

@@ -52,6 +52,7 @@ pub fn write_whole<K: Sink>(sink: &mut K, text: &[u8]) -> Result<(), Failed>
         (K.faults sink.old) (K.faults sink.new) }
     ensures cause { HasCause (K.faults sink.old) (K.faults sink.new) result }
     ensures faults { CountsErrors (K.faults sink.old) (K.faults sink.new) result }
+    ensures nothing_asked { length text.now ≡ 0 → sink.new ≡ sink.old }
 {
     let mut rest = text;
     while !rest.is_empty() {

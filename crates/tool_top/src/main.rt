@@ -1,4 +1,4 @@
-//! The program testgen: from a template on standard input to a report on standard output. `run` is the top call,
+//! The program testgen: from a template on standard input to an ELF file on standard output and its report on standard error. `run` is the top call,
 //! over any source and any sinks, and carries the promise of the whole tool.
 #![tactic(auto)]
 
@@ -7,6 +7,7 @@ mod making;
 #[cfg(test)]
 mod tests;
 mod words;
+mod writing;
 
 use command::run;
 use std::env;

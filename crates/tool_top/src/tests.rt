@@ -12,6 +12,8 @@ const ROOM: usize = 16_777_216;
 
 const GEN: [&str; 3] = ["gen", "--seed", "1"];
 
+const LIST: [&str; 3] = ["list", "--seed", "1"];
+
 const ONE_LEAF: &str = "ram 0x80000000 0x80001000
 pool 0x80000000
 hart 0 {
@@ -29,6 +31,28 @@ end 0 pc 80000004 priv m mstatus 00000000 medeleg 00000000 satp 00000000
 final 0 x5 00000007
 word 80000000 00700293 00700293
 ";
+
+/// The file of ONE_LEAF by its parts, in hexadecimal digits.
+const ONE_LEAF_FILE: [&str; 9] = [
+    // the ELF header
+    "7f454c460101010000000000000000000200f3000100000000000080340000000000000000000000340020000200000000000000",
+    // the program header of the notes
+    "0400000074000000000000000000000070010000700100000400000004000000",
+    // the program header of the word
+    "01000000e4010000000000800000008004000000040000000700000004000000",
+    // the start
+    "0500000020000000010000005447454e000000000100000001000000000000800300000000000000000000000000000000000000",
+    // the records
+    "050000002c000000020000005447454e000000000100000000000080930270000400008003ffff05070000000000000001000000000000809302700000040000",
+    // the end
+    "0500000028000000030000005447454e0000000004000080030000000000000000000000000000000100000005000000070000000100000093027000",
+    // the template
+    "050000008c000000040000005447454e0000000072616d203078383030303030303020307838303030313030300a706f6f6c20307838303030303030300a686172742030207b0a737461727420706320307838303030303030302070726976206d0a626f6479207b0a646f206f7020696e207b616464697d3b20726420696e207b357d3b2072733120696e207b307d3b20696d6d20696e207b377d0a7d0a7d0a",
+    // no choices, names or dropped biases
+    "050000000c000000050000005447454e00000000000000000000000000000000",
+    // the word
+    "93027000",
+];
 
 const NO_LEAF: &str = "ram 0x80000000 0x80001000
 pool 0x80000000
@@ -93,6 +117,42 @@ fn status_of<S: Source, K: Sink, R: Sink>(
     Ok(run(alloc, &list, source, out, report))
 }
 
+/// Bytes in hexadecimal digits.
+fn digits(alloc: Global, bytes: &[u8]) -> Result<String, AllocError> {
+    let mut text = String::new(alloc);
+    for byte in bytes {
+        text.push_str(&format!(in alloc; "{byte:02x}")?)?;
+    }
+    Ok(text)
+}
+
+#[test]
+fn a_template_gives_its_file_and_its_report(rt: HostRuntime) -> Result<(), Fail> {
+    let alloc = rt.alloc();
+    let mut source = SureSource::new(ONE_LEAF.as_bytes().to_vec(alloc)?);
+    let mut out = SureSink::with_room(alloc, ROOM)?;
+    let mut report = SureSink::with_room(alloc, ROOM)?;
+    let status = status_of(alloc, &GEN, &mut source, &mut out, &mut report)?;
+    assert_eq!(rt; status, 0);
+    assert_eq!(rt; report.bytes(), ONE_LEAF_REPORT.as_bytes());
+    assert_eq!(rt; out.bytes().len(), 488);
+    let mut expected = String::new(alloc);
+    for part in ONE_LEAF_FILE {
+        expected.push_str(part)?;
+    }
+    assert_eq!(rt; digits(alloc, out.bytes())?.as_str(), expected.as_str());
+
+    // No leaf: 352 bytes, one program header and no load.
+    let mut source = SureSource::new(NO_LEAF.as_bytes().to_vec(alloc)?);
+    let mut out = SureSink::with_room(alloc, ROOM)?;
+    let mut report = SureSink::with_room(alloc, ROOM)?;
+    let status = status_of(alloc, &GEN, &mut source, &mut out, &mut report)?;
+    assert_eq!(rt; status, 0);
+    assert_eq!(rt; report.bytes(), NO_LEAF_REPORT.as_bytes());
+    assert_eq!(rt; out.bytes().len(), 352);
+    Ok(())
+}
+
 #[test]
 fn templates_give_their_reports(rt: HostRuntime) -> Result<(), Fail> {
     let alloc = rt.alloc();
@@ -104,7 +164,7 @@ fn templates_give_their_reports(rt: HostRuntime) -> Result<(), Fail> {
         let mut source = SureSource::new(text.as_bytes().to_vec(alloc)?);
         let mut out = SureSink::with_room(alloc, ROOM)?;
         let mut report = SureSink::with_room(alloc, ROOM)?;
-        let status = status_of(alloc, &GEN, &mut source, &mut out, &mut report)?;
+        let status = status_of(alloc, &LIST, &mut source, &mut out, &mut report)?;
         assert_eq!(rt; status, 0);
         assert_eq!(rt; out.bytes(), expected.as_bytes());
         assert_eq!(rt; report.bytes().len(), 0);
@@ -123,8 +183,8 @@ fn every_chunk_size_gives_the_same(rt: HostRuntime) -> Result<(), Fail> {
         let mut report = MemSink::with_room(alloc, ROOM, chunk, Vec::new(alloc))?;
         let status = status_of(alloc, &GEN, &mut source, &mut out, &mut report)?;
         assert_eq!(rt; status, 0);
-        assert_eq!(rt; out.bytes(), ONE_LEAF_REPORT.as_bytes());
-        assert_eq!(rt; report.bytes().len(), 0);
+        assert_eq!(rt; out.bytes().len(), 488);
+        assert_eq!(rt; report.bytes(), ONE_LEAF_REPORT.as_bytes());
     }
     Ok(())
 }
@@ -139,8 +199,8 @@ fn readers_and_writers_give_the_same(rt: HostRuntime) -> Result<(), Fail> {
     let mut report = WriteSink::new(&mut told);
     let status = status_of(alloc, &GEN, &mut source, &mut out, &mut report)?;
     assert_eq!(rt; status, 0);
-    assert_eq!(rt; written.as_slice(), ONE_LEAF_REPORT.as_bytes());
-    assert_eq!(rt; told.len(), 0);
+    assert_eq!(rt; written.len(), 488);
+    assert_eq!(rt; told.as_slice(), ONE_LEAF_REPORT.as_bytes());
     Ok(())
 }
 
@@ -205,10 +265,10 @@ fn the_words_stand_behind_the_program_s_name(rt: HostRuntime) -> Result<(), Fail
         arguments.push(String::from_str(alloc, argument)?)?;
     }
     let words = words_of(alloc, Ok(arguments.into_iter()))?;
-    assert_eq!(rt; words.seed(), Some(7));
+    assert_eq!(rt; words.request().map(|request| request.seed), Some(7));
 
     let none = words_of(alloc, Err(Error::from(ErrorKind::InvalidData)))?;
-    assert_eq!(rt; none.seed(), None);
+    assert!(rt; none.request().is_none());
     let refused = words_of(alloc, Err(Error::from(ErrorKind::OutOfMemory)));
     assert!(rt; refused.is_err());
     Ok(())
@@ -246,18 +306,28 @@ fn a_failing_read_is_told(rt: HostRuntime) -> Result<(), Fail> {
 }
 
 #[test]
-fn a_failing_write_leaves_a_front_of_the_report(rt: HostRuntime) -> Result<(), Fail> {
+fn a_failing_write_ends_all_writing(rt: HostRuntime) -> Result<(), Fail> {
     let alloc = rt.alloc();
-    // The report of 298 bytes is written by calls of 100, 100 and 98 bytes.
-    for (call, kept) in [(1u64, 0), (2, 100), (3, 200)] {
+    // The file of 488 bytes is written by calls of 100 bytes and one of 88.
+    for (call, kept) in [(1u64, 0), (3, 200), (5, 400)] {
         let mut source = SureSource::new(ONE_LEAF.as_bytes().to_vec(alloc)?);
         let mut out = MemSink::with_room(alloc, ROOM, 100, vec![in alloc; call]?)?;
         let mut report = SureSink::with_room(alloc, ROOM)?;
         let status = status_of(alloc, &GEN, &mut source, &mut out, &mut report)?;
         assert_eq!(rt; status, 7);
         assert_eq!(rt; out.bytes().len(), kept);
-        assert!(rt; ONE_LEAF_REPORT.as_bytes().starts_with(out.bytes()));
         assert_eq!(rt; report.bytes().len(), 0);
+    }
+    // The report of 298 bytes is written after that, by calls of 100, 100 and 98 bytes.
+    for (call, kept) in [(1u64, 0), (2, 100), (3, 200)] {
+        let mut source = SureSource::new(ONE_LEAF.as_bytes().to_vec(alloc)?);
+        let mut out = SureSink::with_room(alloc, ROOM)?;
+        let mut report = MemSink::with_room(alloc, ROOM, 100, vec![in alloc; call]?)?;
+        let status = status_of(alloc, &GEN, &mut source, &mut out, &mut report)?;
+        assert_eq!(rt; status, 7);
+        assert_eq!(rt; out.bytes().len(), 488);
+        assert_eq!(rt; report.bytes().len(), kept);
+        assert!(rt; ONE_LEAF_REPORT.as_bytes().starts_with(report.bytes()));
     }
     Ok(())
 }
@@ -292,7 +362,7 @@ fn a_frame_is_filled_by_1024_leaves(rt: HostRuntime) -> Result<(), Fail> {
     let status = status_of(alloc, &GEN, &mut source, &mut out, &mut report)?;
     assert_eq!(rt; status, 0);
     // Beside the lines of the harts, the start, the end and two registers: a step and a word for each leaf.
-    let lines = out.bytes().iter().filter(|b| **b == b'\n').count();
+    let lines = report.bytes().iter().filter(|b| **b == b'\n').count();
     assert_eq!(rt; lines, 5 + 2 * 1024);
     Ok(())
 }

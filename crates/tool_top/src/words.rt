@@ -2,13 +2,30 @@
 ghost use Rattle.std.specs.Prelude.{◌≡◌, ℕ, Some, [], ◌∷◌, ◌++◌, drop, map, string_bytes, IfOk, OnOk, OnErr, IfSome, SomeIff};
 ghost use Rattle.std.specs.Vec.Iter.{into_iter_items};
 ghost use Rattle.std.specs.Str.Parse.{digits_value};
-ghost use Rattle.tool_top.specs.Words.{IsSeed, IsGen, AreWordsOf};
+ghost use Rattle.tool_top.specs.declared.words.Command.{Command as ACommand};
+ghost use Rattle.tool_top.specs.Words.{IsSeed, IsRequest, AreWordsOf, name_of, request_of};
 
 use std::alloc::{AllocError, Global};
 use std::env::Args;
 use std::io;
 use std::io::ErrorKind;
 use std::marker::Model;
+
+/// What the program can be asked to do with a template.
+#[derive(Clone, Copy, Debug, PartialEq, Eq)]
+pub enum Command {
+    /// `gen`: the file of its test, and the report.
+    Gen,
+    /// `list`: the report alone.
+    List,
+}
+
+/// What the words ask for.
+#[derive(Clone, Copy, Debug, PartialEq, Eq)]
+pub struct Request {
+    pub command: Command,
+    pub seed: u64,
+}
 
 /// The words after the program's name, which a contract sees as the list of their bytes.
 #[derive(Drop)]
@@ -55,17 +72,31 @@ impl ArgList {
         Ok(())
     }
 
-    /// The seed, where the words are those of `gen`.
-    pub fn seed(&self) -> Option<u64>
-        ensures found { IfSome result (λ n. IsGen self.now n) }
-        ensures only { (n : ℕ) → IsGen self.now n → result ≡ Some n }
+    /// What the words ask for, where they are those of a command.
+    pub fn request(&self) -> Option<Request>
+        ensures found { IfSome result (λ r. IsRequest self.now r.command r.seed) }
+        ensures only { (command : ACommand) (n : ℕ) → IsRequest self.now command n → result ≡ Some (request_of command n) }
     {
         match self.texts.as_slice() {
-            [name, option, number] if name.as_str() == "gen" && option.as_str() == "--seed" => {
-                seed_of(number.as_str())
+            [name, option, number] if option.as_str() == "--seed" => {
+                let command = command_named(name.as_str())?;
+                let seed = seed_of(number.as_str())?;
+                Some(Request { command, seed })
             }
             _ => None,
         }
+    }
+}
+
+/// The command with this name.
+fn command_named(name: &str) -> Option<Command>
+    ensures found { IfSome result (λ c. name.now ≡ name_of c) }
+    ensures only { (c : ACommand) → name.now ≡ name_of c → result ≡ Some c }
+{
+    match name {
+        "gen" => Some(Command::Gen),
+        "list" => Some(Command::List),
+        _ => None,
     }
 }
 

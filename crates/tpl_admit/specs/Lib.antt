@@ -6,3 +6,6 @@ pub mod Admission
 pub mod Validity
 pub mod Faithfulness
 pub mod Sizes
+pub mod WellFormed
+pub mod Unmet
+pub mod Failures

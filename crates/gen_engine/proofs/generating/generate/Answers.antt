@@ -1,17 +1,19 @@
-use Rattle.std.proofs.Common.{List, ℕ, map, sym, ap, subst, ◌≡◌, ◌∙◌, ◌≤◌, ◌+◌, ◌*◌, length}
+use Rattle.std.proofs.Common.{List, map, sym, ap, subst, ◌∙◌, ◌≤◌, ◌+◌, ◌*◌, length}
 use Rattle.tpl_parse.specs.declared.template.Leaf.{Leaf}
 use Rattle.tpl_admit.specs.declared.certificate.Cert.{Cert}
 use Rattle.tpl_admit.specs.Sizes.{certificate_size}
 use Rattle.tpl_admit.specs.Validity.{IsValid}
-use Rattle.gen_engine.specs.Plan.{leaf_word, planned}
+use Rattle.tpl_admit.specs.WellFormed.{IsWellFormed}
+use Rattle.gen_engine.specs.Plan.{leaf_word}
 use Rattle.gen_engine.specs.Given.{GivesCodeAlone}
 use Rattle.rv_system.proofs.Law.{faithful}
+use Rattle.gen_engine.proofs.Files.{planned_well_formed}
 use Rattle.gen_engine.proofs.Validity.{planned_valid, planned_gives, planned_size, is_planned, first_ready}
 use Rattle.gen_engine.proofs.generating.generate.Goals as goal
 
 pub records_of-requires : goal.records_of-requires
 records_of-requires c =
-    first_ready c.args.template c.new-hart.result c.in_ok-words.words.items c.as_slice-2.result.now c.requires c.new-hart.ensures.pc c.new-hart.ensures.privilege c.new-hart.ensures.regs c.as_slice-2.ensures
+    first_ready c.args.template c.new-hart.result c.in_ok-words.words.items c.as_slice-2.result.now c.requires.allowed c.new-hart.ensures.pc c.new-hart.ensures.privilege c.new-hart.ensures.regs c.as_slice-2.ensures
     (c.in_ok-words.ensures ∙ ap (λ (ls : List Leaf). map leaf_word ls) (c.as_slice.ensures ∙ sym c.as_slice-2.ensures))
 
 pub returns-clause-exact : goal.returns-clause-exact
@@ -25,7 +27,10 @@ pub returns-clause-template : goal.returns-clause-template
 returns-clause-template c = ap (λ (x : Cert). x.template) (returns-clause-exact c)
 
 pub returns-clause-valid : goal.returns-clause-valid
-returns-clause-valid c = subst IsValid (sym (returns-clause-exact c)) (planned_valid c.args.template c.requires)
+returns-clause-valid c = subst IsValid (sym (returns-clause-exact c)) (planned_valid c.args.template c.requires.allowed)
+
+pub returns-clause-well_formed : goal.returns-clause-well_formed
+returns-clause-well_formed c = subst IsWellFormed (sym (returns-clause-exact c)) (planned_well_formed c.args.template c.requires)
 
 pub returns-clause-faithful : goal.returns-clause-faithful
 returns-clause-faithful c = faithful c.in_ok-assemble.field-0 (returns-clause-valid c).sound

@@ -1,5 +1,4 @@
-use Rattle.std.proofs.Common.{ℕ, ◌+◌, ◌*◌, ◌∙◌, drop, arith}
-use Rattle.rv_hart.specs.declared.hart.Hart.{Hart}
+use Rattle.std.proofs.Common.{◌∙◌, arith}
 use Rattle.gen_engine.specs.Code.{IsAt}
 use Rattle.gen_engine.proofs.Lists.{item_at, at_leaf, one_more, one_more_write, known_next}
 use Rattle.gen_engine.proofs.generating.records_of.Goals as goal

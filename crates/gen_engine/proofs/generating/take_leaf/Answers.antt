@@ -1,9 +1,7 @@
-use Rattle.std.proofs.Common.{◌≡◌, ℕ, ◌+◌, ◌%◌, ◌^◌, ap, sym, ◌∙◌, arith}
+use Rattle.std.proofs.Common.{◌≡◌, ◌+◌, ◌%◌, ◌^◌, ap, ◌∙◌, arith}
 use Rattle.rv_hart.specs.declared.record.Record.{Record}
-use Rattle.rv_hart.specs.declared.record.Stepped.{Stepped}
-use Rattle.rv_hart.specs.declared.record.Stepped.TheVariants.{Did, Missing, Outside}
 use Rattle.rv_hart.specs.Registers.{written}
-use Rattle.gen_engine.specs.Plan.{leaf_record, leaf_write}
+use Rattle.gen_engine.specs.Plan.{leaf_record}
 use Rattle.gen_engine.proofs.Leaves.{step_is, did_same}
 use Rattle.gen_engine.proofs.generating.take_leaf.Goals as goal
 

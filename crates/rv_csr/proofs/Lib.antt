@@ -1,0 +1,5 @@
+pub mod Fields
+pub mod LegalStatus
+pub mod LegalValues
+pub mod FlagLemmas
+pub mod WriteLemmas

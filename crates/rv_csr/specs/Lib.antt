@@ -1,0 +1,9 @@
+pub mod Privilege
+pub mod Causes
+pub mod Rows
+pub mod Table
+pub mod Status
+pub mod State
+pub mod Access
+pub mod Traps
+pub mod Laws

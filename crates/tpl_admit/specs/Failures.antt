@@ -1,0 +1,110 @@
+-- What is wrong with a certificate that isn't valid: the first failure, in the order in which a check looks for them. Its kind is
+--   1, 2 or 3 of a step of a hart that is run alone: the record isn't the machine's; a place that the step needs was neither given nor
+--     written; the machine has no step
+--   4 of the end: a hart, or memory, isn't as printed
+--   5 of the accesses: they race
+--   6 of the template: it doesn't admit the trace
+use Rattle.std.specs.Prelude.{◌≡◌, ◌≢◌, ℕ, ◌+◌, ◌/◌, ◌<◌, ◌⊎◌, Bool, true, false, if◌then◌else◌, List, [], ◌∷◌, length, map, Option, Some, None}
+use Rattle.rv_script.specs.declared.place.Place.{Place}
+use Rattle.rv_script.specs.Lists.{HasItem}
+use Rattle.rv_script.specs.Memory.{memory_after}
+use Rattle.rv_hart.specs.declared.record.Record.{Record}
+use Rattle.rv_hart.specs.Whole.{WholeHart, Step, step_of, needed_places, hart_after}
+use Rattle.tpl_admit.specs.declared.certificate.Cert.{Cert}
+use Rattle.tpl_admit.specs.Starts.{found, start_of, final_of, trace_of, word_of, fixed_in, first_hart, first_memory, is_given}
+use Rattle.tpl_admit.specs.Races.{footprint_of, IsRaceFree}
+use Rattle.tpl_admit.specs.Solo.{solo_run, is_set, knows_also, knows_after}
+use Rattle.tpl_admit.specs.Validity.{in_turn}
+use Rattle.tpl_admit.specs.Unmet.{IsLeastFailure}
+
+-- each place that the step needs was given or written
+abbrev pub AreSet : (ℕ → Option ℕ) → (ℕ → Bool) → WholeHart → (ℕ → ℕ) → Type 0
+AreSet words knows h memory = (place : Place) → HasItem (needed_places h memory) place → is_set knows words place ≡ true
+
+-- the step is as its record says
+pub record IsRight (words : ℕ → Option ℕ) (knows : ℕ → Bool) (h : WholeHart) (memory : ℕ → ℕ) (r : Record) (s : Step) : Type 0 where
+  pub set : AreSet words knows h memory
+  pub step : step_of h memory ≡ Some s
+  pub did : s.did ≡ r
+
+-- how the step isn't as its record says
+abbrev pub IsWrong : (ℕ → Option ℕ) → (ℕ → Bool) → WholeHart → (ℕ → ℕ) → Record → ℕ → Type 0
+IsWrong words knows h memory r kind =
+    ((kind ≡ 2) × (place : Place) × HasItem (needed_places h memory) place × (is_set knows words place ≡ false))
+    ⊎ (((kind ≡ 3) × AreSet words knows h memory × (step_of h memory ≡ None))
+    ⊎ ((kind ≡ 1) × AreSet words knows h memory × (s : Step) × (step_of h memory ≡ Some s) × (s.did ≢ r)))
+
+-- every step is as its record says
+abbrev pub AreRight : (ℕ → Option ℕ) → (ℕ → Bool) → WholeHart → (ℕ → ℕ) → List Record → Type 0
+AreRight words knows h memory [] = Unit {0}
+AreRight words knows h memory (r ∷ rs) =
+    (s : Step) × IsRight words knows h memory r s × AreRight words (knows_also s.change.rd knows) (hart_after s.change h) (memory_after s.did.accesses memory) rs
+
+-- the first step, counted on from a number, that isn't as its record says, and how
+abbrev pub GoesWrong : (ℕ → Option ℕ) → (ℕ → Bool) → WholeHart → (ℕ → ℕ) → List Record → ℕ → ℕ → ℕ → Type 0
+GoesWrong words knows h memory [] n kind step = ⊥
+GoesWrong words knows h memory (r ∷ rs) n kind step =
+    (IsWrong words knows h memory r kind × (step ≡ n))
+    ⊎ ((s : Step) × IsRight words knows h memory r s
+    × GoesWrong words (knows_also s.change.rd knows) (hart_after s.change h) (memory_after s.did.accesses memory) rs (n + 1) kind step)
+
+-- hart k alone, from the start with zero elsewhere
+abbrev pub HartIsRight : Cert → ℕ → Type 0
+HartIsRight c k = AreRight (word_of c) (is_given (start_of c k)) (first_hart c k) (first_memory c) (trace_of c k)
+
+abbrev pub HartGoesWrong : Cert → ℕ → ℕ → ℕ → Type 0
+HartGoesWrong c k kind step = GoesWrong (word_of c) (is_given (start_of c k)) (first_hart c k) (first_memory c) (trace_of c k) 0 kind step
+
+-- hart k ends as is printed
+pub record EndsAsTold (c : Cert) (k : ℕ) : Type 0 where
+  pub fixed : fixed_in c.template.ram k (final_of c k) ≡ (solo_run c k).hart.fixed
+  pub places : (key : ℕ) → found (final_of c k).places key ≡ (if knows_after (is_given (start_of c k)) (solo_run c k).moments key then Some ((solo_run c k).hart.file key) else None)
+
+-- the given words end as is printed
+abbrev pub MemoryEndsAsTold : Cert → Type 0
+MemoryEndsAsTold c = map (λ w. in_turn (length c.start) (λ k. footprint_of (trace_of c k)) (first_memory c) (w.0 / 4)) c.words ≡ c.last
+
+abbrev pub AllAreRight : Cert → Type 0
+AllAreRight c = (k : ℕ) → k < length c.start → HartIsRight c k
+
+abbrev pub AllEndAsTold : Cert → Type 0
+AllEndAsTold c = (k : ℕ) → k < length c.start → EndsAsTold c k
+
+-- a step goes wrong, and none of an earlier hart
+pub record FailsInStep (c : Cert) (kind hart step : ℕ) : Type 0 where
+  pub there : hart < length c.start
+  pub before : (k : ℕ) → k < hart → HartIsRight c k
+  pub wrong : HartGoesWrong c hart kind step
+
+-- all steps are right, and a hart ends otherwise, and none before it
+pub record FailsAtEnd (c : Cert) (kind hart step : ℕ) : Type 0 where
+  pub steps : AllAreRight c
+  pub kind_is : kind ≡ 4
+  pub there : hart < length c.start
+  pub before : (k : ℕ) → k < hart → EndsAsTold c k
+  pub wrong : EndsAsTold c hart → ⊥
+  pub step_is : step ≡ length (trace_of c hart)
+
+-- memory alone ends otherwise
+pub record FailsInMemory (c : Cert) (kind hart step : ℕ) : Type 0 where
+  pub steps : AllAreRight c
+  pub ends : AllEndAsTold c
+  pub kind_is : kind ≡ 4
+  pub wrong : MemoryEndsAsTold c → ⊥
+  pub hart_is : hart ≡ length c.start
+  pub step_is : step ≡ 0
+
+-- all that is right, and the template doesn't admit the trace
+pub record FailsTemplate (c : Cert) (kind hart step : ℕ) : Type 0 where
+  pub steps : AllAreRight c
+  pub ends : AllEndAsTold c
+  pub memory : MemoryEndsAsTold c
+  pub race_free : IsRaceFree (trace_of c)
+  pub kind_is : kind ≡ 6
+  pub atom : ℕ
+  pub least : IsLeastFailure c hart step atom
+
+-- the first failure. Accesses can't race as long as the machine's steps don't store
+abbrev pub IsFirstFailure : Cert → ℕ → ℕ → ℕ → Type 0
+IsFirstFailure c kind hart step =
+    FailsInStep c kind hart step ⊎ (FailsAtEnd c kind hart step ⊎ (FailsInMemory c kind hart step ⊎ FailsTemplate c kind hart step))
