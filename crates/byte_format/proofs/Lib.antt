@@ -1,1 +1,5 @@
 pub mod Padding
+pub mod Bytes
+pub mod Laws
+pub mod Groups
+pub mod Loop

@@ -59,6 +59,10 @@ behind literal piece bytes = skip literal bytes >>= λ rest. piece rest
 abbrev pub ahead : {A : Type 0} → (List ℕ → Option (A × List ℕ)) → (A → List ℕ) → List ℕ → Option (A × List ℕ)
 ahead piece literal bytes = piece bytes >>= λ x. skip (literal x.0) x.1 >>= λ rest. Some (x.0, rest)
 
+-- a literal and nothing else
+abbrev pub only_at : List ℕ → List ℕ → Option (Unit {0} × List ℕ)
+only_at literal bytes = skip literal bytes >>= λ rest. Some (tt, rest)
+
 -- a piece that stands for a value
 abbrev pub as_at : {A B : Type 0} → (A → Option B) → (List ℕ → Option (A × List ℕ)) → List ℕ → Option (B × List ℕ)
 as_at to piece bytes = piece bytes >>= λ x. to x.0 >>= λ y. Some (y, x.1)

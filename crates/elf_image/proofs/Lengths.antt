@@ -18,7 +18,7 @@ use Rattle.elf_image.specs.declared.writing.headers.Segment.{Segment}
 use Rattle.elf_image.specs.Runs.{address_of, runs_from, runs_of}
 use Rattle.elf_image.specs.Headers.{e_ident, elf_kind, elf_places, elf_counts, elf_header, segment_place, segment_size, program_header, note_segment, load_segment, load_headers, headers_end, program_headers, all_headers}
 use Rattle.elf_image.specs.Spelling.{pair_spelling, fixed_spelling, state_spelling, access_spelling, record_place, record_marks, record_values, record_spelling, trace_spelling}
-use Rattle.elf_image.specs.Notes.{start_desc, traces_desc, final_desc, rest_desc, note_name, note, notes_in, notes_spelling}
+use Rattle.elf_image.specs.Notes.{start_desc, traces_desc, final_desc, rest_desc, note_name, note, Notes, list_notes, notes_of, notes_in, notes_spelling}
 use Rattle.elf_image.specs.File.{entry_of, runs_in, load_spelling, file_bytes}
 
 abbrev run : ℕ → ℕ → Run
@@ -82,23 +82,29 @@ length-final_desc states last =
     let n = length-word (length last) in
     simp length-append (omega arith)
 
-length-rest_desc : length rest_desc ≡ 12
+pub length-rest_desc : length rest_desc ≡ 12
 unfolding rest_desc word
 length-rest_desc = refl
 
-pub length-notes : (c : Cert) → length (notes_spelling (notes_in c)) ≡ notes_bytes c
+-- as many bytes as five notes have
+pub length-listed : (n : Notes) → length (notes_spelling (list_notes n))
+    ≡ note_bytes (length (start_desc n.start)) + (note_bytes (length n.traces) + (note_bytes (length (final_desc n.finals n.last)) + (note_bytes (length n.text) + note_bytes (length rest_desc))))
 unfolding notes_spelling
-length-notes c =
-    let start = length-note NT_START (start_desc c.start) in
-    let traces = length-note NT_TRACES (traces_desc c.traces) in
-    let final = length-note NT_FINAL (final_desc c.finals c.last) in
-    let template = length-note NT_TEMPLATE c.template.text in
+length-listed n =
+    let start = length-note NT_START (start_desc n.start) in
+    let traces = length-note NT_TRACES n.traces in
+    let final = length-note NT_FINAL (final_desc n.finals n.last) in
+    let template = length-note NT_TEMPLATE n.text in
     let other = length-note NT_REST rest_desc in
-    five (note NT_START (start_desc c.start)) (note NT_TRACES (traces_desc c.traces)) (note NT_FINAL (final_desc c.finals c.last)) (note NT_TEMPLATE c.template.text) (note NT_REST rest_desc)
-    ∙ rw (start, traces, final, template, other, length-start_desc c.start, length-traces_desc c.traces, length-final_desc c.finals c.last, length-rest_desc) refl
+    five (note NT_START (start_desc n.start)) (note NT_TRACES n.traces) (note NT_FINAL (final_desc n.finals n.last)) (note NT_TEMPLATE n.text) (note NT_REST rest_desc)
+    ∙ rw (start, traces, final, template, other) refl
   where
     five : (a b c d e : List ℕ) → length (a ++ (b ++ (c ++ (d ++ (e ++ []))))) ≡ length a + (length b + (length c + (length d + length e)))
     five a b c d e = simp length-append (omega arith)
+
+pub length-notes : (c : Cert) → length (notes_spelling (notes_in c)) ≡ notes_bytes c
+length-notes c =
+    length-listed (notes_of c) ∙ rw (length-start_desc c.start, length-traces_desc c.traces, length-final_desc c.finals c.last, length-rest_desc) refl
 
 -- the notes are no longer than the file
 pub notes_fit : (c : Cert) → IsWellFormed c → length (notes_spelling (notes_in c)) ≤ 8388608

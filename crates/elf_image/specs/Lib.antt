@@ -3,3 +3,9 @@ pub mod Headers
 pub mod Spelling
 pub mod Notes
 pub mod File
+pub mod Parts
+pub mod Checks
+pub mod ItemReaders
+pub mod PartReaders
+pub mod Views
+pub mod Whole

@@ -36,12 +36,26 @@ note kind desc = pieces (word NAME_SIZE ∷ word (length desc) ∷ word kind ∷
 unfoldable pub notes_spelling : List Note → List ℕ
 notes_spelling notes = flat_map (λ n. note n.kind n.desc) notes
 
--- the notes of a certificate
-abbrev pub notes_in : Cert → List Note
-notes_in c =
-    record { kind = NT_START; desc = start_desc c.start }
-    ∷ record { kind = NT_TRACES; desc = traces_desc c.traces }
-    ∷ record { kind = NT_FINAL; desc = final_desc c.finals c.last }
-    ∷ record { kind = NT_TEMPLATE; desc = c.template.text }
+-- what the notes tell: the start, the bytes of the records, the end, and the template's text
+pub record Notes : Type 0 where
+  pub start : List HartState
+  pub traces : List ℕ
+  pub finals : List HartState
+  pub last : List ℕ
+  pub text : List ℕ
+
+abbrev pub list_notes : Notes → List Note
+list_notes n =
+    record { kind = NT_START; desc = start_desc n.start }
+    ∷ record { kind = NT_TRACES; desc = n.traces }
+    ∷ record { kind = NT_FINAL; desc = final_desc n.finals n.last }
+    ∷ record { kind = NT_TEMPLATE; desc = n.text }
     ∷ record { kind = NT_REST; desc = rest_desc }
     ∷ []
+
+-- what the notes of a certificate tell
+abbrev pub notes_of : Cert → Notes
+notes_of c = record { start = c.start; traces = traces_desc c.traces; finals = c.finals; last = c.last; text = c.template.text }
+
+abbrev pub notes_in : Cert → List Note
+notes_in c = list_notes (notes_of c)

@@ -18,8 +18,27 @@ pub const EV_CURRENT: u8 = 1;
 pub const ELFOSABI_NONE: u8 = 0;
 /// How many bytes of e_ident are used.
 pub const EI_PAD: usize = 8;
-/// The bytes of e_ident.
+/// How many bytes e_ident has.
 pub const EI_NIDENT: usize = 16;
+/// The bytes of e_ident.
+pub const E_IDENT: [u8; EI_NIDENT] = [
+    ELFMAG0,
+    ELFMAG1,
+    ELFMAG2,
+    ELFMAG3,
+    ELFCLASS32,
+    ELFDATA2LSB,
+    EV_CURRENT,
+    ELFOSABI_NONE,
+    0,
+    0,
+    0,
+    0,
+    0,
+    0,
+    0,
+    0,
+];
 
 /// An executable file.
 pub const ET_EXEC: u16 = 2;
@@ -45,6 +64,9 @@ pub const ALIGN: u32 = 4;
 
 /// namesz of every note, in bytes: TGEN and a zero.
 pub const NAME_SIZE: u32 = 5;
+
+/// The name of every note, with its padding.
+pub const NAME: [u8; 8] = [b'T', b'G', b'E', b'N', 0, 0, 0, 0];
 
 pub const NT_START: u32 = 1;
 

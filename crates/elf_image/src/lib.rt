@@ -6,8 +6,14 @@
 
 mod elf;
 mod error;
+mod laws;
+mod reading;
 mod runs;
+#[cfg(test)]
+mod tests;
 mod writing;
 
-pub use error::OutOfMemory;
-pub use writing::{file_lengths, write};
+pub use error::{OutOfMemory, ReadError};
+pub use laws::{file_lengths, one_first_wrong, one_spelling};
+pub use reading::read;
+pub use writing::write;

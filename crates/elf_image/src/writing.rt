@@ -1,13 +1,11 @@
 // The one file of a certificate.
-ghost use Rattle.std.specs.Prelude.{◌≡◌, ◌++◌, ◌≤◌, OnOk, IfOk, length};
-ghost use Rattle.tpl_admit.specs.declared.certificate.Cert.{Cert as ACert};
-ghost use Rattle.tpl_admit.specs.Sizes.{file_size};
+ghost use Rattle.std.specs.Prelude.{◌≡◌, ◌++◌, OnOk, IfOk};
 ghost use Rattle.tpl_admit.specs.WellFormed.{IsWellFormed};
 ghost use Rattle.elf_image.specs.File.{entry_of, load_spelling, file_bytes};
 
-mod headers;
+pub mod headers;
 mod items;
-mod notes;
+pub mod notes;
 
 use crate::error::OutOfMemory;
 use crate::runs::list_runs;
@@ -38,7 +36,8 @@ pub fn entry_of(start: &[HartState]) -> u32
     }
 }
 
-/// The file of a certificate: the ELF header, the program headers, the notes and the words.
+/// The file of a certificate: the ELF header, the program headers, the notes and the words of memory
+/// that are given a value. It fails only for want of memory.
 #[tactic(auto, using(crate::proofs::Lengths::notes_fit), unfolding(crate::specs::File::file_bytes))]
 pub fn write(alloc: Global, cert: &Cert) -> Result<Vec<u8>, OutOfMemory>
     requires { IsWellFormed cert.now }
@@ -57,8 +56,3 @@ pub fn write(alloc: Global, cert: &Cert) -> Result<Vec<u8>, OutOfMemory>
     put_load(&mut out, cert.words.as_slice())?;
     Ok(out)
 }
-
-/// How many bytes the file of a certificate has.
-pub fn file_lengths()
-    ensures { (c : ACert) → length (file_bytes c) ≡ file_size c }
-{}

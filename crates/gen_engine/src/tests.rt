@@ -1,7 +1,9 @@
 use crate::generate;
-use rv_hart::{Outcome, Priv};
+use rv_hart::{Outcome, Priv, Record};
 use rv_script::{Access, Role};
+use std::alloc::Global;
 use std::test::Fail;
+use tpl_admit::{Cert, HartState};
 use tpl_parse::parse;
 
 const HEAD: &str = "ram 0x80000000 0x80001000
@@ -18,6 +20,68 @@ struct Row {
     words: &'static [u32],
     writes: &'static [Option<(u8, u32)>],
     finals: &'static [(u32, u32)],
+}
+
+/// The certificate of these leaves, the first of them at an address.
+fn certificate_of(alloc: Global, base: u32, leaves: &str) -> Result<Cert, Fail> {
+    let text = format!(in alloc; "{HEAD}{base:#x} priv m\nbody {{\n{leaves}}}\n}}\n")?;
+    Ok(generate(alloc, parse(alloc, text.as_bytes())?)?)
+}
+
+/// Whether a hart stands there in M, with these places and all else zero.
+fn is_at(state: &HartState, pc: u32, places: &[(u32, u32)]) -> bool {
+    state.pc == pc
+        && state.privilege == Priv::M
+        && (state.mstatus, state.medeleg, state.satp) == (0, 0, 0)
+        && state.places.as_slice() == places
+}
+
+/// Whether the words stand there one after another.
+fn are_placed(placed: &[(u32, u32)], base: u32, words: &[u32]) -> bool {
+    let mut addr = base;
+    for (pair, word) in placed.iter().zip(words) {
+        if *pair != (addr, *word) {
+            return false;
+        }
+        addr = addr.wrapping_add(4);
+    }
+    placed.len() == words.len()
+}
+
+/// Whether the record is that of a word that was fetched and retired.
+fn is_record(record: &Record, pc: u32, word: u32, rd: Option<(u8, u32)>) -> bool {
+    let fetch = Access {
+        role: Role::Fetch,
+        addr: pc,
+        size: 4,
+        value: word,
+    };
+    (record.pc, record.word, record.next_pc) == (pc, word, pc.wrapping_add(4))
+        && record.privilege == Priv::M
+        && record.outcome == Outcome::Retired
+        && record.rd == rd
+        && record.accesses.as_slice() == [fetch].as_slice()
+}
+
+/// Whether the records are those of the words, one after another.
+fn are_records(records: &[Record], base: u32, words: &[u32], writes: &[Option<(u8, u32)>]) -> bool {
+    let mut pc = base;
+    for ((record, word), rd) in records.iter().zip(words).zip(writes) {
+        if !is_record(record, pc, *word, *rd) {
+            return false;
+        }
+        pc = pc.wrapping_add(4);
+    }
+    records.len() == words.len()
+}
+
+/// The address behind so many words.
+fn behind(base: u32, words: &[u32]) -> u32 {
+    let mut addr = base;
+    for _ in words {
+        addr = addr.wrapping_add(4);
+    }
+    addr
 }
 
 #[test]
@@ -71,58 +135,26 @@ do op in {addi}; rd in {1}; rs1 in {0}; imm in {0}
         },
     ] {
         let name = row.name;
-        let base = row.pc;
-        let text = format!(in alloc; "{HEAD}{base:#x} priv m\nbody {{\n{}}}\n}}\n", row.leaves)?;
-        let cert = generate(alloc, parse(alloc, text.as_bytes())?)?;
-        assert_eq!(rt; cert.template.text.as_slice(), text.as_bytes(), "{name}");
-
+        let cert = certificate_of(alloc, row.pc, row.leaves)?;
         assert_eq!(rt; cert.last.as_slice(), row.words, "{name}");
-        let mut pairs = Vec::new(alloc);
-        let mut addr = base;
-        for word in row.words {
-            pairs.push((addr, *word))?;
-            addr = addr.wrapping_add(4);
-        }
-        assert_eq!(rt; cert.words.as_slice(), pairs.as_slice(), "{name}");
-
-        assert_eq!(rt; cert.start.len(), 1, "{name}");
-        let start = &cert.start.as_slice()[0];
-        assert_eq!(rt; start.pc, base, "{name}");
-        assert_eq!(rt; start.privilege, Priv::M, "{name}");
-        assert_eq!(rt;
-            (start.mstatus, start.medeleg, start.satp),
-            (0, 0, 0),
+        assert!(rt;
+            are_placed(cert.words.as_slice(), row.pc, row.words),
             "{name}"
         );
-        assert!(rt; start.places.is_empty(), "{name}");
-
-        assert_eq!(rt; cert.traces.len(), 1, "{name}");
-        let records = cert.traces.as_slice()[0].as_slice();
-        assert_eq!(rt; records.len(), row.words.len(), "{name}");
-        let mut pc = base;
-        for ((record, word), rd) in records.iter().zip(row.words).zip(row.writes) {
-            assert_eq!(rt; record.pc, pc, "{name}");
-            assert_eq!(rt; record.privilege, Priv::M, "{name}");
-            assert_eq!(rt; record.word, *word, "{name}");
-            assert_eq!(rt; record.outcome, Outcome::Retired, "{name}");
-            assert_eq!(rt; record.rd, *rd, "{name}");
-            let fetch = Access {
-                role: Role::Fetch,
-                addr: pc,
-                size: 4,
-                value: *word,
-            };
-            assert_eq!(rt; record.accesses.as_slice(), [fetch].as_slice(), "{name}");
-            pc = pc.wrapping_add(4);
-            assert_eq!(rt; record.next_pc, pc, "{name}");
-        }
-
-        assert_eq!(rt; cert.finals.len(), 1, "{name}");
+        assert_eq!(rt;
+            (cert.start.len(), cert.traces.len(), cert.finals.len()),
+            (1, 1, 1),
+            "{name}"
+        );
+        let start = &cert.start.as_slice()[0];
+        assert!(rt; is_at(start, row.pc, &[]), "{name}");
+        let trace = &cert.traces.as_slice()[0];
+        assert!(rt;
+            are_records(trace.as_slice(), row.pc, row.words, row.writes),
+            "{name}"
+        );
         let end = &cert.finals.as_slice()[0];
-        assert_eq!(rt; end.pc, pc, "{name}");
-        assert_eq!(rt; end.privilege, Priv::M, "{name}");
-        assert_eq!(rt; (end.mstatus, end.medeleg, end.satp), (0, 0, 0), "{name}");
-        assert_eq!(rt; end.places.as_slice(), row.finals, "{name}");
+        assert!(rt; is_at(end, behind(row.pc, row.words), row.finals), "{name}");
     }
     Ok(())
 }

@@ -1,7 +1,7 @@
 // The step of a hart.
-ghost use Rattle.std.specs.Prelude.{◌≡◌, ◌<◌, ◌%◌, ◌+◌, ◌^◌, ℕ, [], length, None, Some};
+ghost use Rattle.std.specs.Prelude.{◌≡◌, ◌<◌, ◌%◌, ◌+◌, ◌^◌, ℕ, [], length, None, Some, IsTrue};
 ghost use Rattle.rv_script.specs.Folds.{answer_on, prefixed};
-ghost use Rattle.rv_isa.specs.Arithmetic.{IsAlu};
+ghost use Rattle.rv_isa.specs.Arithmetic.{is_alu};
 ghost use Rattle.rv_isa.specs.Reading.{decoded};
 ghost use Rattle.rv_hart.specs.Machine.{script, instruction, immediate_row, is_bare, rd_told, retired};
 ghost use Rattle.rv_hart.specs.View.{known, fixed_of, looked, shown, pc_after, regs_after};
@@ -40,7 +40,7 @@ fn retire(pc: u32, word: u32, rd: Option<(u8, u32)>) -> Change
 /// An operation on a register and an immediate.
 #[tactic(auto, using(crate::proofs::Prefixes::prefixed_none), unfolding(crate::specs::Machine::immediate_row))]
 fn immediate<M: Words>(h: &Hart, m: &M, word: u32, i: &Instr, log: &Accesses) -> Looked
-    requires alu { IsAlu i.now.op }
+    requires alu { IsTrue (is_alu i.now.op) }
     requires rs1 { i.now.rs1 < 32 }
     requires rd { i.now.rd < 32 }
     ensures sound { IsSound result }

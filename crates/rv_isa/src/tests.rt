@@ -150,14 +150,240 @@ fn decodes_no_other_word(rt: HostRuntime) {
 }
 
 #[test]
-fn addi_wraps(rt: HostRuntime) {
-    for (x, y, sum) in [
-        (0, 0xffff_ffff, 0xffff_ffff),
-        (7, 0xffff_ffff, 6),
-        (0xffff_ffff, 1, 0),
-        (0x7fff_ffff, 1, 0x8000_0000),
-        (0x8000_0000, 0xffff_f800, 0x7fff_f800),
+fn computes_as_the_manual_says(rt: HostRuntime) {
+    // Add, Sub, Sll, Slt, Sltu, Xor, Srl, Sra, Or and And of each pair.
+    for (x, y, results) in [
+        (
+            0x8000_0000,
+            0xffff_ffff,
+            [
+                0x7fff_ffff,
+                0x8000_0001,
+                0,
+                1,
+                1,
+                0x7fff_ffff,
+                1,
+                0xffff_ffff,
+                0xffff_ffff,
+                0x8000_0000,
+            ],
+        ),
+        (7, 0, [7, 7, 7, 0, 0, 7, 7, 7, 7, 0]),
+        (
+            0xffff_ffff,
+            0xffff_ffff,
+            [
+                0xffff_fffe,
+                0,
+                0x8000_0000,
+                0,
+                0,
+                0,
+                1,
+                0xffff_ffff,
+                0xffff_ffff,
+                0xffff_ffff,
+            ],
+        ),
+        (
+            0x1234_5678,
+            0xffff_fff9,
+            [
+                0x1234_5671,
+                0x1234_567f,
+                0xf000_0000,
+                0,
+                1,
+                0xedcb_a981,
+                9,
+                9,
+                0xffff_fff9,
+                0x1234_5678,
+            ],
+        ),
+        (
+            0x8000_0000,
+            0x0000_0021,
+            [
+                0x8000_0021,
+                0x7fff_ffdf,
+                0,
+                1,
+                0,
+                0x8000_0021,
+                0x4000_0000,
+                0xc000_0000,
+                0x8000_0021,
+                0,
+            ],
+        ),
+        (
+            0xffff_ffff,
+            1,
+            [
+                0,
+                0xffff_fffe,
+                0xffff_fffe,
+                1,
+                0,
+                0xffff_fffe,
+                0x7fff_ffff,
+                0xffff_ffff,
+                0xffff_ffff,
+                1,
+            ],
+        ),
     ] {
-        assert_eq!(rt; alu(Op::Addi, x, y), sum, "of {x:#x} and {y:#x}");
+        let computed = [
+            alu(Op::Add, x, y),
+            alu(Op::Sub, x, y),
+            alu(Op::Sll, x, y),
+            alu(Op::Slt, x, y),
+            alu(Op::Sltu, x, y),
+            alu(Op::Xor, x, y),
+            alu(Op::Srl, x, y),
+            alu(Op::Sra, x, y),
+            alu(Op::Or, x, y),
+            alu(Op::And, x, y),
+        ];
+        assert_eq!(rt; computed, results, "of {x:#x} and {y:#x}");
+        let immediate = [
+            alu(Op::Addi, x, y),
+            alu(Op::Slli, x, y),
+            alu(Op::Slti, x, y),
+            alu(Op::Sltiu, x, y),
+            alu(Op::Xori, x, y),
+            alu(Op::Srli, x, y),
+            alu(Op::Srai, x, y),
+            alu(Op::Ori, x, y),
+            alu(Op::Andi, x, y),
+        ];
+        let [sum, _, left, less, below, either, right, sign, or, and] = results;
+        assert_eq!(rt;
+            immediate,
+            [sum, left, less, below, either, right, sign, or, and],
+            "of {x:#x} and {y:#x}"
+        );
+    }
+}
+
+#[test]
+fn multiplies_and_divides_as_the_manual_says(rt: HostRuntime) {
+    // Mul, Mulh, Mulhsu, Mulhu, Div, Divu, Rem and Remu of each pair.
+    for (x, y, results) in [
+        (
+            0x8000_0000,
+            0xffff_ffff,
+            [
+                0x8000_0000,
+                0,
+                0x8000_0000,
+                0x7fff_ffff,
+                0x8000_0000,
+                0,
+                0,
+                0x8000_0000,
+            ],
+        ),
+        (7, 0, [0, 0, 0, 0, 0xffff_ffff, 0xffff_ffff, 7, 7]),
+        (
+            0xffff_ffff,
+            0xffff_ffff,
+            [1, 0, 0xffff_ffff, 0xffff_fffe, 1, 1, 0, 0],
+        ),
+        (
+            0x1234_5678,
+            0xffff_fff9,
+            [
+                0x8091_a2b8,
+                0xffff_ffff,
+                0x1234_5677,
+                0x1234_5677,
+                0xfd66_3ccb,
+                0,
+                5,
+                0x1234_5678,
+            ],
+        ),
+        (
+            0x8000_0000,
+            0x0000_0021,
+            [
+                0x8000_0000,
+                0xffff_ffef,
+                0xffff_ffef,
+                0x0000_0010,
+                0xfc1f_07c2,
+                0x03e0_f83e,
+                0xffff_fffe,
+                2,
+            ],
+        ),
+        (
+            0xffff_ffff,
+            1,
+            [
+                0xffff_ffff,
+                0xffff_ffff,
+                0xffff_ffff,
+                0,
+                0xffff_ffff,
+                0xffff_ffff,
+                0,
+                0,
+            ],
+        ),
+    ] {
+        let computed = [
+            alu(Op::Mul, x, y),
+            alu(Op::Mulh, x, y),
+            alu(Op::Mulhsu, x, y),
+            alu(Op::Mulhu, x, y),
+            alu(Op::Div, x, y),
+            alu(Op::Divu, x, y),
+            alu(Op::Rem, x, y),
+            alu(Op::Remu, x, y),
+        ];
+        assert_eq!(rt; computed, results, "of {x:#x} and {y:#x}");
+    }
+}
+
+#[test]
+fn branches_as_the_manual_says(rt: HostRuntime) {
+    // Beq, Bne, Blt, Bge, Bltu and Bgeu on each pair.
+    for (x, y, results) in [
+        (
+            0x8000_0000,
+            0xffff_ffff,
+            [false, true, true, false, true, false],
+        ),
+        (7, 0, [false, true, false, true, false, true]),
+        (
+            0xffff_ffff,
+            0xffff_ffff,
+            [true, false, false, true, false, true],
+        ),
+        (
+            0x1234_5678,
+            0xffff_fff9,
+            [false, true, false, true, true, false],
+        ),
+        (
+            0x8000_0000,
+            0x0000_0021,
+            [false, true, true, false, false, true],
+        ),
+        (0xffff_ffff, 1, [false, true, true, false, false, true]),
+    ] {
+        let decided = [
+            taken(Op::Beq, x, y),
+            taken(Op::Bne, x, y),
+            taken(Op::Blt, x, y),
+            taken(Op::Bge, x, y),
+            taken(Op::Bltu, x, y),
+            taken(Op::Bgeu, x, y),
+        ];
+        assert_eq!(rt; decided, results, "on {x:#x} and {y:#x}");
     }
 }

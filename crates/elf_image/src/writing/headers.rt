@@ -3,32 +3,12 @@ ghost use Rattle.std.specs.Prelude.{◌≡◌, ◌++◌, ◌^◌, ◌<◌, ◌�
 ghost use Rattle.elf_image.specs.Headers.{e_ident, elf_kind, elf_places, elf_counts, elf_header, segment_place, segment_size, program_header, load_headers, all_headers};
 
 use crate::elf::{
-    ALIGN, EHDR_SIZE, EI_NIDENT, ELFCLASS32, ELFDATA2LSB, ELFMAG0, ELFMAG1, ELFMAG2, ELFMAG3,
-    ELFOSABI_NONE, EM_RISCV, ET_EXEC, EV_CURRENT, PF_R, PF_W, PF_X, PHDR_SIZE, PT_LOAD, PT_NOTE,
+    ALIGN, E_IDENT, EHDR_SIZE, EM_RISCV, ET_EXEC, EV_CURRENT, PF_R, PF_W, PF_X, PHDR_SIZE, PT_LOAD,
+    PT_NOTE,
 };
 use crate::runs::Run;
 use byte_format::{put_half, put_short, put_size, put_word};
 use std::alloc::AllocError;
-
-/// The bytes of e_ident.
-pub const E_IDENT: [u8; EI_NIDENT] = [
-    ELFMAG0,
-    ELFMAG1,
-    ELFMAG2,
-    ELFMAG3,
-    ELFCLASS32,
-    ELFDATA2LSB,
-    EV_CURRENT,
-    ELFOSABI_NONE,
-    0,
-    0,
-    0,
-    0,
-    0,
-    0,
-    0,
-    0,
-];
 
 /// What a program header says: p_type, p_offset, the address, the size in bytes and p_flags.
 #[derive(Clone, Copy, Debug, PartialEq, Eq)]

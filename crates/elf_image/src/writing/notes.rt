@@ -2,16 +2,13 @@
 ghost use Rattle.std.specs.Prelude.{◌≡◌, ◌++◌, OnOk, IfOk};
 ghost use Rattle.elf_image.specs.Notes.{start_desc, traces_desc, final_desc, rest_desc, note_name, note, notes_in, notes_spelling};
 
-use crate::elf::{NAME_SIZE, NT_FINAL, NT_REST, NT_START, NT_TEMPLATE, NT_TRACES, VERSION};
+use crate::elf::{NAME, NAME_SIZE, NT_FINAL, NT_REST, NT_START, NT_TEMPLATE, NT_TRACES, VERSION};
 use crate::writing::items::{put_states, put_traces, put_words};
 use byte_format::{put_padding, put_size, put_word};
 use rv_hart::Record;
 use std::alloc::{AllocError, Global};
 use tpl_admit::{Cert, HartState};
 use tpl_parse::Items;
-
-/// The name of every note, with its padding.
-pub const NAME: [u8; 8] = [b'T', b'G', b'E', b'N', 0, 0, 0, 0];
 
 /// A note: its type, and the bytes of its desc.
 #[derive(Drop)]

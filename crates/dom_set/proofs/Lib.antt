@@ -1,0 +1,9 @@
+pub mod Low
+pub mod Totals
+pub mod Members
+pub mod Residues
+pub mod Times
+pub mod Powers
+pub mod Merging
+pub mod Sets
+pub mod Sameness

@@ -1,0 +1,220 @@
+-- What progressions that are apart say of the list of their numbers.
+use Rattle.std.proofs.Common.{◌≡◌, ℕ, suc, ◌+◌, ◌-◌, ◌*◌, ◌%◌, ◌^◌, ◌<◌, ◌≤◌, ◌↔◌, inl, inr, Bool, true, false, cond, ◌&&◌, ◌||◌, not, ltb, leb, List, [], ◌∷◌, length, filter, Option, Some, None, Contains, All, IsNone, refl, sym, ap, ◌∙◌, arith}
+use Rattle.std.specs.List.{find, slice_get}
+use Rattle.std.specs.List.Sorted.{IsStrictlyIncreasing}
+use Rattle.std.specs.Option.{option_or}
+use Rattle.std.proofs.lemmas.Bool.{and_parts, cases_lt, lt-ltb, le-ltb, ltb-true, leb-true, le-leb, lt-leb, false≢true}
+use Rattle.std.specs.Prelude.{pos, negsuc}
+use Rattle.std.specs.Int.{w32, cast_signed}
+use Rattle.std.proofs.lemmas.Int.{to_z_pos}
+use Rattle.std.proofs.lemmas.Bool.Decides.{nat_tests}
+use Rattle.dom_set.specs.declared.progression.Progression.{Progression}
+use Rattle.dom_set.specs.Elements.{elements_of, is_in, first_cyclic, is_signed_lt}
+use Rattle.dom_set.specs.Progressions.{holds, one, times, total, IsApart, IsFirstFrom}
+use Rattle.dom_set.proofs.Totals.{total_same}
+use Rattle.dom_set.proofs.Members.{members, members_same, filter_both, is_in-members, is_in-Contains, Contains-is_in, length-members, slice_get-members, first_is_found, find_none, find_first, members_ascend, members_below}
+use Rattle.dom_set.proofs.Times.{holds_is, holds_once, times_is, times_past}
+
+elements_is : (t : ℕ → Bool) → elements_of t ≡ members t (2 ^ 32)
+unfolding elements_of
+elements_is t = refl
+
+pub elements_same : (t u : ℕ → Bool) → ((x : ℕ) → x < 2 ^ 32 → t x ≡ u x) → elements_of t ≡ elements_of u
+elements_same t u h = elements_is t ∙ members_same t u (2 ^ 32) h ∙ sym (elements_is u)
+
+pub is_in-elements : (t : ℕ → Bool) (x : ℕ) → x < 2 ^ 32 → is_in (elements_of t) x ≡ t x
+is_in-elements t x lt =
+    ap (λ (xs : List ℕ). is_in xs x) (elements_is t) ∙ is_in-members t (2 ^ 32) x ∙ ap (λ (b : Bool). b && t x) (lt-ltb x (2 ^ 32) lt)
+
+-- a set that is given by a test is a filter of another, where the tests say so
+pub filter_is : (t u w : ℕ → Bool) → ((x : ℕ) → x < 2 ^ 32 → w x ≡ (t x && u x)) → elements_of w ≡ filter u (elements_of t)
+filter_is t u w h =
+    elements_is w ∙ members_same w (λ x. t x && u x) (2 ^ 32) h ∙ sym (filter_both t u _) ∙ ap (filter u) (sym (elements_is t))
+
+-- ---- questions
+
+pub has_is : (ps : List Progression) (x : ℕ) → x < 2 ^ 32 → (holds ps x ≡ true) ↔ Contains (elements_of (holds ps)) x
+has_is ps x lt =
+    let same = is_in-elements (holds ps) x lt in
+    (λ h. is_in-Contains _ x (same ∙ h), λ h. sym same ∙ Contains-is_in _ x h)
+
+once : (ps : List Progression) (n : ℕ) → IsApart ps → total (times ps) n ≡ total (λ x. one (holds ps x)) n
+once ps n apart = total_same (times ps) (λ x. one (holds ps x)) n (λ x _. times_is ps x apart)
+
+pub size_is : (ps : List Progression) → IsApart ps → total (times ps) (2 ^ 32) ≡ length (elements_of (holds ps))
+size_is ps apart = once ps (2 ^ 32) apart ∙ sym (length-members (holds ps) (2 ^ 32)) ∙ ap length (sym (elements_is (holds ps)))
+
+pub ascending : (t : ℕ → Bool) → IsStrictlyIncreasing (elements_of t)
+unfolding elements_of
+ascending t = members_ascend t (2 ^ 32)
+
+pub words : (t : ℕ → Bool) → All (λ x. x < 2 ^ 32) (elements_of t)
+unfolding elements_of
+words t = members_below t (2 ^ 32)
+
+pub nth_is : (ps : List Progression) (n x : ℕ) → IsApart ps → x < 2 ^ 32 → total (times ps) x ≡ n → times ps x ≡ 1 →
+    slice_get (elements_of (holds ps)) n ≡ Some x
+nth_is ps n x apart lt below held =
+    ap (λ (xs : List ℕ). slice_get xs n) (elements_is (holds ps))
+    ∙ ap (slice_get (members (holds ps) (2 ^ 32))) (sym below ∙ once ps x apart)
+    ∙ slice_get-members (holds ps) (2 ^ 32) x lt (holds_once ps x true held)
+
+found : (t : ℕ → Bool) (from v : ℕ) → v < 2 ^ 32 → IsFirstFrom t from (Some v) → find (leb from) (elements_of t) ≡ Some v
+found t from v lt is =
+    ap (find (leb from)) (elements_is t)
+    ∙ find_first (leb from) t (2 ^ 32) v lt (le-leb from v is.1) is.0 (λ x below h. is.2 x (leb-true from x h) below)
+
+none_found : (t : ℕ → Bool) (from : ℕ) → IsFirstFrom t from None → find (leb from) (elements_of t) ≡ None
+none_found t from none = ap (find (leb from)) (elements_is t) ∙ find_none (leb from) t (2 ^ 32) (λ x lt h. none x (leb-true from x h))
+
+held_word : (ps : List Progression) (v : ℕ) → holds ps v ≡ true → v < 2 ^ 32
+held_word ps v h = elim (cases_lt v (2 ^ 32)) [
+  | inl lt ↦ lt
+  | inr past ↦ absurd (false≢true (sym (holds_is ps v ∙ ap (ltb 0) (times_past ps v past)) ∙ h))
+]
+
+pub cyclic_here : (ps : List Progression) (pivot v : ℕ) → IsFirstFrom (holds ps) pivot (Some v) → Some v ≡ first_cyclic (elements_of (holds ps)) pivot
+cyclic_here ps pivot v is =
+    sym (ap (λ (o : Option ℕ). option_or o (slice_get (elements_of (holds ps)) 0)) (found (holds ps) pivot v (held_word ps v is.0) is))
+
+first_of_all : (ps : List Progression) (o : Option ℕ) → IsFirstFrom (holds ps) 0 o → slice_get (elements_of (holds ps)) 0 ≡ o
+first_of_all ps None is = first_is_found (elements_of (holds ps)) ∙ none_found (holds ps) 0 is
+first_of_all ps (Some v) is = first_is_found (elements_of (holds ps)) ∙ found (holds ps) 0 v (held_word ps v is.0) is
+
+pub cyclic_round : (ps : List Progression) (pivot : ℕ) (o : Option ℕ) → IsFirstFrom (holds ps) pivot None → IsFirstFrom (holds ps) 0 o →
+    o ≡ first_cyclic (elements_of (holds ps)) pivot
+cyclic_round ps pivot o none is =
+    sym (first_of_all ps o is)
+    ∙ sym (ap (λ (p : Option ℕ). option_or p (slice_get (elements_of (holds ps)) 0)) (none_found (holds ps) pivot none))
+
+pub cyclic_none : (xs : List ℕ) (pivot : ℕ) → IsNone (first_cyclic xs pivot) ↔ (xs ≡ [])
+cyclic_none [] pivot = (λ _. refl, λ _. refl)
+cyclic_none (x ∷ xs) pivot = (λ h. absurd (never (find (leb pivot) (x ∷ xs)) h), λ e. absurd cc) where
+  never : (o : Option ℕ) → IsNone (option_or o (Some x)) → ⊥
+  never None h = cc
+  never (Some y) h = cc
+
+-- ---- operations
+
+product_one : (a b : Bool) → one a * one b ≡ one (a && b)
+product_one true true = refl
+product_one true false = refl
+product_one false b = omega arith
+
+pub and_is : (ps qs out : List Progression) → IsApart ps → IsApart qs → ((x : ℕ) → times out x ≡ times ps x * times qs x) →
+    elements_of (holds out) ≡ filter (is_in (elements_of (holds qs))) (elements_of (holds ps))
+and_is ps qs out a b h = filter_is (holds ps) (is_in (elements_of (holds qs))) (holds out) (λ x lt.
+    holds_once out x _ (h x ∙ (λ i. times_is ps x a i * times_is qs x b i) ∙ product_one (holds ps x) (holds qs x))
+    ∙ ap (λ (t : Bool). holds ps x && t) (sym (is_in-elements (holds qs) x lt)))
+
+some_left : (b : Bool) (n : ℕ) → ltb 0 (cond b 0 n) ≡ (ltb 0 n && not b)
+some_left true n = none (ltb 0 n) where
+  none : (a : Bool) → ltb 0 0 ≡ (a && false)
+  none true = refl
+  none false = refl
+some_left false n = all (ltb 0 n) where
+  all : (a : Bool) → a ≡ (a && true)
+  all true = refl
+  all false = refl
+
+pub minus_is : (ps qs out : List Progression) → ((x : ℕ) → times out x ≡ cond (holds qs x) 0 (times ps x)) →
+    elements_of (holds out) ≡ filter (λ x. not (is_in (elements_of (holds qs)) x)) (elements_of (holds ps))
+minus_is ps qs out h = filter_is (holds ps) (λ x. not (is_in (elements_of (holds qs)) x)) (holds out) (λ x lt.
+    holds_is out x ∙ ap (ltb 0) (h x) ∙ some_left (holds qs x) (times ps x)
+    ∙ (λ i. sym (holds_is ps x) i && not (sym (is_in-elements (holds qs) x lt) i)))
+
+pub minus_apart : (ps qs out : List Progression) → IsApart ps → ((x : ℕ) → times out x ≡ cond (holds qs x) 0 (times ps x)) → IsApart out
+minus_apart ps qs out a h x = omega (arith, h x, less (holds qs x) (times ps x) (a x)) where
+  less : (b : Bool) (n : ℕ) → n ≤ 1 → cond b 0 n ≤ 1
+  less true n le = omega arith
+  less false n le = le
+
+pub shift_is : (ps out : List Progression) (d : ℕ) → ((y : ℕ) → y < 2 ^ 32 → times out y ≡ times ps ((y + (2 ^ 32 - d)) % 2 ^ 32)) →
+    elements_of (holds out) ≡ elements_of (λ y. is_in (elements_of (holds ps)) ((y + (2 ^ 32 - d)) % 2 ^ 32))
+shift_is ps out d h = elements_same (holds out) (λ y. is_in (elements_of (holds ps)) ((y + (2 ^ 32 - d)) % 2 ^ 32)) (λ y lt.
+    holds_is out y ∙ ap (ltb 0) (h y lt) ∙ sym (holds_is ps ((y + (2 ^ 32 - d)) % 2 ^ 32))
+    ∙ sym (is_in-elements (holds ps) ((y + (2 ^ 32 - d)) % 2 ^ 32) (omega arith)))
+
+-- ---- clipped
+
+clip_held : (b : Bool) (n : ℕ) → ltb 0 (cond b n 0) ≡ (ltb 0 n && b)
+clip_held true n = all (ltb 0 n) where
+  all : (a : Bool) → a ≡ (a && true)
+  all true = refl
+  all false = refl
+clip_held false n = none (ltb 0 n) where
+  none : (a : Bool) → ltb 0 0 ≡ (a && false)
+  none true = refl
+  none false = refl
+
+pub clip_is : (ps out : List Progression) (from end : ℕ) (u : ℕ → Bool) → ((x : ℕ) → times out x ≡ cond (leb from x && ltb x end) (times ps x) 0) →
+    ((x : ℕ) → x < 2 ^ 32 → u x ≡ (leb from x && ltb x end)) → elements_of (holds out) ≡ filter u (elements_of (holds ps))
+clip_is ps out from end u h same = filter_is (holds ps) u (holds out) (λ x lt.
+    holds_is out x ∙ ap (ltb 0) (h x) ∙ clip_held (leb from x && ltb x end) (times ps x)
+    ∙ (λ i. sym (holds_is ps x) i && sym (same x lt) i))
+
+pub below_same : (x y : ℕ) → ltb y x ≡ (leb 0 y && ltb y x)
+below_same x y = ap (λ (b : Bool). b && ltb y x) (sym (le-leb 0 y (omega arith)))
+
+as_pos : (n : ℕ) → n < 2 ^ 31 → cast_signed w32 n ≡ pos n
+as_pos n lt = to_z_pos w32 n lt
+
+as_negative : (n : ℕ) → 2 ^ 31 ≤ n → cast_signed w32 n ≡ negsuc (2 ^ 32 - suc n)
+as_negative n le = rw (le-ltb n (2 ^ 31) le) refl
+
+turned : (x y : ℕ) → x < 2 ^ 32 → y < 2 ^ 32 → ltb (2 ^ 32 - suc x) (2 ^ 32 - suc y) ≡ ltb y x
+turned x y lx ly = grind (arith, nat_tests)
+
+-- less than a negative number
+pub less_negative : (x y : ℕ) → 2 ^ 31 ≤ x → x < 2 ^ 32 → y < 2 ^ 32 → is_signed_lt y x ≡ (leb (2 ^ 31) y && ltb y x)
+less_negative x y le lx ly = elim (cases_lt y (2 ^ 31)) [
+  | inl low ↦ rw (as_pos y low, as_negative x le, lt-leb (2 ^ 31) y low) refl
+  | inr high ↦ rw (as_negative y high, as_negative x le, le-leb (2 ^ 31) y high) (turned x y lx ly)
+]
+
+-- less than a number that is not negative
+less_natural : (x y : ℕ) → x < 2 ^ 31 → y < 2 ^ 32 → is_signed_lt y x ≡ (ltb y x || leb (2 ^ 31) y)
+less_natural x y lt ly = elim (cases_lt y (2 ^ 31)) [
+  | inl low ↦ rw (as_pos y low, as_pos x lt, lt-leb (2 ^ 31) y low) (left (ltb y x))
+  | inr high ↦ rw (as_negative y high, as_pos x lt, le-leb (2 ^ 31) y high) (right (ltb y x))
+] where
+  left : (a : Bool) → a ≡ (a || false)
+  left true = refl
+  left false = refl
+
+  right : (a : Bool) → true ≡ (a || true)
+  right true = refl
+  right false = refl
+
+two_clips : (x y n : ℕ) → x < 2 ^ 31 → y < 2 ^ 32 →
+    cond (leb 0 y && ltb y x) n 0 + cond (leb (2 ^ 31) y && ltb y (2 ^ 32)) n 0 ≡ cond (ltb y x || leb (2 ^ 31) y) n 0
+two_clips x y n lt ly = grind (arith, nat_tests)
+
+two_clips_le : (x y n : ℕ) → x < 2 ^ 31 → n ≤ 1 → cond (leb 0 y && ltb y x) n 0 + cond (leb (2 ^ 31) y && ltb y (2 ^ 32)) n 0 ≤ 1
+two_clips_le x y n lt le = grind (arith, nat_tests)
+
+pub signed_is : (ps out : List Progression) (x : ℕ) → x < 2 ^ 31 →
+    ((y : ℕ) → times out y ≡ cond (leb 0 y && ltb y x) (times ps y) 0 + cond (leb (2 ^ 31) y && ltb y (2 ^ 32)) (times ps y) 0) →
+    elements_of (holds out) ≡ filter (λ y. is_signed_lt y x) (elements_of (holds ps))
+signed_is ps out x lt h = filter_is (holds ps) (λ y. is_signed_lt y x) (holds out) (λ y ly.
+    holds_is out y ∙ ap (ltb 0) (h y ∙ two_clips x y (times ps y) lt ly) ∙ clip_held (ltb y x || leb (2 ^ 31) y) (times ps y)
+    ∙ (λ i. sym (holds_is ps y) i && sym (less_natural x y lt ly) i))
+
+pub signed_apart : (ps out : List Progression) (x : ℕ) → x < 2 ^ 31 → IsApart ps →
+    ((y : ℕ) → times out y ≡ cond (leb 0 y && ltb y x) (times ps y) 0 + cond (leb (2 ^ 31) y && ltb y (2 ^ 32)) (times ps y) 0) → IsApart out
+signed_apart ps out x lt a h y = omega (arith, h y, two_clips_le x y (times ps y) lt (a y))
+
+-- ---- the laws
+
+pub Contains-elements : (t : ℕ → Bool) (x : ℕ) → Contains (elements_of t) x ↔ ((x < 2 ^ 32) × (t x ≡ true))
+Contains-elements t x = (
+  λ h.
+      let there : (ltb x (2 ^ 32) && t x) ≡ true =
+      sym (ap (λ (xs : List ℕ). is_in xs x) (elements_is t) ∙ is_in-members t (2 ^ 32) x) ∙ Contains-is_in _ x h in
+      let parts = and_parts (ltb x (2 ^ 32)) (t x) there in
+      (ltb-true x (2 ^ 32) parts.0, parts.1),
+  λ h. is_in-Contains _ x (is_in-elements t x h.0 ∙ h.1),
+)
+
+pub is_in_tests : (xs : List ℕ) (x : ℕ) → (is_in xs x ≡ true) ↔ Contains xs x
+is_in_tests xs x = (is_in-Contains xs x, Contains-is_in xs x)

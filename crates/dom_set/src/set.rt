@@ -1,0 +1,153 @@
+// Sets of 32-bit numbers.
+ghost use Rattle.std.specs.Prelude.{◌≡◌, ℕ, ◌+◌, ◌-◌, ◌^◌, ◌%◌, ◌<◌, ◌≤◌, ◌↔◌, ◌==◌, ◌&&◌, [], length, filter, not, nat_lt, Some, slice_get, IfOk, IsTrue, IsNone, All, Contains};
+ghost use Rattle.std.specs.List.Sorted.{IsStrictlyIncreasing};
+ghost use Rattle.std.specs.Int.{IsPowerOfTwo};
+ghost use Rattle.dom_set.specs.Elements.{elements_of, is_in, is_within, is_signed_lt, first_cyclic};
+
+use crate::error::OutOfMemory;
+use crate::progression::Progression;
+use crate::steps::END;
+use crate::{pairs, ranges};
+use std::alloc::Global;
+use std::marker::Model;
+
+/// A finite set of 32-bit numbers.
+#[derive(Drop)]
+pub struct Set {
+    ranges: Vec<Progression>,
+}
+
+impl Model for Set {
+    ghost use Rattle.std.specs.Prelude.{List, ℕ};
+
+    ghost Value = { List ℕ };
+
+    ghost use Rattle.dom_set.specs.Elements.{elements_of};
+    ghost use Rattle.dom_set.specs.Progressions.{holds, IsApart};
+
+    ghost view = { λ s. elements_of (holds s.ranges.items) };
+
+    ghost invariant = { λ s. IsApart s.ranges.items };
+}
+
+impl Set {
+    /// The multiples of `align` in the ranges. Each pair is a lowest and a highest number; a pair
+    /// whose lowest is above its highest is empty.
+    pub fn from_ranges(alloc: Global, ranges: &[(u32, u32)], align: u32) -> Result<Set, OutOfMemory>
+        requires { IsPowerOfTwo align }
+        ensures { IfOk result (λ s. s ≡ elements_of (λ x. x % align == 0 && is_within ranges.now x)) }
+    {
+        let ranges = pairs::ranges_of(alloc, ranges, align)?;
+        Ok(Set { ranges })
+    }
+
+    /// Whether the number is an element.
+    pub fn has(&self, x: u32) -> bool
+        ensures { IsTrue result ↔ Contains self.now x }
+    {
+        ranges::any_has(&self.ranges, x)
+    }
+
+    /// How many elements there are.
+    pub fn size(&self) -> u64
+        ensures size { result ≡ length self.now }
+        ensures most { result ≤ 2 ^ 32 }
+        ensures ascending { IsStrictlyIncreasing self.now }
+        ensures words { All (λ x. x < 2 ^ 32) self.now }
+    {
+        ranges::count_below(&self.ranges, END)
+    }
+
+    /// The element with so many below it.
+    pub fn nth(&self, n: u64) -> u32
+        requires { n < length self.now }
+        ensures { slice_get self.now n ≡ Some result }
+    {
+        ranges::nth(&self.ranges, n)
+    }
+
+    /// The first element from the pivot upwards, or the first of all where there is none.
+    pub fn first_from(&self, pivot: u32) -> Option<u32>
+        ensures first { result ≡ first_cyclic self.now pivot }
+        ensures none { IsNone result ↔ (self.now ≡ []) }
+    {
+        match ranges::first_from(&self.ranges, pivot) {
+            Some(x) => Some(x),
+            None => ranges::first_from(&self.ranges, 0),
+        }
+    }
+
+    /// The common elements.
+    pub fn and(&self, alloc: Global, other: &Set) -> Result<Set, OutOfMemory>
+        ensures { IfOk result (λ s. s ≡ filter (is_in other.now) self.now) }
+    {
+        let ranges = ranges::common(alloc, &self.ranges, &other.ranges)?;
+        Ok(Set { ranges })
+    }
+
+    /// The elements that are not in the other set.
+    pub fn minus(&self, alloc: Global, other: &Set) -> Result<Set, OutOfMemory>
+        ensures { IfOk result (λ s. s ≡ filter (λ x. not (is_in other.now x)) self.now) }
+    {
+        let ranges = ranges::minus(alloc, &self.ranges, &other.ranges)?;
+        Ok(Set { ranges })
+    }
+
+    /// Each element plus the distance, modulo 2^32.
+    pub fn shift(&self, alloc: Global, distance: u32) -> Result<Set, OutOfMemory>
+        ensures { IfOk result (λ s. s ≡
+            elements_of (λ y. is_in self.now ((y + (2 ^ 32 - distance)) % 2 ^ 32))) }
+    {
+        let ranges = ranges::shifted(alloc, &self.ranges, distance)?;
+        Ok(Set { ranges })
+    }
+
+    /// The elements that are less than the number.
+    pub fn below(&self, alloc: Global, x: u32) -> Result<Set, OutOfMemory>
+        ensures { IfOk result (λ s. s ≡ filter (λ y. nat_lt y x) self.now) }
+    {
+        let mut ranges = Vec::new(alloc);
+        ranges::push_clipped(&mut ranges, &self.ranges, 0, u64::from(x))?;
+        Ok(Set { ranges })
+    }
+
+    /// The elements that are less than the number, both read as signed numbers.
+    pub fn signed_below(&self, alloc: Global, x: u32) -> Result<Set, OutOfMemory>
+        ensures { IfOk result (λ s. s ≡ filter (λ y. is_signed_lt y x) self.now) }
+    {
+        let mut ranges = Vec::new(alloc);
+        if x >= LEAST {
+            ranges::push_clipped(&mut ranges, &self.ranges, u64::from(LEAST), u64::from(x))?;
+            return Ok(Set { ranges });
+        }
+        ranges::push_clipped(&mut ranges, &self.ranges, 0, u64::from(x))?;
+        ranges::push_clipped(&mut ranges, &self.ranges, u64::from(LEAST), END)?;
+        Ok(Set { ranges })
+    }
+}
+
+impl PartialEq for Set {
+    ghost use Rattle.std.specs.Cmp;
+    ghost use Rattle.std.specs.Cmp.Lexicographic.{pointwise, nat_list_eq_equiv};
+    ghost use Rattle.std.specs.Prelude.{◌≡◌, ◌↔◌, IsTrue, nat_eq};
+
+    ghost eq = { pointwise nat_eq };
+
+    ghost laws = { Cmp.partial_equiv_from_equiv nat_list_eq_equiv };
+
+    fn eq(&self, other: &Self) -> bool
+        ensures value { result ≡ pointwise nat_eq self.now other.now }
+        ensures same { IsTrue result ↔ (self.now ≡ other.now) }
+    {
+        ranges::are_same(&self.ranges, &other.ranges)
+    }
+}
+
+impl Eq for Set {
+    ghost use Rattle.std.specs.Cmp.Lexicographic.{nat_list_eq_equiv};
+
+    ghost laws = { nat_list_eq_equiv };
+}
+
+/// The number that is the least of all when read as a signed one.
+const LEAST: u32 = 0x8000_0000;

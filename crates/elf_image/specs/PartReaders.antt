@@ -1,0 +1,123 @@
+-- The six parts of a file, as they are read.
+use Rattle.std.specs.Prelude.{ℕ, ◌+◌, ◌-◌, ◌*◌, ◌/◌, ◌%◌, ◌^◌, List, [], ◌∷◌, ◌++◌, length, Option, Some, None, nat_lt, ◌==◌, if◌then◌else◌}
+use Rattle.rv_hart.specs.declared.record.Record.{Record}
+use Rattle.tpl_parse.specs.declared.template.Region.{Region}
+use Rattle.tpl_admit.specs.declared.certificate.HartState.{HartState}
+use Rattle.byte_format.specs.Numbers.{half, word}
+use Rattle.byte_format.specs.Readers.{◌>>=◌, half_at, word_at, padded_at, both, then_at, behind, ahead, only_at, as_at, where_at, under, times, counted_at, chain_at, whole, within}
+use Rattle.elf_image.specs.declared.elf.TheConstants.{EV_CURRENT, ET_EXEC, EM_RISCV, EHDR_SIZE, PHDR_SIZE, PT_LOAD, PT_NOTE, PF_X, PF_W, PF_R, ALIGN, NAME_SIZE, NT_START, NT_TRACES, NT_FINAL, NT_TEMPLATE, NT_REST, VERSION}
+use Rattle.elf_image.specs.declared.runs.Run.{Run}
+use Rattle.elf_image.specs.declared.reading.headers.Head.{Head}
+use Rattle.elf_image.specs.declared.reading.headers.Table.{Table}
+use Rattle.elf_image.specs.Headers.{e_ident, headers_end}
+use Rattle.elf_image.specs.Notes.{note_name, Notes}
+use Rattle.elf_image.specs.File.{entry_of}
+use Rattle.elf_image.specs.Checks.{is_head, is_table, are_traces, are_in}
+use Rattle.elf_image.specs.ItemReaders.{state_at, trace_at}
+
+-- ---- part 1
+
+unfoldable pub kind_at : List ℕ → Option (ℕ × List ℕ)
+kind_at = behind (half ET_EXEC) (behind (half EM_RISCV) (behind (word EV_CURRENT) word_at))
+
+unfoldable pub counts_at : List ℕ → Option (ℕ × List ℕ)
+counts_at = ahead (ahead (ahead half_at (λ n. half 0)) (λ n. half 0)) (λ n. half 0)
+
+unfoldable pub places_at : List ℕ → Option (ℕ × List ℕ)
+places_at = behind (word EHDR_SIZE) (behind (word 0) (behind (word 0) (behind (half EHDR_SIZE) (behind (half PHDR_SIZE) counts_at))))
+
+abbrev pub head_of : ℕ × ℕ → Option Head
+head_of p = Some (record { entry = p.0; phnum = p.1 })
+
+unfoldable pub header_at : List ℕ → Option (Head × List ℕ)
+header_at = where_at is_head (as_at head_of (behind e_ident (both kind_at places_at)))
+
+unfoldable pub sized_header_at : List ℕ → Option (Head × List ℕ)
+sized_header_at bytes = if nat_lt 8388608 (length bytes) then None else header_at bytes
+
+-- ---- part 2
+
+-- a number that stands twice
+unfoldable pub twice_at : List ℕ → Option (ℕ × List ℕ)
+twice_at = ahead word_at (λ n. word n)
+
+-- a program header, of which the address and the size are read
+unfoldable pub segment_at : ℕ → ℕ → ℕ → List ℕ → Option ((ℕ × ℕ) × List ℕ)
+segment_at kind offset flags = both (behind (word kind) (behind (word offset) twice_at)) (ahead (ahead twice_at (λ n. word flags)) (λ n. word ALIGN))
+
+abbrev pub size_of : ℕ × ℕ → Option ℕ
+size_of p = if p.0 == 0 then Some p.1 else None
+
+unfoldable pub note_segment_at : ℕ → List ℕ → Option (ℕ × List ℕ)
+note_segment_at offset = as_at size_of (segment_at PT_NOTE offset PF_R)
+
+abbrev pub run_of : ℕ × ℕ → Option Run
+run_of p = if p.1 % 4 == 0 then Some (record { addr = p.0; words = p.1 / 4 }) else None
+
+unfoldable pub load_at : ℕ → List ℕ → Option (Run × List ℕ)
+load_at offset = under (nat_lt offset (2 ^ 32)) (as_at run_of (segment_at PT_LOAD offset (PF_R + PF_W + PF_X)))
+
+-- where the bytes behind those of a run lie
+abbrev pub next_offset : ℕ → Run → ℕ
+next_offset offset r = offset + 4 * r.words
+
+abbrev pub table_of : ℕ × List Run → Option Table
+table_of p = Some (record { notes = p.0; runs = p.1 })
+
+unfoldable pub table_at : ℕ → List ℕ → Option (Table × List ℕ)
+table_at phnum = where_at is_table (as_at table_of (then_at (note_segment_at (headers_end phnum)) (λ size. chain_at next_offset load_at (phnum - 1) (headers_end phnum + size))))
+
+-- ---- part 3
+
+abbrev pub desc_of : ℕ × List ℕ → Option (List ℕ)
+desc_of p = Some p.1
+
+unfoldable pub note_at : ℕ → List ℕ → Option (List ℕ × List ℕ)
+note_at kind = as_at desc_of (behind (word NAME_SIZE) (then_at word_at (λ size. behind (word kind) (behind note_name (padded_at size)))))
+
+-- a note whose desc is this piece and no more
+abbrev pub told_at : {A : Type 0} → ℕ → (List ℕ → Option (A × List ℕ)) → List ℕ → Option (A × List ℕ)
+told_at kind piece = as_at (whole piece) (note_at kind)
+
+unfoldable pub start_at : List ℕ → Option (List HartState × List ℕ)
+start_at = where_at (λ states. length states == 1) (behind (word VERSION) (counted_at state_at))
+
+unfoldable pub final_at : ℕ → ℕ → List ℕ → Option ((List HartState × List ℕ) × List ℕ)
+final_at harts total = where_at (λ p. length p.1 == total) (both (times state_at harts) (counted_at word_at))
+
+unfoldable pub rest_at : List ℕ → Option (Unit {0} × List ℕ)
+rest_at = behind (word 0) (behind (word 0) (only_at (word 0)))
+
+abbrev pub notes_from : List HartState × (List ℕ × ((List HartState × List ℕ) × (List ℕ × Unit {0}))) → Option Notes
+notes_from t = Some (record { start = t.0; traces = t.1.0; finals = t.1.1.0.0; last = t.1.1.0.1; text = t.1.1.1.0 })
+
+unfoldable pub notes_at : ℕ → List ℕ → Option (Notes × List ℕ)
+notes_at total = as_at notes_from (then_at (told_at NT_START start_at) (λ start. both (note_at NT_TRACES) (both (told_at NT_FINAL (final_at (length start) total)) (both (note_at NT_TEMPLATE) (told_at NT_REST rest_at)))))
+
+unfoldable pub segment_notes_at : ℕ → ℕ → List ℕ → Option (Notes × List ℕ)
+segment_notes_at size total = within size (notes_at total)
+
+-- ---- part 4
+
+unfoldable pub traces_at : ℕ → List ℕ → Option (List (List Record) × List ℕ)
+traces_at harts = where_at are_traces (times trace_at harts)
+
+-- ---- part 6
+
+-- a word with its address
+unfoldable pub placed_at : ℕ → List ℕ → Option ((ℕ × ℕ) × List ℕ)
+placed_at addr = as_at (λ value. Some (addr, value)) word_at
+
+abbrev pub next_address : ℕ → ℕ × ℕ → ℕ
+next_address addr word = addr + 4
+
+-- the words of the runs
+unfoldable pub words_at : List Run → List ℕ → Option (List (ℕ × ℕ) × List ℕ)
+words_at [] bytes = Some ([], bytes)
+words_at (r ∷ rs) bytes = chain_at next_address placed_at r.words r.addr bytes >>= λ ws. words_at rs ws.1 >>= λ more. Some (ws.0 ++ more.0, more.1)
+
+unfoldable pub image_at : Region → List Run → List ℕ → Option (List (ℕ × ℕ) × List ℕ)
+image_at ram runs = where_at (are_in ram) (words_at runs)
+
+unfoldable pub loaded_at : ℕ → List Run → List HartState → Region → List ℕ → Option (List (ℕ × ℕ))
+loaded_at entry runs start ram bytes = if entry == entry_of start then whole (image_at ram runs) bytes else None

@@ -1,0 +1,29 @@
+// Laws of files.
+ghost use Rattle.std.specs.Prelude.{◌≡◌, ◌<◌, ℕ, List, length};
+ghost use Rattle.std.specs.List.{AllByRecursion};
+ghost use Rattle.tpl_admit.specs.declared.certificate.Cert.{Cert};
+ghost use Rattle.tpl_admit.specs.Sizes.{file_size};
+ghost use Rattle.tpl_admit.specs.WellFormed.{IsWellFormed};
+ghost use Rattle.elf_image.specs.File.{file_bytes};
+ghost use Rattle.elf_image.specs.Parts.{IsFirstWrong};
+
+use tpl_parse::parses_are_unique;
+
+/// How many bytes the file of a certificate has.
+pub fn file_lengths()
+    ensures { (c : Cert) → length (file_bytes c) ≡ file_size c }
+{}
+
+/// No two well-formed certificates share a file.
+pub fn one_spelling()
+    ensures { (a b : Cert) → IsWellFormed a → IsWellFormed b → file_bytes a ≡ file_bytes b → a ≡ b }
+{
+    parses_are_unique();
+}
+
+/// At most one part of some bytes is the first wrong one.
+pub fn one_first_wrong()
+    ensures { (bytes : List ℕ) (j k : ℕ) → AllByRecursion (λ b. b < 256) bytes → IsFirstWrong bytes j → IsFirstWrong bytes k → j ≡ k }
+{
+    parses_are_unique();
+}

@@ -1,0 +1,142 @@
+// The certificate of a file, read part by part.
+ghost use Rattle.std.specs.Prelude.{◌≡◌, ℕ, Ok, Err, IfOk, IsTrue};
+ghost use Rattle.tpl_admit.specs.declared.certificate.Cert.{Cert as ACert};
+ghost use Rattle.tpl_admit.specs.WellFormed.{IsWellFormed};
+ghost use Rattle.tpl_parse.specs.declared.template.Template.{Template as ATemplate};
+ghost use Rattle.tpl_parse.specs.Form.{Parses};
+ghost use Rattle.elf_image.specs.File.{file_bytes};
+ghost use Rattle.elf_image.specs.Parts.{IsFirstWrong};
+ghost use Rattle.elf_image.specs.Checks.{are_runs};
+ghost use Rattle.elf_image.specs.Views.{front_view};
+ghost use Rattle.elf_image.specs.Whole.{GivesPart, IsRead, at_part, front_at};
+
+mod checks;
+mod headers;
+mod items;
+mod loads;
+mod notes;
+
+use crate::error::ReadError;
+use crate::runs::Run;
+use byte_format::PieceError;
+use headers::{sized_header_of, table_of};
+use loads::loaded_of;
+use notes::{NoteDescs, segment_notes_of, traces_of};
+use rv_hart::Record;
+use std::alloc::Global;
+use tpl_admit::Cert;
+use tpl_parse::{Items, ParseError, Template, parse, parses_are_unique};
+
+/// What the first four parts say, and the bytes behind the notes.
+#[derive(Drop)]
+struct Front<'a> {
+    entry: u32,
+    runs: Items<Run>,
+    notes: NoteDescs<'a>,
+    traces: Items<Items<Record>>,
+    rest: &'a [u8],
+}
+
+/// The error of a part whose piece isn't there.
+fn at(part: u8, error: PieceError) -> ReadError
+    ensures { result ≡ at_part part error }
+{
+    match error {
+        PieceError::Malformed => ReadError::Malformed { part },
+        PieceError::OutOfMemory => ReadError::OutOfMemory,
+    }
+}
+
+/// The first four parts: the headers, the notes and the records.
+#[tactic(auto, unfolding(crate::specs::Whole::front_at))]
+fn front_of(alloc: Global, bytes: &[u8]) -> Result<Front<'_>, ReadError>
+    ensures gives { GivesPart front_view result (front_at bytes.now) }
+    ensures runs { IfOk result (λ front. IsTrue (are_runs 0 front.runs)) }
+{
+    let (head, rest) = match sized_header_of(bytes) {
+        Ok(x) => x,
+        Err(e) => return Err(at(1, e)),
+    };
+    let (table, rest) = match table_of(alloc, rest, head.phnum) {
+        Ok(x) => x,
+        Err(e) => return Err(at(2, e)),
+    };
+    let (notes, rest) = match segment_notes_of(alloc, rest, &table) {
+        Ok(x) => x,
+        Err(e) => return Err(at(3, e)),
+    };
+    let traces = match traces_of(alloc, notes.traces, notes.start.len() as u32) {
+        Ok(x) => x,
+        Err(e) => return Err(at(4, e)),
+    };
+    Ok(Front {
+        entry: head.entry,
+        runs: table.runs,
+        notes,
+        traces,
+        rest,
+    })
+}
+
+/// The template of a text.
+fn template_of(alloc: Global, text: &[u8]) -> Result<Template, PieceError>
+    ensures found { IfOk result (λ t. Parses text.now t) }
+    ensures none { result ≡ Err PieceError.Malformed → (t : ATemplate) → Parses text.now t → ⊥ }
+{
+    match parse(alloc, text) {
+        Ok(template) => Ok(template),
+        Err(ParseError::Fault(_)) => Err(PieceError::Malformed),
+        Err(ParseError::OutOfMemory) => Err(PieceError::OutOfMemory),
+    }
+}
+
+/// All six parts.
+fn read_parts(alloc: Global, bytes: &[u8]) -> Result<Cert, ReadError>
+    ensures { IsRead bytes.now result }
+{
+    let front = match front_of(alloc, bytes) {
+        Ok(front) => front,
+        Err(e) => return Err(e),
+    };
+    let Front {
+        entry,
+        runs,
+        notes,
+        traces,
+        rest,
+    } = front;
+    let template = match template_of(alloc, notes.text) {
+        Ok(template) => template,
+        Err(e) => return Err(at(5, e)),
+    };
+    let start = notes.start.as_slice();
+    let words = match loaded_of(alloc, entry, runs.as_slice(), start, template.ram, rest) {
+        Ok(words) => words,
+        Err(e) => return Err(at(6, e)),
+    };
+    Ok(Cert {
+        start: notes.start,
+        words,
+        traces,
+        finals: notes.finals,
+        last: notes.last,
+        template,
+    })
+}
+
+/// The certificate of a file. Bytes that are no file of a well-formed certificate are malformed, with
+/// the first part that is wrong.
+pub fn read(alloc: Global, bytes: &[u8]) -> Result<Cert, ReadError>
+    // What is read is well-formed, and the bytes are its file.
+    ensures found { IfOk result (λ c. IsWellFormed c × (bytes.now ≡ file_bytes c)) }
+
+    // The file of a well-formed certificate is read, unless memory runs out.
+    ensures only { (c : ACert) → IsWellFormed c → bytes.now ≡ file_bytes c → GivesPart (λ x. x) result (Ok c) }
+
+    // Which part is wrong.
+    ensures wrong { (k : ℕ) → result ≡ Err (ReadError.Malformed k) → IsFirstWrong bytes.now k }
+{
+    // The law that a text says one template, for `only`.
+    parses_are_unique();
+    read_parts(alloc, bytes)
+}
