@@ -2,7 +2,7 @@
 use Rattle.std.proofs.Common.{◌≡◌, ℕ, ◌<◌, zero, suc, Some, None, Ok, Err, List, [], ◌∷◌, refl, sym, ap, subst, ◌∙◌, inl, inr, arith}
 use Rattle.std.specs.declared.option.Option.{Option}
 use Rattle.std.specs.declared.result.Result.{Result}
-use Rattle.std.specs.Prelude.{IfOk}
+use Rattle.std.specs.Prelude.{IfOk, MatchResult}
 use Rattle.std.specs.List.{AllByRecursion}
 use Rattle.std.proofs.lemmas.Option.{same_Some, none-some}
 use Rattle.tpl_parse.specs.declared.template.Template.{Template}
@@ -128,16 +128,16 @@ pub is_found : (bytes : List ℕ) (r : Result Cert ReadError) → IsRead bytes r
 is_found bytes (Ok c) f = of_file bytes c f
 is_found bytes (Err e) f = tt
 
-pub is_only : HasOne → (bytes : List ℕ) (r : Result Cert ReadError) → IsBytes bytes → IsRead bytes r → (c : Cert) → IsWellFormed c → bytes ≡ file_bytes c → GivesPart {X = Cert} {Y = Cert} (λ x. x) r (Ok c)
+pub is_only : HasOne → (bytes : List ℕ) (r : Result Cert ReadError) → IsBytes bytes → IsRead bytes r → (c : Cert) → IsWellFormed c → bytes ≡ file_bytes c → MatchResult r (λ d. d ≡ c) (λ x. x ≡ errors.OutOfMemory)
 is_only one bytes r fits is c w e = on r is
   where
     f : IsFile bytes c
     f = subst (λ (b : List ℕ). IsFile b c) (sym e) (is_file c w)
 
-    on : (r : Result Cert ReadError) → IsRead bytes r → GivesPart {X = Cert} {Y = Cert} (λ x. x) r (Ok c)
-    on (Ok d) g = ap (λ (x : Cert). Ok x) (file_unique one bytes c d f g)
+    on : (r : Result Cert ReadError) → IsRead bytes r → MatchResult r (λ d. d ≡ c) (λ x. x ≡ errors.OutOfMemory)
+    on (Ok d) g = file_unique one bytes d c g f
     on (Err (errors.Malformed k)) g = absurd (file_right one bytes c k fits f g)
-    on (Err errors.OutOfMemory) g = tt
+    on (Err errors.OutOfMemory) g = refl
 
 pub is_wrong : (bytes : List ℕ) (r : Result Cert ReadError) (k : ℕ) → IsRead bytes r → r ≡ Err (errors.Malformed k) → IsFirstWrong bytes k
 is_wrong bytes r k is e = subst (IsRead bytes) e is

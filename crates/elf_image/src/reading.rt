@@ -1,5 +1,5 @@
 // The certificate of a file, read part by part.
-ghost use Rattle.std.specs.Prelude.{◌≡◌, ℕ, Ok, Err, IfOk, IsTrue};
+ghost use Rattle.std.specs.Prelude.{◌≡◌, ℕ, Err, IfOk, IsTrue, MatchResult};
 ghost use Rattle.tpl_admit.specs.declared.certificate.Cert.{Cert as ACert};
 ghost use Rattle.tpl_admit.specs.WellFormed.{IsWellFormed};
 ghost use Rattle.tpl_parse.specs.declared.template.Template.{Template as ATemplate};
@@ -131,7 +131,7 @@ pub fn read(alloc: Global, bytes: &[u8]) -> Result<Cert, ReadError>
     ensures found { IfOk result (λ c. IsWellFormed c × (bytes.now ≡ file_bytes c)) }
 
     // The file of a well-formed certificate is read, unless memory runs out.
-    ensures only { (c : ACert) → IsWellFormed c → bytes.now ≡ file_bytes c → GivesPart (λ x. x) result (Ok c) }
+    ensures only { (c : ACert) → IsWellFormed c → bytes.now ≡ file_bytes c → MatchResult result (λ d. d ≡ c) (λ e. e ≡ ReadError.OutOfMemory) }
 
     // Which part is wrong.
     ensures wrong { (k : ℕ) → result ≡ Err (ReadError.Malformed k) → IsFirstWrong bytes.now k }

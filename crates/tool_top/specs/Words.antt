@@ -5,8 +5,7 @@ use Rattle.std.specs.Vec.Iter.{into_iter_items}
 use Rattle.std.specs.declared.vec.IntoIter.{IntoIter}
 use Rattle.std.specs.Str.Parse.{IsNumeral, digits_value}
 use Rattle.tool_top.specs.declared.words.Command.{Command}
-use Rattle.tool_top.specs.declared.words.Command.TheVariants.{Gen, List as Listing}
-use Rattle.tool_top.specs.declared.words.Request.{Request}
+use Rattle.tool_top.specs.declared.words.Command.TheVariants.{Gen, List as Listing, Replay}
 
 -- one to twenty decimal digits of a number below 2 ^ 64
 pub record IsSeed (word : List ℕ) : Type 0 where
@@ -14,20 +13,24 @@ pub record IsSeed (word : List ℕ) : Type 0 where
   pub digits : IsNumeral 10 word
   pub below : digits_value 10 word < 2 ^ 64
 
--- the name of a command among the words
-abbrev pub name_of : Command → List ℕ
-name_of Gen = codes "gen"
-name_of Listing = codes "list"
+-- the command that a name and a seed ask for
+abbrev pub IsSeeded : List ℕ → ℕ → Command → Type 0
+IsSeeded name n (Gen seed) = (name ≡ codes "gen") × (seed ≡ n)
+IsSeeded name n (Listing seed) = (name ≡ codes "list") × (seed ≡ n)
+IsSeeded name n Replay = ⊥
 
--- the words are `NAME --seed N` with this command's name and this seed
-pub record IsRequest (words : List (List ℕ)) (command : Command) (seed : ℕ) : Type 0 where
+-- the words are `NAME --seed N`
+pub record AreSeeded (words : List (List ℕ)) (name : List ℕ) (seed : ℕ) : Type 0 where
   pub number : List ℕ
-  pub words_are : words ≡ name_of command ∷ codes "--seed" ∷ number ∷ []
+  pub words_are : words ≡ name ∷ codes "--seed" ∷ number ∷ []
   pub is_seed : IsSeed number
   pub value : seed ≡ digits_value 10 number
 
-abbrev pub request_of : Command → ℕ → Request
-request_of command seed = record { command = command; seed = seed }
+-- the words ask for the command
+abbrev pub IsCommand : List (List ℕ) → Command → Type 0
+IsCommand words (Gen seed) = AreSeeded words (codes "gen") seed
+IsCommand words (Listing seed) = AreSeeded words (codes "list") seed
+IsCommand words Replay = words ≡ codes "replay" ∷ []
 
 -- the words are the arguments behind the first one, which is the program's own name, or none where the arguments can't be told
 abbrev pub AreWordsOf : {E : Type 0} → List (List ℕ) → Result (IntoIter (String Global) Global) E → Type 0

@@ -1,18 +1,22 @@
-// From the text of a template to the texts that a command writes of its test.
-ghost use Rattle.std.specs.Prelude.{◌≡◌, ◌<◌, ◌≤◌, length, IfOk, IfErr, IfSome};
+// From what was read to the texts that a command writes.
+ghost use Rattle.std.specs.Prelude.{◌≡◌, ◌<◌, ◌≤◌, ℕ, List, length, IfOk, IfErr, IfSome, true};
 ghost use Rattle.tpl_admit.specs.Sizes.{certificate_size};
 ghost use Rattle.tpl_admit.specs.WellFormed.{IsWellFormed};
 ghost use Rattle.elf_image.specs.File.{file_bytes};
+ghost use Rattle.elf_image.specs.Parts.{IsFirstWrong};
 ghost use Rattle.trace_text.specs.Report.{report_text};
-ghost use Rattle.tool_top.specs.Promise.{AreTexts, IsRefusedRightly, out_text, beside_text};
+ghost use Rattle.trace_text.specs.Verdicts.{verdict_text, malformed_text};
+ghost use Rattle.tool_top.specs.declared.words.Command.TheVariants.{Replay};
+ghost use Rattle.tool_top.specs.Promise.{AreTexts, IsRefusedRightly, IsNoFile, out_text, beside_text, takes_template};
 
 use crate::words::Command;
-use elf_image::write;
+use elf_image::{ReadError, read, write};
 use gen_engine::generate;
+use replay_check::{Verdict, check};
 use std::alloc::Global;
 use tpl_admit::Cert;
 use tpl_parse::{ParseError, parse};
-use trace_text::report;
+use trace_text::{malformed, report, verdict};
 
 /// What a command writes: to `out`, and beside that to `report`.
 #[derive(Drop)]
@@ -21,23 +25,52 @@ pub struct Texts {
     pub beside: Vec<u8>,
 }
 
-/// The texts that a command writes of the test of a template's text.
-pub fn texts_for(alloc: Global, command: Command, text: &[u8]) -> Result<Texts, ParseError>
-    ensures found { IfOk result (λ t. AreTexts command text.now t.out.items t.beside.items) }
-    ensures refused { IfErr result (IsRefusedRightly text.now) }
+/// Why a command writes no texts.
+#[derive(Drop)]
+pub enum Refusal {
+    /// The bytes are no template.
+    NoTemplate,
+    /// The bytes are no file; with the line that says which part is the first wrong one.
+    NoFile(Vec<u8>),
+    /// The bytes are the file of a certificate that is not valid; with the line that says its first failure.
+    NotValid(Vec<u8>),
+    OutOfMemory,
+}
+
+/// The texts that a command writes of the bytes that it read.
+pub fn texts_for(alloc: Global, command: Command, bytes: &[u8]) -> Result<Texts, Refusal>
+    ensures found { IfOk result (λ t. AreTexts command bytes.now t.out.items t.beside.items) }
+    ensures refused { IfErr result (IsRefusedRightly command bytes.now) }
 {
-    let template = parse(alloc, text)?;
-    let Ok(certificate) = generate(alloc, template) else {
-        return Err(ParseError::OutOfMemory);
-    };
-    match texts_of(alloc, command, &certificate) {
-        Some(texts) => Ok(texts),
-        None => Err(ParseError::OutOfMemory),
+    match command {
+        Command::Replay => replay_texts(alloc, bytes),
+        _ => test_texts(alloc, command, bytes),
     }
 }
 
-/// The texts that a command writes of a certificate; `None` where there is no memory for them.
+/// The texts that a command writes of the test of a template.
+fn test_texts(alloc: Global, command: Command, bytes: &[u8]) -> Result<Texts, Refusal>
+    requires { takes_template command ≡ true }
+    ensures found { IfOk result (λ t. AreTexts command bytes.now t.out.items t.beside.items) }
+    ensures refused { IfErr result (IsRefusedRightly command bytes.now) }
+{
+    let template = match parse(alloc, bytes) {
+        Ok(template) => template,
+        Err(ParseError::Fault(_)) => return Err(Refusal::NoTemplate),
+        Err(ParseError::OutOfMemory) => return Err(Refusal::OutOfMemory),
+    };
+    let Ok(certificate) = generate(alloc, template) else {
+        return Err(Refusal::OutOfMemory);
+    };
+    match texts_of(alloc, command, &certificate) {
+        Some(texts) => Ok(texts),
+        None => Err(Refusal::OutOfMemory),
+    }
+}
+
+/// The texts that a command writes of the certificate of a test; `None` where there is no memory for them.
 fn texts_of(alloc: Global, command: Command, certificate: &Cert) -> Option<Texts>
+    requires template { takes_template command ≡ true }
     requires well_formed { IsWellFormed certificate.now }
     requires size { certificate_size certificate.now ≤ 4000 }
     ensures out { IfSome result (λ t. t.out.items ≡ out_text command certificate.now) }
@@ -47,14 +80,14 @@ fn texts_of(alloc: Global, command: Command, certificate: &Cert) -> Option<Texts
 {
     let listing = listing_of(alloc, certificate)?;
     match command {
-        Command::Gen => {
+        Command::Gen { .. } => {
             let out = file_of(alloc, certificate)?;
             Some(Texts {
                 out,
                 beside: listing,
             })
         }
-        Command::List => Some(Texts {
+        _ => Some(Texts {
             out: listing,
             beside: Vec::new(alloc),
         }),
@@ -80,4 +113,48 @@ fn file_of(alloc: Global, certificate: &Cert) -> Option<Vec<u8>>
     ensures size { IfSome result (λ v. length v.items < 16777216) }
 {
     write(alloc, certificate).ok()
+}
+
+/// The verdict on the certificate of a file, where it is yes.
+fn replay_texts(alloc: Global, bytes: &[u8]) -> Result<Texts, Refusal>
+    ensures found { IfOk result (λ t. AreTexts Replay bytes.now t.out.items t.beside.items) }
+    ensures refused { IfErr result (IsRefusedRightly Replay bytes.now) }
+{
+    let certificate = match read(alloc, bytes) {
+        Ok(certificate) => certificate,
+        Err(ReadError::Malformed { part }) => return Err(no_file(alloc, part)),
+        Err(ReadError::OutOfMemory) => return Err(Refusal::OutOfMemory),
+    };
+    let Ok(answer) = check(alloc, &certificate) else {
+        return Err(Refusal::OutOfMemory);
+    };
+    let Some(line) = verdict_line(alloc, &answer) else {
+        return Err(Refusal::OutOfMemory);
+    };
+    match answer {
+        Verdict::Yes => Ok(Texts {
+            out: line,
+            beside: Vec::new(alloc),
+        }),
+        Verdict::No { .. } => Err(Refusal::NotValid(line)),
+    }
+}
+
+/// The line of a verdict.
+fn verdict_line(alloc: Global, answer: &Verdict) -> Option<Vec<u8>>
+    ensures text { IfSome result (λ v. v.items ≡ verdict_text answer.now) }
+    ensures size { IfSome result (λ v. length v.items < 16777216) }
+{
+    let line = verdict(alloc, answer).ok()?;
+    Some(line.into_bytes())
+}
+
+/// That bytes are no file, with the line that tells their first wrong part.
+fn no_file(alloc: Global, part: u8) -> Refusal
+    ensures { (bytes : List ℕ) → IsFirstWrong bytes part → IsNoFile bytes → IsRefusedRightly Replay bytes result }
+{
+    match malformed(alloc, part) {
+        Ok(line) => Refusal::NoFile(line.into_bytes()),
+        Err(_) => Refusal::OutOfMemory,
+    }
 }

@@ -2,7 +2,7 @@ ghost use Rattle.std.specs.Prelude.{◌≤◌};
 ghost use Rattle.streams.specs.Sink.{HasRoom};
 
 use crate::command::run;
-use crate::words::{ArgList, words_of};
+use crate::words::{ArgList, Command, words_of};
 use std::alloc::{AllocError, Global};
 use std::io::{Error, ErrorKind};
 use std::test::Fail;
@@ -13,6 +13,8 @@ const ROOM: usize = 16_777_216;
 const GEN: [&str; 3] = ["gen", "--seed", "1"];
 
 const LIST: [&str; 3] = ["list", "--seed", "1"];
+
+const REPLAY: [&str; 1] = ["replay"];
 
 const ONE_LEAF: &str = "ram 0x80000000 0x80001000
 pool 0x80000000
@@ -244,7 +246,10 @@ fn other_words_are_told_the_usage(rt: HostRuntime) -> Result<(), Fail> {
         &["gen", "--seed", "18446744073709551616"],
         &["gen", "--seed", "000000000000000000001"],
         &["gen", "--seed", "1", "2"],
-        &["replay"],
+        &["list"],
+        &["replay", "--seed", "1"],
+        &["replay", "1"],
+        &["Replay"],
     ] {
         let mut source = SureSource::new(ONE_LEAF.as_bytes().to_vec(alloc)?);
         let mut out = SureSink::with_room(alloc, ROOM)?;
@@ -265,10 +270,10 @@ fn the_words_stand_behind_the_program_s_name(rt: HostRuntime) -> Result<(), Fail
         arguments.push(String::from_str(alloc, argument)?)?;
     }
     let words = words_of(alloc, Ok(arguments.into_iter()))?;
-    assert_eq!(rt; words.request().map(|request| request.seed), Some(7));
+    assert_eq!(rt; words.command(), Some(Command::Gen { seed: 7 }));
 
     let none = words_of(alloc, Err(Error::from(ErrorKind::InvalidData)))?;
-    assert!(rt; none.request().is_none());
+    assert!(rt; none.command().is_none());
     let refused = words_of(alloc, Err(Error::from(ErrorKind::OutOfMemory)));
     assert!(rt; refused.is_err());
     Ok(())
@@ -364,5 +369,216 @@ fn a_frame_is_filled_by_1024_leaves(rt: HostRuntime) -> Result<(), Fail> {
     // Beside the lines of the harts, the start, the end and two registers: a step and a word for each leaf.
     let lines = report.bytes().iter().filter(|b| **b == b'\n').count();
     assert_eq!(rt; lines, 5 + 2 * 1024);
+    Ok(())
+}
+
+/// The bytes that digits in hexadecimal stand for.
+fn bytes_of(alloc: Global, digits: &str) -> Result<Vec<u8>, AllocError> {
+    let mut bytes = Vec::new(alloc);
+    for pair in digits.as_bytes().chunks(2) {
+        let mut byte = 0u8;
+        for digit in pair {
+            byte = byte.wrapping_mul(16).wrapping_add(match digit {
+                b'0'..=b'9' => digit - b'0',
+                b'a'..=b'f' => digit - b'a' + 10,
+                _ => 0,
+            });
+        }
+        bytes.push(byte)?;
+    }
+    Ok(bytes)
+}
+
+/// The file of ONE_LEAF, from its digits.
+fn one_leaf_file(alloc: Global) -> Result<Vec<u8>, AllocError> {
+    let mut bytes = Vec::new(alloc);
+    for part in ONE_LEAF_FILE {
+        for byte in &bytes_of(alloc, part)? {
+            bytes.push(*byte)?;
+        }
+    }
+    Ok(bytes)
+}
+
+/// What `replay` answers.
+#[derive(Drop)]
+struct Answer {
+    status: u8,
+    out: Vec<u8>,
+    report: Vec<u8>,
+}
+
+fn replayed(alloc: Global, file: &[u8]) -> Result<Answer, AllocError> {
+    let mut source = ReadSource::new(file);
+    let mut written = Vec::new(alloc);
+    let mut told = Vec::new(alloc);
+    let mut out = WriteSink::new(&mut written);
+    let mut report = WriteSink::new(&mut told);
+    let status = status_of(alloc, &REPLAY, &mut source, &mut out, &mut report)?;
+    Ok(Answer {
+        status,
+        out: written,
+        report: told,
+    })
+}
+
+/// Whether `replay` ends with this status and writes just these texts.
+fn answers(
+    alloc: Global,
+    file: &[u8],
+    status: u8,
+    out: &str,
+    report: &str,
+) -> Result<bool, AllocError> {
+    let answer = replayed(alloc, file)?;
+    Ok(
+        answer.status == status
+            && answer.out.as_slice() == out.as_bytes()
+            && answer.report.as_slice() == report.as_bytes(),
+    )
+}
+
+#[test]
+fn the_file_of_a_test_replays(rt: HostRuntime) -> Result<(), Fail> {
+    let alloc = rt.alloc();
+    assert!(rt; answers(alloc, &one_leaf_file(alloc)?, 0, "yes\n", "")?);
+    for text in [ONE_LEAF, NO_LEAF, THREE_LEAVES] {
+        let mut source = ReadSource::new(text.as_bytes());
+        let mut file = Vec::new(alloc);
+        let mut told = Vec::new(alloc);
+        let mut out = WriteSink::new(&mut file);
+        let mut report = WriteSink::new(&mut told);
+        let status = status_of(alloc, &GEN, &mut source, &mut out, &mut report)?;
+        assert_eq!(rt; status, 0);
+        assert!(rt; answers(alloc, &file, 0, "yes\n", "")?);
+    }
+    Ok(())
+}
+
+#[test]
+fn what_is_no_file_is_told(rt: HostRuntime) -> Result<(), Fail> {
+    let alloc = rt.alloc();
+    let file = one_leaf_file(alloc)?;
+    let mut longer = file.clone()?;
+    longer.push(0)?;
+    assert!(rt; !file.is_empty());
+    let shorter = &file[..file.len() - 1];
+    assert!(rt; answers(alloc, shorter, 9, "", "malformed part 6\n")?);
+    assert!(rt; answers(alloc, &longer, 9, "", "malformed part 6\n")?);
+    for bytes in [
+        Vec::new(alloc),
+        vec![in alloc; 0xFF; 1000]?,
+        vec![in alloc; 0; 8_388_609]?,
+        ONE_LEAF.as_bytes().to_vec(alloc)?,
+    ] {
+        assert!(rt; answers(alloc, &bytes, 9, "", "malformed part 1\n")?);
+    }
+    // A good front, and then too many bytes.
+    let mut long = file.clone()?;
+    for _ in 0..8_388_608usize {
+        long.push(0)?;
+    }
+    assert!(rt; answers(alloc, &long, 9, "", "malformed part 1\n")?);
+    Ok(())
+}
+
+/// Whether `replay` answers so where one byte of ONE_LEAF's file is another one.
+fn answers_changed(
+    alloc: Global,
+    at: usize,
+    byte: u8,
+    status: u8,
+    line: &str,
+) -> Result<bool, AllocError> {
+    let mut file = one_leaf_file(alloc)?;
+    if let Some(place) = file.get_mut(at) {
+        *place = byte;
+    }
+    match status {
+        10 => answers(alloc, &file, status, line, ""),
+        _ => answers(alloc, &file, status, "", line),
+    }
+}
+
+#[test]
+fn what_is_not_valid_is_told(rt: HostRuntime) -> Result<(), Fail> {
+    let alloc = rt.alloc();
+    // The place of a byte in the file, what stands there then, and the verdict.
+    for (at, byte, line) in [
+        // the next pc, the word, the register and its value in the record
+        (200usize, 0x08u8, "no 1 hart 0 step 0\n"),
+        (197, 0x03, "no 1 hart 0 step 0\n"),
+        (207, 6, "no 1 hart 0 step 0\n"),
+        (208, 8, "no 1 hart 0 step 0\n"),
+        // the access's value and its role
+        (226, 0x80, "no 1 hart 0 step 0\n"),
+        (228, 2, "no 1 hart 0 step 0\n"),
+        // the loaded word: another ADDI, one that needs x1, and no instruction
+        (486, 0x80, "no 1 hart 0 step 0\n"),
+        (485, 0x82, "no 2 hart 0 step 0\n"),
+        (484, 0x00, "no 3 hart 0 step 0\n"),
+        // the final pc, register and value, and the final word
+        (252, 0x08, "no 4 hart 0 step 1\n"),
+        (276, 6, "no 4 hart 0 step 1\n"),
+        (280, 8, "no 4 hart 0 step 1\n"),
+        (288, 0x92, "no 4 hart 1 step 0\n"),
+        // the immediate in the template
+        (445, b'8', "no 6 hart 0 step 0\n"),
+    ] {
+        assert!(rt; answers_changed(alloc, at, byte, 10, line)?, "{at}");
+    }
+    // One byte of each part.
+    for (at, byte, line) in [
+        (18usize, 0u8, "malformed part 1\n"),
+        (60, 1, "malformed part 2\n"),
+        (116, 6, "malformed part 3\n"),
+        (188, 2, "malformed part 4\n"),
+        (312, b's', "malformed part 5\n"),
+        (24, 4, "malformed part 6\n"),
+    ] {
+        assert!(rt; answers_changed(alloc, at, byte, 9, line)?, "{at}");
+    }
+    Ok(())
+}
+
+/// Whether `replay` ends with 0, 9 or 10.
+fn is_judged(alloc: Global, file: &[u8]) -> Result<bool, AllocError> {
+    let answer = replayed(alloc, file)?;
+    Ok(matches!(answer.status, 0 | 9 | 10))
+}
+
+#[test]
+fn every_front_and_every_flipped_bit_is_judged(rt: HostRuntime) -> Result<(), Fail> {
+    let alloc = rt.alloc();
+    let file = one_leaf_file(alloc)?;
+    assert_eq!(rt; file.len(), 488);
+    for at in 0..file.len() {
+        assert!(rt; is_judged(alloc, &file[..at])?, "front of {at}");
+        let mut flipped = file.clone()?;
+        if let Some(byte) = flipped.get_mut(at) {
+            *byte ^= 1;
+        }
+        assert!(rt; is_judged(alloc, &flipped)?, "byte {at}");
+    }
+    Ok(())
+}
+
+#[test]
+fn a_failing_verdict_keeps_a_front(rt: HostRuntime) -> Result<(), Fail> {
+    let alloc = rt.alloc();
+    let good = one_leaf_file(alloc)?;
+    let mut bad = good.clone()?;
+    if let Some(byte) = bad.get_mut(200) {
+        *byte = 8;
+    }
+    for (file, status, front) in [(good, 7u8, "ye"), (bad, 10, "no")] {
+        let mut source = SureSource::new(file);
+        let mut out = MemSink::with_room(alloc, ROOM, 2, vec![in alloc; 2u64]?)?;
+        let mut report = SureSink::with_room(alloc, ROOM)?;
+        let answer = status_of(alloc, &REPLAY, &mut source, &mut out, &mut report)?;
+        assert_eq!(rt; answer, status);
+        assert_eq!(rt; out.bytes(), front.as_bytes());
+        assert_eq!(rt; report.bytes().len(), 0);
+    }
     Ok(())
 }

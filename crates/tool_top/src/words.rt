@@ -3,7 +3,7 @@ ghost use Rattle.std.specs.Prelude.{◌≡◌, ℕ, Some, [], ◌∷◌, ◌++�
 ghost use Rattle.std.specs.Vec.Iter.{into_iter_items};
 ghost use Rattle.std.specs.Str.Parse.{digits_value};
 ghost use Rattle.tool_top.specs.declared.words.Command.{Command as ACommand};
-ghost use Rattle.tool_top.specs.Words.{IsSeed, IsRequest, AreWordsOf, name_of, request_of};
+ghost use Rattle.tool_top.specs.Words.{IsSeed, IsCommand, IsSeeded, AreWordsOf};
 
 use std::alloc::{AllocError, Global};
 use std::env::Args;
@@ -11,20 +11,15 @@ use std::io;
 use std::io::ErrorKind;
 use std::marker::Model;
 
-/// What the program can be asked to do with a template.
+/// What the program can be asked to do.
 #[derive(Clone, Copy, Debug, PartialEq, Eq)]
 pub enum Command {
-    /// `gen`: the file of its test, and the report.
-    Gen,
-    /// `list`: the report alone.
-    List,
-}
-
-/// What the words ask for.
-#[derive(Clone, Copy, Debug, PartialEq, Eq)]
-pub struct Request {
-    pub command: Command,
-    pub seed: u64,
+    /// `gen`: the file of a template's test, and its report.
+    Gen { seed: u64 },
+    /// `list`: the report of a template's test alone.
+    List { seed: u64 },
+    /// `replay`: whether the certificate of a file is valid.
+    Replay,
 }
 
 /// The words after the program's name, which a contract sees as the list of their bytes.
@@ -73,29 +68,29 @@ impl ArgList {
     }
 
     /// What the words ask for, where they are those of a command.
-    pub fn request(&self) -> Option<Request>
-        ensures found { IfSome result (λ r. IsRequest self.now r.command r.seed) }
-        ensures only { (command : ACommand) (n : ℕ) → IsRequest self.now command n → result ≡ Some (request_of command n) }
+    pub fn command(&self) -> Option<Command>
+        ensures found { IfSome result (λ c. IsCommand self.now c) }
+        ensures only { (command : ACommand) → IsCommand self.now command → result ≡ Some command }
     {
         match self.texts.as_slice() {
+            [name] if name.as_str() == "replay" => Some(Command::Replay),
             [name, option, number] if option.as_str() == "--seed" => {
-                let command = command_named(name.as_str())?;
                 let seed = seed_of(number.as_str())?;
-                Some(Request { command, seed })
+                seeded(name.as_str(), seed)
             }
             _ => None,
         }
     }
 }
 
-/// The command with this name.
-fn command_named(name: &str) -> Option<Command>
-    ensures found { IfSome result (λ c. name.now ≡ name_of c) }
-    ensures only { (c : ACommand) → name.now ≡ name_of c → result ≡ Some c }
+/// The command with this name that takes a seed.
+fn seeded(name: &str, seed: u64) -> Option<Command>
+    ensures found { IfSome result (λ c. IsSeeded name.now seed c) }
+    ensures only { (command : ACommand) → IsSeeded name.now seed command → result ≡ Some command }
 {
     match name {
-        "gen" => Some(Command::Gen),
-        "list" => Some(Command::List),
+        "gen" => Some(Command::Gen { seed }),
+        "list" => Some(Command::List { seed }),
         _ => None,
     }
 }

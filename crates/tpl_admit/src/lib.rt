@@ -2,6 +2,8 @@
 //! harts over one memory, what a start leaves open, and when a template admits a trace are defined here.
 #![tactic(auto)]
 
+mod admission;
 mod certificate;
 
+pub use admission::{Unmet, admits, least_failures_are_unique};
 pub use certificate::{Cert, HartState};

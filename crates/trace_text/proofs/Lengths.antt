@@ -19,7 +19,10 @@ use Rattle.tpl_admit.specs.declared.certificate.Cert.{Cert}
 use Rattle.tpl_admit.specs.declared.certificate.HartState.{HartState}
 use Rattle.tpl_admit.specs.Sizes.{states_size, trace_size, traces_size, certificate_size}
 use Rattle.tpl_admit.specs.Starts.{trace_of, final_of, no_state}
+use Rattle.replay_check.specs.declared.verdict.Verdict.{Verdict}
+use Rattle.replay_check.specs.declared.verdict.Verdict.TheVariants.{Yes, No}
 use Rattle.trace_text.specs.Numbers.{hex8, letter, role_name, csr_name, place_name}
+use Rattle.trace_text.specs.Verdicts.{no_text, verdict_text, malformed_text}
 use Rattle.trace_text.specs.Steps.{access_text, accesses_text, outcome_text, rd_text, step_head, fetched_text, step_end, step_line, steps_text}
 use Rattle.trace_text.specs.Report.{state_head, state_csrs, state_line, place_line, places_text, hart_text, harts_text, word_line, words_text, harts_line, report_text}
 use Rattle.trace_text.proofs.Parts.{hart_of}
@@ -188,3 +191,15 @@ harts_line_short n = simp length-append (omega (arith, decimal_short n))
 pub report_short : (c : Cert) → length (report_text c) ≤ 2048 * certificate_size c + 2048
 unfolding report_text
 report_short c = simp length-append (omega (arith, harts_line_short (length c.start), harts_short c, words_short c.words c.last))
+
+no_short : (kind hart step : ℕ) → length (no_text kind hart step) ≤ 256
+unfolding no_text
+no_short kind hart step = simp length-append (omega (arith, decimal_short kind, decimal_short hart, decimal_short step))
+
+pub verdict_short : (v : Verdict) → length (verdict_text v) ≤ 256
+verdict_short Yes = omega arith
+verdict_short (No kind hart step) = no_short kind hart step
+
+pub malformed_short : (part : ℕ) → length (malformed_text part) ≤ 256
+unfolding malformed_text
+malformed_short part = simp length-append (omega (arith, decimal_short part))

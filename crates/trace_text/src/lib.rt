@@ -1,4 +1,5 @@
-//! The texts of the tool: the report of a certificate, line by line, and how long it can be.
+//! The texts of the tool: the report of a certificate, line by line, and what is said of a file; and how long
+//! they can be.
 #![tactic(auto)]
 
 mod error;
@@ -8,6 +9,8 @@ mod printing;
 mod steps;
 #[cfg(test)]
 mod tests;
+mod verdicts;
 
 pub use error::OutOfMemory;
 pub use printing::report;
+pub use verdicts::{malformed, verdict};

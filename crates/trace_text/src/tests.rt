@@ -1,6 +1,7 @@
 ghost use Rattle.std.specs.Prelude.{◌≡◌, length, IfOk};
 
-use crate::report;
+use crate::{malformed, report, verdict};
+use replay_check::Verdict;
 use rv_hart::{Access, Accesses, Outcome, Priv, Record, Role};
 use std::alloc::{AllocError, Global};
 use std::test::Fail;
@@ -251,5 +252,22 @@ fn the_report_of_two_harts(rt: HostRuntime) -> Result<(), Fail> {
         [0x0062_8023, 0x0002_8383, 0x4433_22AA].as_slice(),
     )?;
     assert_eq!(rt; report(alloc, &cert)?.as_str(), TWO_HARTS);
+    Ok(())
+}
+
+#[test]
+fn a_file_is_told_in_one_line(rt: HostRuntime) -> Result<(), Fail> {
+    let alloc = rt.alloc();
+    let no = Verdict::No {
+        kind: 5,
+        hart: 1,
+        step: 4_294_967_295,
+    };
+    assert_eq!(rt; verdict(alloc, &Verdict::Yes)?.as_str(), "yes\n");
+    assert_eq!(rt;
+        verdict(alloc, &no)?.as_str(),
+        "no 5 hart 1 step 4294967295\n"
+    );
+    assert_eq!(rt; malformed(alloc, 6)?.as_str(), "malformed part 6\n");
     Ok(())
 }

@@ -1,7 +1,7 @@
 use Rattle.std.proofs.Common.{◌≡◌, ◌∙◌, ap, List, length, map, drop, string_bytes, Vec, String, Global, rules}
 use Rattle.std.specs.Vec.Iter.{into_iter_items}
 use Rattle.std.proofs.IntoIterSteps.{All-taken}
-use Rattle.tool_top.proofs.Commands.{first_dropped, none_dropped}
+use Rattle.tool_top.proofs.WordLemmas.{first_dropped, none_dropped}
 use Rattle.tool_top.proofs.words.ArgList.from_args.Goals.{then-not-is_empty, else-not-is_empty}
 use Rattle.tool_top.proofs.words.ArgList.from_args.Goals as goal
 

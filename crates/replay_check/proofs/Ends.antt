@@ -1,0 +1,207 @@
+-- How harts and memory end.
+use Rattle.std.proofs.Common.{◌≡◌, ℕ, zero, suc, ◌+◌, ◌*◌, ◌/◌, ◌%◌, ◌<◌, ◌≤◌, Bool, true, eqb, List, [], ◌∷◌, length, get_or, map, Option, Some, None, if◌then◌else◌, refl, sym, ap, ◌∙◌, subst, inl, inr, arith}
+use Rattle.std.specs.Prelude.{slice_index_or}
+use Rattle.std.specs.Option.{unwrap_or, is_some}
+use Rattle.std.specs.List.{AllByRecursion}
+use Rattle.std.proofs.Math.Path.{fun_ext}
+use Rattle.std.proofs.lemmas.Bool.{cases_Bool, cases_lt, eq-eqb, eqb-true, ne_eqb}
+use Rattle.std.proofs.lemmas.List.{get_or_past}
+use Rattle.rv_script.specs.declared.access.Access.{Access}
+use Rattle.rv_script.specs.Lists.{HasItem}
+use Rattle.rv_script.specs.Bytes.{is_look}
+use Rattle.rv_script.specs.Memory.{memory_after}
+use Rattle.rv_hart.specs.declared.csrs.Priv.{Priv}
+use Rattle.rv_hart.specs.declared.hart.Hart.{Hart}
+use Rattle.rv_hart.specs.declared.record.Record.{Record}
+use Rattle.rv_hart.specs.Machine.{Fixed}
+use Rattle.rv_hart.specs.View.{lazy_csrs, at_position}
+use Rattle.rv_hart.specs.Whole.{WholeHart, csr_key}
+use Rattle.tpl_parse.specs.declared.template.Region.{Region}
+use Rattle.tpl_admit.specs.declared.certificate.Cert.{Cert}
+use Rattle.tpl_admit.specs.declared.certificate.HartState.{HartState}
+use Rattle.tpl_admit.specs.Starts.{found, is_in, ArePlaces, AreStartWords, no_state, start_of, final_of, trace_of, word_of, fixed_in, first_hart, first_memory, is_given, zero_elsewhere}
+use Rattle.tpl_admit.specs.Races.{footprint_of, IsRaceFree}
+use Rattle.tpl_admit.specs.Solo.{Solo, solo, solo_run, knows_after}
+use Rattle.tpl_admit.specs.Validity.{in_turn}
+use Rattle.tpl_admit.specs.WellFormed.{IsState, IsWellFormed}
+use Rattle.tpl_admit.specs.Failures.{AreRight, GoesWrong, HartIsRight, HartGoesWrong, EndsAsTold}
+use Rattle.replay_check.specs.Knowledge.{lazy_place, known_at, known_of, knows_of, fixed_now, whole_of}
+use Rattle.replay_check.specs.Memory.{IsStart}
+use Rattle.replay_check.specs.Replay.{TakesAll, StraysAt, EndsAs, IsFixedTold}
+use Rattle.replay_check.proofs.Keys.{found_no_key}
+use Rattle.replay_check.proofs.Lazy.{lazy_at, lazy_key, lazy_of}
+use Rattle.replay_check.proofs.Knowledge.{wholes, known_zero, known_small, known_large}
+use Rattle.replay_check.proofs.Looks.{looks_leave}
+use Rattle.replay_check.proofs.Traces.{right_looks}
+
+-- ---- the lists of a well-formed certificate
+
+pub states_places : (ss : List HartState) (k : ℕ) → AllByRecursion IsState ss → ArePlaces 0 (slice_index_or ss k no_state).places
+states_places [] k are = tt
+states_places (s ∷ ss) zero are = are.0.places
+states_places (s ∷ ss) (suc k) are = states_places ss k are.1
+
+pub start_is : (c : Cert) → IsWellFormed c → IsStart c.template.ram c.words
+start_is c w =
+    let low : c.template.ram.low % 4096 ≡ 0 = w.template.allowed.lo in
+    let high : c.template.ram.high % 4096 ≡ 0 = w.template.allowed.hi in
+    record { low = omega (arith, low); high = omega (arith, high); words_are = w.words }
+
+-- ---- a hart's start and its end
+
+start_whole : (c : Cert) (k : ℕ) (h : Hart) → ((key : ℕ) → known_of h key ≡ found (start_of c k).places key) → fixed_now c.template.ram h ≡ fixed_in c.template.ram k (start_of c k)
+    → whole_of c.template.ram h ≡ first_hart c k
+start_whole c k h known fixed =
+    wholes (fixed_now c.template.ram h) (fixed_in c.template.ram k (start_of c k)) (zero_elsewhere (known_of h)) (zero_elsewhere (found (start_of c k).places)) fixed
+    (fun_ext (λ key. ap (λ (o : Option ℕ). unwrap_or o 0) (known key)))
+
+start_knows : (c : Cert) (k : ℕ) (h : Hart) → ((key : ℕ) → known_of h key ≡ found (start_of c k).places key) → knows_of h ≡ is_given (start_of c k)
+start_knows c k h known = fun_ext (λ key. ap (λ (o : Option ℕ). is_some o) (known key))
+
+pub replayed_right : (c : Cert) (k : ℕ) (h new : Hart) → ((key : ℕ) → known_of h key ≡ found (start_of c k).places key) → fixed_now c.template.ram h ≡ fixed_in c.template.ram k (start_of c k)
+    → TakesAll c.template.ram c.words h new (trace_of c k) → HartIsRight c k
+replayed_right c k h new known fixed t =
+    subst (λ (g : WholeHart). AreRight (word_of c) (is_given (start_of c k)) g (first_memory c) (trace_of c k)) (start_whole c k h known fixed)
+    (subst (λ (s : ℕ → Bool). AreRight (word_of c) s (whole_of c.template.ram h) (first_memory c) (trace_of c k)) (start_knows c k h known) t.right)
+
+pub replayed_wrong : (c : Cert) (k : ℕ) (h : Hart) (kind step : ℕ) → ((key : ℕ) → known_of h key ≡ found (start_of c k).places key) → fixed_now c.template.ram h ≡ fixed_in c.template.ram k (start_of c k)
+    → StraysAt c.template.ram c.words h (trace_of c k) kind step → HartGoesWrong c k kind step
+replayed_wrong c k h kind step known fixed wrong =
+    subst (λ (g : WholeHart). GoesWrong (word_of c) (is_given (start_of c k)) g (first_memory c) (trace_of c k) 0 kind step) (start_whole c k h known fixed)
+    (subst (λ (s : ℕ → Bool). GoesWrong (word_of c) s (whole_of c.template.ram h) (first_memory c) (trace_of c k) 0 kind step) (start_knows c k h known) wrong)
+
+pub replayed_end : (c : Cert) (k : ℕ) (h new : Hart) → ((key : ℕ) → known_of h key ≡ found (start_of c k).places key) → fixed_now c.template.ram h ≡ fixed_in c.template.ram k (start_of c k)
+    → TakesAll c.template.ram c.words h new (trace_of c k) → EndsAs c k new
+replayed_end c k h new known fixed t =
+    let run : WholeHart → Solo = λ g. solo (length (trace_of c k)) g (first_memory c) in
+    let whole = start_whole c k h known fixed in
+    record {
+      hart = ap (λ (g : WholeHart). (run g).hart) (sym whole) ∙ t.hart;
+      knows = ap (λ (g : WholeHart). knows_after (is_given (start_of c k)) (run g).moments) (sym whole)
+          ∙ ap (λ (s : ℕ → Bool). knows_after s (run (whole_of c.template.ram h)).moments) (sym (start_knows c k h known)) ∙ t.knows;
+    }
+
+-- what is known is what is told of a known place
+shown : (o : Option ℕ) → o ≡ (if is_some o then Some (unwrap_or o 0) else None)
+shown None = refl
+shown (Some v) = refl
+
+ends_shown : (c : Cert) (k : ℕ) (h : Hart) → EndsAs c k h → (key : ℕ) → (if knows_after (is_given (start_of c k)) (solo_run c k).moments key then Some ((solo_run c k).hart.file key) else None) ≡ known_of h key
+ends_shown c k h ends key =
+    ap (λ (s : ℕ → Bool). if s key then Some ((solo_run c k).hart.file key) else None) ends.knows
+    ∙ ap (λ (g : WholeHart). if knows_of h key then Some (g.file key) else None) ends.hart
+    ∙ sym (shown (known_of h key))
+
+abbrev all_fixed : Region → ℕ → Priv → ℕ → ℕ → ℕ → ℕ → Fixed
+all_fixed ram pc privilege mstatus medeleg satp number = record { pc = pc; privilege = privilege; mstatus = mstatus; medeleg = medeleg; satp = satp; number = number; ram = is_in ram }
+
+fixed_told : (ram : Region) (k : ℕ) (s : HartState) (h : Hart) → IsFixedTold s k h → fixed_in ram k s ≡ fixed_now ram h
+fixed_told ram k s h t =
+    ap (λ (n : ℕ). all_fixed ram n s.privilege s.mstatus s.medeleg s.satp k) t.pc
+    ∙ ap (λ (p : Priv). all_fixed ram h.pc p s.mstatus s.medeleg s.satp k) t.privilege
+    ∙ ap (λ (n : ℕ). all_fixed ram h.pc h.privilege n s.medeleg s.satp k) t.mstatus
+    ∙ ap (λ (n : ℕ). all_fixed ram h.pc h.privilege h.csrs.mstatus n s.satp k) t.medeleg
+    ∙ ap (λ (n : ℕ). all_fixed ram h.pc h.privilege h.csrs.mstatus h.csrs.medeleg n k) t.satp
+    ∙ ap (λ (n : ℕ). all_fixed ram h.pc h.privilege h.csrs.mstatus h.csrs.medeleg h.csrs.satp n) (sym t.number)
+
+pub told_ends : (c : Cert) (k : ℕ) (h : Hart) → EndsAs c k h → IsFixedTold (final_of c k) k h → ((key : ℕ) → found (final_of c k).places key ≡ known_of h key) → EndsAsTold c k
+told_ends c k h ends fixed places = record {
+  fixed = fixed_told c.template.ram k (final_of c k) h fixed ∙ ap (λ (g : WholeHart). g.fixed) (sym ends.hart);
+  places = λ key. places key ∙ sym (ends_shown c k h ends key);
+}
+
+pub ends_fixed : (c : Cert) (k : ℕ) (h : Hart) → EndsAs c k h → EndsAsTold c k → IsFixedTold (final_of c k) k h
+ends_fixed c k h ends told =
+    let same : fixed_in c.template.ram k (final_of c k) ≡ fixed_now c.template.ram h = told.fixed ∙ ap (λ (g : WholeHart). g.fixed) ends.hart in
+    record {
+      pc = ap (λ (f : Fixed). f.pc) same;
+      privilege = ap (λ (f : Fixed). f.privilege) same;
+      mstatus = ap (λ (f : Fixed). f.mstatus) same;
+      medeleg = ap (λ (f : Fixed). f.medeleg) same;
+      satp = ap (λ (f : Fixed). f.satp) same;
+      number = sym (ap (λ (f : Fixed). f.number) same);
+    }
+
+pub ends_places : (c : Cert) (k : ℕ) (h : Hart) → EndsAs c k h → EndsAsTold c k → (key : ℕ) → found (final_of c k).places key ≡ known_of h key
+ends_places c k h ends told key = told.places key ∙ ends_shown c k h ends key
+
+-- ---- all keys by registers and lazy CSRs
+
+pub all_told : (regs lazy : List (Option ℕ)) (told : List (ℕ × ℕ)) → ArePlaces 0 told
+    → ((key : ℕ) → 1 ≤ key → key < 32 → found told key ≡ slice_index_or regs key None)
+    → ((i : ℕ) → i < 10 → found told (csr_key (get_or lazy_csrs i 0)) ≡ slice_index_or lazy i None)
+    → (key : ℕ) → found told key ≡ known_at regs lazy key
+all_told regs lazy told are registers csrs key = elim (cases_lt key 32) [
+  | inl small ↦ of_register key small
+  | inr large ↦ go (lazy_place key) refl large ∙ sym (known_large regs lazy key large)
+]
+  where
+    of_register : (n : ℕ) → n < 32 → found told n ≡ known_at regs lazy n
+    of_register zero small = found_no_key 0 told 0 are (λ is. absurd (cc is)) ∙ sym (known_zero regs lazy)
+    of_register (suc n) small = registers (suc n) (omega arith) small ∙ sym (known_small regs lazy (suc n) small (λ e. absurd (omega (arith, e))))
+
+    go : (o : Option ℕ) → lazy_place key ≡ o → 32 ≤ key → found told key ≡ at_position lazy (lazy_place key)
+    go None e large = rw e (found_no_key 0 told key are (λ is.
+        let k = lazy_of key large is in
+        let some : Some k.0 ≡ None = sym (ap (λ (n : ℕ). lazy_place n) k.2 ∙ lazy_at k.0 k.1) ∙ e in
+        absurd (cc some)))
+    go (Some i) e large = let k = lazy_key key i e in rw e (ap (found told) k.1 ∙ csrs i k.0)
+
+pub register_told : (regs lazy : List (Option ℕ)) (told : List (ℕ × ℕ)) → ((key : ℕ) → found told key ≡ known_at regs lazy key)
+    → (key : ℕ) → 1 ≤ key → key < 32 → found told key ≡ slice_index_or regs key None
+register_told regs lazy told all key some small = all key ∙ known_small regs lazy key small (λ e. absurd (omega (arith, e, some)))
+
+pub csr_told : (regs lazy : List (Option ℕ)) (told : List (ℕ × ℕ)) → ((key : ℕ) → found told key ≡ known_at regs lazy key)
+    → (i : ℕ) → i < 10 → found told (csr_key (get_or lazy_csrs i 0)) ≡ slice_index_or lazy i None
+csr_told regs lazy told all i within =
+    all (csr_key (get_or lazy_csrs i 0)) ∙ known_large regs lazy (csr_key (get_or lazy_csrs i 0)) (omega arith) ∙ ap (at_position lazy) (lazy_at i within)
+
+-- ---- memory
+
+found_above : (ram : Region) (from : ℕ) (ws : List (ℕ × ℕ)) (a v : ℕ) → AreStartWords ram from ws → found ws a ≡ Some v → from ≤ a
+found_above ram from [] a v is e = absurd (cc e)
+found_above ram from (w ∷ ws) a v is e = elim (cases_Bool (eqb w.0 a)) [
+  | inl here ↦ (let same = eqb-true w.0 a here in omega (arith, same, is.0))
+  | inr other ↦ (let later = found_above ram (w.0 + 4) ws a v is.4 (rw other at e) in omega (arith, later, is.0))
+]
+
+each_given : (ram : Region) (from : ℕ) (given : ℕ → Option ℕ) (ws : List (ℕ × ℕ)) → AreStartWords ram from ws → ((a v : ℕ) → found ws a ≡ Some v → given a ≡ Some v)
+    → map (λ (w : ℕ × ℕ). unwrap_or (given (w.0 / 4 * 4)) 0) ws ≡ map (λ (w : ℕ × ℕ). w.1) ws
+each_given ram from given [] is h = refl
+each_given ram from given (w ∷ ws) is h =
+    let aligned : w.0 % 4 ≡ 0 = is.1 in
+    let back : w.0 / 4 * 4 ≡ w.0 = omega (arith, aligned) in
+    let here : given w.0 ≡ Some w.1 = h w.0 w.1 (rw (eq-eqb w.0 w.0 refl) refl) in
+    let head : unwrap_or (given (w.0 / 4 * 4)) 0 ≡ w.1 = ap (λ (o : Option ℕ). unwrap_or o 0) (ap given back ∙ here) in
+    let tail : map (λ (v : ℕ × ℕ). unwrap_or (given (v.0 / 4 * 4)) 0) ws ≡ map (λ (v : ℕ × ℕ). v.1) ws =
+    each_given ram (w.0 + 4) given ws is.4 (λ a v e. h a v (later a v e)) in
+    rw (head, tail) refl
+  where
+    later : (a v : ℕ) → found ws a ≡ Some v → found (w ∷ ws) a ≡ Some v
+    later a v e = let above = found_above ram (w.0 + 4) ws a v is.4 e in rw (ne_eqb w.0 a (λ same. absurd (omega (arith, same, above)))) e
+
+turn_leaves : (n : ℕ) (did : ℕ → List Access) (words : ℕ → ℕ) → ((k : ℕ) → k < n → memory_after (did k) words ≡ words) → in_turn n did words ≡ words
+turn_leaves zero did words same = refl
+turn_leaves (suc n) did words same = ap (memory_after (did n)) (turn_leaves n did words (λ k within. same k (omega arith))) ∙ same n (omega arith)
+
+pub memory_same : (c : Cert) → IsWellFormed c → ((k : ℕ) → k < length c.start → HartIsRight c k)
+    → map (λ (w : ℕ × ℕ). in_turn (length c.start) (λ k. footprint_of (trace_of c k)) (first_memory c) (w.0 / 4)) c.words ≡ map (λ (w : ℕ × ℕ). w.1) c.words
+memory_same c w right =
+    let leaves : in_turn (length c.start) (λ k. footprint_of (trace_of c k)) (first_memory c) ≡ first_memory c =
+    turn_leaves (length c.start) (λ k. footprint_of (trace_of c k)) (first_memory c)
+    (λ k within. looks_leave (footprint_of (trace_of c k)) (first_memory c) (right_looks (word_of c) (is_given (start_of c k)) (first_hart c k) (first_memory c) (trace_of c k) (right k within))) in
+    ap (λ (m : ℕ → ℕ). map (λ (w : ℕ × ℕ). m (w.0 / 4)) c.words) leaves ∙ each_given c.template.ram 0 (found c.words) c.words w.words (λ a v e. e)
+
+pub race_free : (c : Cert) → IsWellFormed c → ((k : ℕ) → k < length c.start → HartIsRight c k) → IsRaceFree (trace_of c)
+race_free c w right = record {
+  harts = λ j k ne x y hx hy meet. looks j x hx;
+  code = λ j k x y hx hy is meet. looks j x hx;
+}
+  where
+    looks : (j : ℕ) (x : Access) → HasItem (footprint_of (trace_of c j)) x → is_look x.role ≡ true
+    looks j x at = elim (cases_lt j (length c.start)) [
+      | inl within ↦ right_looks (word_of c) (is_given (start_of c j)) (first_hart c j) (first_memory c) (trace_of c j) (right j within) x at
+      | inr past ↦
+          let none : trace_of c j ≡ [] = get_or_past c.traces j [] (omega (arith, past, w.traces_count)) in
+          absurd (subst (λ (rs : List Record). HasItem (footprint_of rs) x) none at)
+    ]

@@ -1,0 +1,169 @@
+-- Values in pairs whose keys ascend.
+use Rattle.std.proofs.Common.{◌≡◌, ◌≢◌, ℕ, zero, suc, ◌+◌, ◌%◌, ◌<◌, ◌≤◌, true, eqb, List, [], ◌∷◌, length, get_or, Option, Some, None, if◌then◌else◌, refl, sym, ap, ◌∙◌, subst, inl, inr, arith}
+use Rattle.std.specs.Prelude.{nat_eq}
+use Rattle.std.specs.declared.cmp.Ordering.TheVariants.{Less, Equal, Greater}
+use Rattle.std.specs.List.Sorted.{IsNonDecreasingBy, IsPartitionPoint}
+use Rattle.std.specs.Ordering.{nat_cmp, ordering_index}
+use Rattle.std.proofs.lemmas.Bool.{cases_Bool, cases_lt, cases_order, eq-eqb, eqb-true, ne_eqb, lt-ltb, le-ltb, le-leb, leb-true, and_parts, and_from}
+use Rattle.tpl_parse.specs.declared.template.Region.{Region}
+use Rattle.tpl_admit.specs.Starts.{found, is_key, is_in, ArePlaces, AreStartWords}
+use Rattle.replay_check.specs.Memory.{is_ascending}
+
+pub places_ascend : (from : ℕ) (es : List (ℕ × ℕ)) → ArePlaces from es → is_ascending from es ≡ true
+places_ascend from [] is = refl
+places_ascend from (e ∷ es) is = and_from _ _ (le-leb from e.0 is.0) (places_ascend (e.0 + 1) es is.3)
+
+words_ascend_from : (ram : Region) (low from : ℕ) (ws : List (ℕ × ℕ)) → low ≤ from → AreStartWords ram from ws → is_ascending low ws ≡ true
+words_ascend_from ram low from [] l is = refl
+words_ascend_from ram low from (w ∷ ws) l is =
+    and_from _ _ (le-leb low w.0 (omega (arith, l, is.0))) (words_ascend_from ram (w.0 + 1) (w.0 + 4) ws (omega arith) is.4)
+
+pub words_ascend : (ram : Region) (ws : List (ℕ × ℕ)) → AreStartWords ram 0 ws → is_ascending 0 ws ≡ true
+words_ascend ram ws is = words_ascend_from ram 0 0 ws (omega arith) is
+
+-- the keys of ascending pairs are not below the first
+not_below : (from : ℕ) (es : List (ℕ × ℕ)) (i : ℕ) (d : ℕ × ℕ) → is_ascending from es ≡ true → i < length es → from ≤ (get_or es i d).0
+not_below from [] i d up within = absurd (omega (arith, within))
+not_below from (e ∷ es) zero d up within = leb-true from e.0 (and_parts _ _ up).0
+not_below from (e ∷ es) (suc i) d up within =
+    let first = leb-true from e.0 (and_parts _ _ up).0 in
+    let later : e.0 + 1 ≤ (get_or es i d).0 = not_below (e.0 + 1) es i d (and_parts _ _ up).1 (omega (arith, within)) in
+    omega (arith, first, later)
+
+pub found_at : (from : ℕ) (es : List (ℕ × ℕ)) (i key : ℕ) (d : ℕ × ℕ) → is_ascending from es ≡ true → i < length es → (get_or es i d).0 ≡ key → found es key ≡ Some (get_or es i d).1
+found_at from [] i key d up within is = absurd (omega (arith, within))
+found_at from (e ∷ es) zero key d up within is = rw (eq-eqb e.0 key is) refl
+found_at from (e ∷ es) (suc i) key d up within is =
+    let up' = (and_parts _ _ up).1 in
+    let within' : i < length es = omega (arith, within) in
+    let later : e.0 + 1 ≤ (get_or es i d).0 = not_below (e.0 + 1) es i d up' within' in
+    let other : e.0 ≢ key = λ same. absurd (omega (arith, same, is, later)) in
+    rw (ne_eqb e.0 key other) (found_at (e.0 + 1) es i key d up' within' is)
+
+pub found_nowhere : (es : List (ℕ × ℕ)) (key : ℕ) → ((i : ℕ) (d : ℕ × ℕ) → i < length es → (get_or es i d).0 ≢ key) → found es key ≡ None
+found_nowhere [] key none = refl
+found_nowhere (e ∷ es) key none =
+    rw (ne_eqb e.0 key (none 0 (0, 0) (omega arith))) (found_nowhere es key (λ i d within. none (suc i) d (omega (arith, within))))
+
+pub found_below : (from : ℕ) (es : List (ℕ × ℕ)) (key : ℕ) → ArePlaces from es → key < from → found es key ≡ None
+found_below from [] key is below = refl
+found_below from (e ∷ es) key is below =
+    let other : e.0 ≢ key = λ same. absurd (omega (arith, same, is.0, below)) in
+    rw (ne_eqb e.0 key other) (found_below (e.0 + 1) es key is.3 (omega (arith, is.0, below)))
+
+-- what has no key of a place has no value
+pub found_no_key : (from : ℕ) (es : List (ℕ × ℕ)) (key : ℕ) → ArePlaces from es → (is_key key ≡ true → ⊥) → found es key ≡ None
+found_no_key from [] key is none = refl
+found_no_key from (e ∷ es) key is none =
+    let other : e.0 ≢ key = λ same. none (subst (λ (n : ℕ). is_key n ≡ true) same is.1) in
+    rw (ne_eqb e.0 key other) (found_no_key (e.0 + 1) es key is.3 none)
+
+-- a word that is given lies in RAM
+pub found_in : (ram : Region) (from : ℕ) (ws : List (ℕ × ℕ)) (a v : ℕ) → AreStartWords ram from ws → found ws a ≡ Some v → is_in ram a ≡ true
+found_in ram from [] a v is e = absurd (cc e)
+found_in ram from (w ∷ ws) a v is e = elim (cases_Bool (eqb w.0 a)) [
+  | inl here ↦ subst (λ (n : ℕ). is_in ram n ≡ true) (eqb-true w.0 a here) is.2
+  | inr other ↦ found_in ram (w.0 + 4) ws a v is.4 (rw other at e)
+]
+
+-- the words that are given, at their addresses
+pub found_each : (ram : Region) (from : ℕ) (ws : List (ℕ × ℕ)) (w : ℕ × ℕ) (rest : List (ℕ × ℕ)) → ws ≡ w ∷ rest → AreStartWords ram from ws → (found ws w.0 ≡ Some w.1) × (w.0 % 4 ≡ 0)
+found_each ram from ws w rest split is =
+    let split_is : AreStartWords ram from (w ∷ rest) = subst (AreStartWords ram from) split is in
+    (rw split (rw (eq-eqb w.0 w.0 refl) refl), split_is.1)
+
+-- ---- what a binary search by key says
+
+cmp_less : (a k : ℕ) → a < k → nat_cmp a k ≡ Less
+cmp_less a k below = rw (lt-ltb a k below) refl
+
+cmp_same : (a k : ℕ) → a ≡ k → nat_cmp a k ≡ Equal
+cmp_same a k same = rw (le-ltb a k (omega (arith, same)), eq-eqb a k same) refl
+
+cmp_greater : (a k : ℕ) → k < a → nat_cmp a k ≡ Greater
+cmp_greater a k above = rw (le-ltb a k (omega (arith, above)), ne_eqb a k (λ e. absurd (omega (arith, e, above)))) refl
+
+cmp_equal : (a k : ℕ) → nat_cmp a k ≡ Equal → a ≡ k
+cmp_equal a k e = elim (cases_order a k) [
+  | inl same ↦ same
+  | inr apart ↦ elim apart [
+    | inl below ↦ (let no : Less ≡ Equal = sym (cmp_less a k below) ∙ e in absurd (cc no))
+    | inr above ↦ (let no : Greater ≡ Equal = sym (cmp_greater a k above) ∙ e in absurd (cc no))
+  ]
+]
+
+cmp_rises : (a b k : ℕ) → a ≤ b → ordering_index (nat_cmp a k) ≤ ordering_index (nat_cmp b k)
+cmp_rises a b k up = elim (cases_order a k) [
+  | inl same ↦ rw (cmp_same a k same) (elim (cases_order b k) [
+    | inl also ↦ rw (cmp_same b k also) (omega arith)
+    | inr apart ↦ elim apart [ inl below ↦ absurd (omega (arith, same, up, below)) | inr above ↦ rw (cmp_greater b k above) (omega arith) ]
+  ])
+  | inr apart ↦ elim apart [
+    | inl below ↦ rw (cmp_less a k below) (omega arith)
+    | inr above ↦ rw (cmp_greater a k above, cmp_greater b k (omega (arith, above, up))) (omega arith)
+  ]
+]
+
+rises : (from : ℕ) (es : List (ℕ × ℕ)) (i j : ℕ) (d : ℕ × ℕ) → is_ascending from es ≡ true → i ≤ j → j < length es → (get_or es i d).0 ≤ (get_or es j d).0
+rises from [] i j d up order within = absurd (omega (arith, within))
+rises from (e ∷ es) zero zero d up order within = omega arith
+rises from (e ∷ es) zero (suc j) d up order within =
+    let later : e.0 + 1 ≤ (get_or es j d).0 = not_below (e.0 + 1) es j d (and_parts _ _ up).1 (omega (arith, within)) in omega (arith, later)
+rises from (e ∷ es) (suc i) zero d up order within = absurd (omega (arith, order))
+rises from (e ∷ es) (suc i) (suc j) d up order within = rises (e.0 + 1) es i j d (and_parts _ _ up).1 (omega (arith, order)) (omega (arith, within))
+
+pub key_found : (es : List (ℕ × ℕ)) (key i : ℕ) (d : ℕ × ℕ) → is_ascending 0 es ≡ true → i < length es → nat_cmp (get_or es i d).0 key ≡ Equal → found es key ≡ Some (get_or es i d).1
+key_found es key i d up within is = found_at 0 es i key d up within (cmp_equal (get_or es i d).0 key is)
+
+pub key_missed : (es : List (ℕ × ℕ)) (key i : ℕ) → is_ascending 0 es ≡ true
+    → (IsNonDecreasingBy (λ (y : ℕ × ℕ). ordering_index (nat_cmp y.0 key)) es → IsPartitionPoint (λ (y : ℕ × ℕ). nat_cmp y.0 key ≡ Less) (λ (y : ℕ × ℕ). nat_cmp y.0 key ≡ Greater) es i)
+    → found es key ≡ None
+key_missed es key i up searched = found_nowhere es key other
+  where
+    point : IsPartitionPoint (λ (y : ℕ × ℕ). nat_cmp y.0 key ≡ Less) (λ (y : ℕ × ℕ). nat_cmp y.0 key ≡ Greater) es i
+    point = searched (λ a b d order within. cmp_rises (get_or es a d).0 (get_or es b d).0 key (rises 0 es a b d up order within))
+
+    other : (k : ℕ) (d : ℕ × ℕ) → k < length es → (get_or es k d).0 ≢ key
+    other k d within same = elim (cases_lt k i) [
+      | inl below ↦ (let no : Less ≡ Equal = sym (point.0 k d (omega arith) below) ∙ cmp_same (get_or es k d).0 key same in absurd (cc no))
+      | inr above ↦ (let no : Greater ≡ Equal = sym (point.1 k d above within) ∙ cmp_same (get_or es k d).0 key same in absurd (cc no))
+    ]
+
+-- ---- keys given one after another
+
+-- the first value, or else the other
+abbrev pub or_else : Option ℕ → Option ℕ → Option ℕ
+or_else None other = other
+or_else (Some v) other = Some v
+
+pub or_nothing : (o p : Option ℕ) → p ≡ None → or_else o p ≡ o
+or_nothing None p e = e
+or_nothing (Some v) p e = refl
+
+-- the pairs that are left have keys of places, which ascend
+pub record AreLeft (es : List (ℕ × ℕ)) : Type 0 where
+  pub from : ℕ
+  pub places : ArePlaces from es
+
+pub left_all : (es : List (ℕ × ℕ)) → ArePlaces 0 es → AreLeft es
+left_all es are = record { from = 0; places = are }
+
+pub left_head : (es : List (ℕ × ℕ)) (e : ℕ × ℕ) (rest : List (ℕ × ℕ)) → es ≡ e ∷ rest → AreLeft es → is_key e.0 ≡ true
+left_head es e rest split left = let are : ArePlaces left.from (e ∷ rest) = subst (ArePlaces left.from) split left.places in are.1
+
+pub left_next : (es : List (ℕ × ℕ)) (e : ℕ × ℕ) (rest : List (ℕ × ℕ)) → es ≡ e ∷ rest → AreLeft es → AreLeft rest
+left_next es e rest split left = let are : ArePlaces left.from (e ∷ rest) = subst (ArePlaces left.from) split left.places in record { from = e.0 + 1; places = are.3 }
+
+-- what is known after one more pair was given
+pub given_next : (es : List (ℕ × ℕ)) (e : ℕ × ℕ) (rest : List (ℕ × ℕ)) (before after : ℕ → Option ℕ) → es ≡ e ∷ rest → AreLeft es
+    → ((k : ℕ) → after k ≡ (if nat_eq e.0 k then Some e.1 else before k)) → (key : ℕ) → or_else (found rest key) (after key) ≡ or_else (found es key) (before key)
+given_next es e rest before after split left given key =
+    let are : ArePlaces left.from (e ∷ rest) = subst (ArePlaces left.from) split left.places in
+    rw split (elim (cases_Bool (nat_eq e.0 key)) [
+      | inl here ↦
+          let same : e.0 ≡ key = eqb-true e.0 key here in
+          let none : found rest key ≡ None = found_below (e.0 + 1) rest key are.3 (omega (arith, same)) in
+          let is : after key ≡ Some e.1 = rw here at (given key) in
+          rw (here, none) is
+      | inr other ↦ (let is : after key ≡ before key = rw other at (given key) in rw other (ap (or_else (found rest key)) is))
+    ])

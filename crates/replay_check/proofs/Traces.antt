@@ -1,0 +1,201 @@
+-- Steps one after another.
+use Rattle.std.proofs.Common.{◌≡◌, ℕ, suc, ◌+◌, ◌<◌, Bool, true, false, List, [], ◌∷◌, ◌++◌, length, map, drop, get_or, Option, Some, None, ◌⊎◌, refl, sym, ap, ◌∙◌, subst, inl, inr}
+use Rattle.std.proofs.lemmas.List.{drop_more}
+use Rattle.rv_script.specs.declared.access.Access.{Access}
+use Rattle.rv_script.specs.Lists.{HasItem}
+use Rattle.rv_script.specs.Bytes.{is_look}
+use Rattle.rv_script.specs.Memory.{memory_after}
+use Rattle.rv_hart.specs.declared.hart.Hart.{Hart}
+use Rattle.rv_hart.specs.declared.record.Record.{Record}
+use Rattle.rv_hart.specs.Whole.{WholeHart, Step, step_of, hart_after}
+use Rattle.tpl_parse.specs.declared.template.Region.{Region}
+use Rattle.tpl_admit.specs.Races.{footprint_of}
+use Rattle.tpl_admit.specs.Solo.{Moment, Solo, solo, solo_on, knows_also, AreInitialised, knows_after}
+use Rattle.tpl_admit.specs.Failures.{IsRight, IsWrong, AreRight, GoesWrong}
+use Rattle.replay_check.specs.Knowledge.{knows_of, whole_of}
+use Rattle.replay_check.specs.Memory.{given_word, whole_memory}
+use Rattle.replay_check.specs.Replay.{Takes, Strays, TakesAll, StraysAt}
+use Rattle.replay_check.proofs.Looks.{step_looks}
+
+pub split_at : {A : Type 0} (xs : List A) (i : ℕ) (x : A) → i < length xs → x ≡ get_or xs i x → drop i xs ≡ x ∷ drop (i + 1) xs
+split_at {A} xs i x within is = drop_more xs i x within ∙ ap (λ (y : A). y ∷ drop (i + 1) xs) (sym is)
+
+-- ---- the loop over records: all is said by the records that are left
+
+pub record IsUpTo (ram : Region) (words : List (ℕ × ℕ)) (first now : Hart) (rs : List Record) (i : ℕ) : Type 0 where
+  pub right : AreRight (given_word words) (knows_of now) (whole_of ram now) (whole_memory words) (drop i rs) → AreRight (given_word words) (knows_of first) (whole_of ram first) (whole_memory words) rs
+  pub wrong : (kind step : ℕ) → GoesWrong (given_word words) (knows_of now) (whole_of ram now) (whole_memory words) (drop i rs) i kind step
+      → GoesWrong (given_word words) (knows_of first) (whole_of ram first) (whole_memory words) rs 0 kind step
+  pub hart : (solo (length rs) (whole_of ram first) (whole_memory words)).hart ≡ (solo (length (drop i rs)) (whole_of ram now) (whole_memory words)).hart
+  pub knows : knows_after (knows_of first) (solo (length rs) (whole_of ram first) (whole_memory words)).moments ≡ knows_after (knows_of now) (solo (length (drop i rs)) (whole_of ram now) (whole_memory words)).moments
+
+pub up_to_none : (ram : Region) (words : List (ℕ × ℕ)) (h : Hart) (rs : List Record) → IsUpTo ram words h h rs 0
+up_to_none ram words h rs = record { right = λ a. a; wrong = λ kind step g. g; hart = refl; knows = refl }
+
+-- the course of a hart whose first step is this
+solo_next : (n : ℕ) (h h' : WholeHart) (m : ℕ → ℕ) (s : Step) → step_of h m ≡ Some s → hart_after s.change h ≡ h' → memory_after s.did.accesses m ≡ m
+    → solo (suc n) h m ≡ record { moments = record { hart = h; memory = m; step = s } ∷ (solo n h' m).moments; hart = (solo n h' m).hart }
+solo_next n h h' m s is after same =
+    ap (λ (o : Option Step). solo_on o h m (λ h' m'. solo n h' m')) is
+    ∙ ap (λ (w : ℕ → ℕ). let r : Solo = record { moments = record { hart = h; memory = m; step = s } ∷ (solo n (hart_after s.change h) w).moments; hart = (solo n (hart_after s.change h) w).hart } in r) same
+    ∙ ap (λ (g : WholeHart). let r : Solo = record { moments = record { hart = h; memory = m; step = s } ∷ (solo n g m).moments; hart = (solo n g m).hart } in r) after
+
+-- the rest is right, and so all from this step on
+right_next : (ram : Region) (words : List (ℕ × ℕ)) (h new : Hart) (r : Record) (rest : List Record) → Takes ram words h new r
+    → AreRight (given_word words) (knows_of new) (whole_of ram new) (whole_memory words) rest → AreRight (given_word words) (knows_of h) (whole_of ram h) (whole_memory words) (r ∷ rest)
+right_next ram words h new r rest t right = (
+  t.step,
+  t.right,
+  subst (λ (m : ℕ → ℕ). AreRight (given_word words) (knows_also t.step.change.rd (knows_of h)) (hart_after t.step.change (whole_of ram h)) m rest) (sym t.memory)
+      (subst (λ (g : WholeHart). AreRight (given_word words) (knows_also t.step.change.rd (knows_of h)) g (whole_memory words) rest) t.hart
+      (subst (λ (k : ℕ → Bool). AreRight (given_word words) k (whole_of ram new) (whole_memory words) rest) t.knows right)),
+)
+
+wrong_next : (ram : Region) (words : List (ℕ × ℕ)) (h new : Hart) (r : Record) (rest : List Record) (i kind step : ℕ) → Takes ram words h new r
+    → GoesWrong (given_word words) (knows_of new) (whole_of ram new) (whole_memory words) rest (i + 1) kind step
+    → GoesWrong (given_word words) (knows_of h) (whole_of ram h) (whole_memory words) (r ∷ rest) i kind step
+wrong_next ram words h new r rest i kind step t wrong =
+    inr (
+      t.step,
+      t.right,
+      subst (λ (m : ℕ → ℕ). GoesWrong (given_word words) (knows_also t.step.change.rd (knows_of h)) (hart_after t.step.change (whole_of ram h)) m rest (i + 1) kind step) (sym t.memory)
+          (subst (λ (g : WholeHart). GoesWrong (given_word words) (knows_also t.step.change.rd (knows_of h)) g (whole_memory words) rest (i + 1) kind step) t.hart
+          (subst (λ (k : ℕ → Bool). GoesWrong (given_word words) k (whole_of ram new) (whole_memory words) rest (i + 1) kind step) t.knows wrong)),
+    )
+
+pub up_to_next : (ram : Region) (words : List (ℕ × ℕ)) (first now new : Hart) (rs : List Record) (i : ℕ) (r : Record) → drop i rs ≡ r ∷ drop (i + 1) rs → Takes ram words now new r
+    → IsUpTo ram words first now rs i → IsUpTo ram words first new rs (i + 1)
+up_to_next ram words first now new rs i r split t u =
+    let rest : List Record = drop (i + 1) rs in
+    let m : ℕ → ℕ = whole_memory words in
+    let count : length (drop i rs) ≡ suc (length rest) = ap (λ (l : List Record). length l) split in
+    let next = solo_next (length rest) (whole_of ram now) (whole_of ram new) m t.step t.right.step (sym t.hart) t.memory in
+    let course = ap (λ (n : ℕ). solo n (whole_of ram now) m) count ∙ next in
+    record {
+      right = λ a. u.right (rw split (right_next ram words now new r rest t a));
+      wrong = λ kind step g. u.wrong kind step (rw split (wrong_next ram words now new r rest i kind step t g));
+      hart = u.hart ∙ ap (λ (s : Solo). s.hart) course;
+      knows = u.knows ∙ ap (λ (s : Solo). knows_after (knows_of now) s.moments) course ∙ ap (λ (k : ℕ → Bool). knows_after k (solo (length rest) (whole_of ram new) m).moments) (sym t.knows);
+    }
+
+pub up_to_end : (ram : Region) (words : List (ℕ × ℕ)) (first now : Hart) (rs : List Record) (i : ℕ) → drop i rs ≡ [] → IsUpTo ram words first now rs i → TakesAll ram words first now rs
+up_to_end ram words first now rs i none u = record {
+  right = u.right (rw none tt);
+  hart = u.hart ∙ ap (λ (l : List Record). (solo (length l) (whole_of ram now) (whole_memory words)).hart) none;
+  knows = u.knows ∙ ap (λ (l : List Record). knows_after (knows_of now) (solo (length l) (whole_of ram now) (whole_memory words)).moments) none;
+}
+
+pub up_to_wrong : (ram : Region) (words : List (ℕ × ℕ)) (first now : Hart) (rs : List Record) (i : ℕ) (r : Record) (kind : ℕ) → drop i rs ≡ r ∷ drop (i + 1) rs → Strays ram words now r kind
+    → IsUpTo ram words first now rs i → StraysAt ram words first rs kind i
+up_to_wrong ram words first now rs i r kind split strays u = u.wrong kind i (rw split (inl (strays, refl)))
+
+-- ---- right steps
+
+-- records that are right are those of the hart alone, each initialised
+pub record IsCourse (words : ℕ → Option ℕ) (knows : ℕ → Bool) (rs : List Record) (s : Solo) : Type 0 where
+  pub records : map (λ (x : Moment). x.step.did) s.moments ≡ rs
+  pub initialised : AreInitialised words knows s.moments
+
+pub course : (words : ℕ → Option ℕ) (knows : ℕ → Bool) (h : WholeHart) (m : ℕ → ℕ) (rs : List Record) → AreRight words knows h m rs → IsCourse words knows rs (solo (length rs) h m)
+course words knows h m [] right = record { records = refl; initialised = tt }
+course words knows h m (r ∷ rs) right =
+    let s : Step = right.0 in
+    let h' : WholeHart = hart_after s.change h in
+    let m' : ℕ → ℕ = memory_after s.did.accesses m in
+    let ih = course words (knows_also s.change.rd knows) h' m' rs right.2 in
+    let whole : Solo = record { moments = record { hart = h; memory = m; step = s } ∷ (solo (length rs) h' m').moments; hart = (solo (length rs) h' m').hart } in
+    let is : solo (suc (length rs)) h m ≡ whole = ap (λ (o : Option Step). solo_on o h m (λ h' m'. solo (length rs) h' m')) right.1.step in
+    let done : IsCourse words knows (r ∷ rs) whole = record {
+      records = ap (λ (q : Record). q ∷ map (λ (x : Moment). x.step.did) (solo (length rs) h' m').moments) right.1.did ∙ ap (λ (qs : List Record). r ∷ qs) ih.records;
+      initialised = (right.1.set, ih.initialised);
+    } in
+    subst (IsCourse words knows (r ∷ rs)) (sym is) done
+
+pub right_course : (words : ℕ → Option ℕ) (knows : ℕ → Bool) (h : WholeHart) (m : ℕ → ℕ) (rs : List Record)
+    → map (λ (x : Moment). x.step.did) (solo (length rs) h m).moments ≡ rs → AreInitialised words knows (solo (length rs) h m).moments → AreRight words knows h m rs
+right_course words knows h m [] records initialised = tt
+right_course words knows h m (r ∷ rs) records initialised = go (step_of h m) refl (λ k h' m' a b. right_course words k h' m' rs a b) records initialised
+  where
+    go : (o : Option Step) → step_of h m ≡ o
+        → ((k : ℕ → Bool) (h' : WholeHart) (m' : ℕ → ℕ) → map (λ (x : Moment). x.step.did) (solo (length rs) h' m').moments ≡ rs → AreInitialised words k (solo (length rs) h' m').moments → AreRight words k h' m' rs)
+        → map (λ (x : Moment). x.step.did) (solo_on o h m (λ h' m'. solo (length rs) h' m')).moments ≡ r ∷ rs
+        → AreInitialised words knows (solo_on o h m (λ h' m'. solo (length rs) h' m')).moments
+        → AreRight words knows h m (r ∷ rs)
+    go None e ih records initialised = absurd (cc records)
+    go (Some s) e ih records initialised =
+        let h' : WholeHart = hart_after s.change h in
+        let m' : ℕ → ℕ = memory_after s.did.accesses m in
+        let head : s.did ≡ r = cc records in
+        let tail : map (λ (x : Moment). x.step.did) (solo (length rs) h' m').moments ≡ rs = cc records in
+        (s, record { set = initialised.0; step = e; did = head }, ih (knows_also s.change.rd knows) h' m' tail initialised.1)
+
+-- right steps only look
+pub right_looks : (words : ℕ → Option ℕ) (knows : ℕ → Bool) (h : WholeHart) (m : ℕ → ℕ) (rs : List Record) → AreRight words knows h m rs → (x : Access) → HasItem (footprint_of rs) x → is_look x.role ≡ true
+right_looks words knows h m [] right x at = absurd at
+right_looks words knows h m (r ∷ rs) right x at =
+    let s : Step = right.0 in
+    let ih = right_looks words (knows_also s.change.rd knows) (hart_after s.change h) (memory_after s.did.accesses m) rs right.2 x in
+    elim (in_either r.accesses (footprint_of rs) at) [
+      | inl here ↦ step_looks h m s right.1.step x (subst (λ (q : Record). HasItem q.accesses x) (sym right.1.did) here)
+      | inr later ↦ ih later
+    ]
+  where
+    in_either : (xs ys : List Access) → HasItem (xs ++ ys) x → HasItem xs x ⊎ HasItem ys x
+    in_either [] ys at = inr at
+    in_either (y ∷ xs) ys (inl here) = inl (inl here)
+    in_either (y ∷ xs) ys (inr there) = elim (in_either xs ys there) [ inl here ↦ inl (inr here) | inr later ↦ inr later ]
+
+-- ---- one failure at most
+
+same_step : (o : Option Step) (s t : Step) → o ≡ Some s → o ≡ Some t → s ≡ t
+same_step o s t a b = let e : Some s ≡ Some t = sym a ∙ b in cc e
+
+some_none : (o : Option Step) (s : Step) → o ≡ Some s → o ≡ None → ⊥
+some_none o s a b = let e : Some s ≡ None = sym a ∙ b in absurd (cc e)
+
+true_false : (b : Bool) → b ≡ true → b ≡ false → ⊥
+true_false b t f = let e : true ≡ false = sym t ∙ f in absurd (cc e)
+
+right_wrong : (words : ℕ → Option ℕ) (knows : ℕ → Bool) (h : WholeHart) (m : ℕ → ℕ) (r : Record) (s : Step) (kind : ℕ) → IsRight words knows h m r s → IsWrong words knows h m r kind → ⊥
+right_wrong words knows h m r s kind right (inl missing) = true_false _ (right.set missing.1 missing.2) missing.3
+right_wrong words knows h m r s kind right (inr (inl outside)) = some_none (step_of h m) s right.step outside.2
+right_wrong words knows h m r s kind right (inr (inr other)) = other.4 (ap (λ (t : Step). t.did) (same_step (step_of h m) other.2 s other.3 right.step) ∙ right.did)
+
+wrong_once : (words : ℕ → Option ℕ) (knows : ℕ → Bool) (h : WholeHart) (m : ℕ → ℕ) (r : Record) (kind kind' : ℕ) → IsWrong words knows h m r kind → IsWrong words knows h m r kind' → kind ≡ kind'
+wrong_once words knows h m r kind kind' (inl a) (inl b) = a.0 ∙ sym b.0
+wrong_once words knows h m r kind kind' (inl a) (inr (inl b)) = absurd (true_false _ (b.1 a.1 a.2) a.3)
+wrong_once words knows h m r kind kind' (inl a) (inr (inr b)) = absurd (true_false _ (b.1 a.1 a.2) a.3)
+wrong_once words knows h m r kind kind' (inr (inl a)) (inl b) = absurd (true_false _ (a.1 b.1 b.2) b.3)
+wrong_once words knows h m r kind kind' (inr (inl a)) (inr (inl b)) = a.0 ∙ sym b.0
+wrong_once words knows h m r kind kind' (inr (inl a)) (inr (inr b)) = absurd (some_none (step_of h m) b.2 b.3 a.2)
+wrong_once words knows h m r kind kind' (inr (inr a)) (inl b) = absurd (true_false _ (a.1 b.1 b.2) b.3)
+wrong_once words knows h m r kind kind' (inr (inr a)) (inr (inl b)) = absurd (some_none (step_of h m) a.2 a.3 b.2)
+wrong_once words knows h m r kind kind' (inr (inr a)) (inr (inr b)) = a.0 ∙ sym b.0
+
+pub right_never : (words : ℕ → Option ℕ) (knows : ℕ → Bool) (h : WholeHart) (m : ℕ → ℕ) (rs : List Record) (n kind step : ℕ) → AreRight words knows h m rs → GoesWrong words knows h m rs n kind step → ⊥
+right_never words knows h m [] n kind step right wrong = wrong
+right_never words knows h m (r ∷ rs) n kind step right wrong = go (λ k h' m' right' wrong'. right_never words k h' m' rs (n + 1) kind step right' wrong') wrong
+  where
+    go : ((k : ℕ → Bool) (h' : WholeHart) (m' : ℕ → ℕ) → AreRight words k h' m' rs → GoesWrong words k h' m' rs (n + 1) kind step → ⊥) → GoesWrong words knows h m (r ∷ rs) n kind step → ⊥
+    go ih (inl here) = right_wrong words knows h m r right.0 kind right.1 here.0
+    go ih (inr later) =
+        let s : Step = right.0 in
+        let same = same_step (step_of h m) later.0 s later.1.step right.1.step in
+        ih (knows_also s.change.rd knows) (hart_after s.change h) (memory_after s.did.accesses m) right.2
+        (subst (λ (t : Step). GoesWrong words (knows_also t.change.rd knows) (hart_after t.change h) (memory_after t.did.accesses m) rs (n + 1) kind step) same later.2)
+
+pub goes_once : (words : ℕ → Option ℕ) (knows : ℕ → Bool) (h : WholeHart) (m : ℕ → ℕ) (rs : List Record) (n kind step kind' step' : ℕ) → GoesWrong words knows h m rs n kind step → GoesWrong words knows h m rs n kind' step'
+    → (kind ≡ kind') × (step ≡ step')
+goes_once words knows h m [] n kind step kind' step' wrong also = absurd wrong
+goes_once words knows h m (r ∷ rs) n kind step kind' step' wrong also = go (λ k h' m' a b. goes_once words k h' m' rs (n + 1) kind step kind' step' a b) wrong also
+  where
+    go : ((k : ℕ → Bool) (h' : WholeHart) (m' : ℕ → ℕ) → GoesWrong words k h' m' rs (n + 1) kind step → GoesWrong words k h' m' rs (n + 1) kind' step' → (kind ≡ kind') × (step ≡ step'))
+        → GoesWrong words knows h m (r ∷ rs) n kind step → GoesWrong words knows h m (r ∷ rs) n kind' step' → (kind ≡ kind') × (step ≡ step')
+    go ih (inl here) (inl there) = (wrong_once words knows h m r kind kind' here.0 there.0, here.1 ∙ sym there.1)
+    go ih (inl here) (inr later) = absurd (right_wrong words knows h m r later.0 kind later.1 here.0)
+    go ih (inr later) (inl here) = absurd (right_wrong words knows h m r later.0 kind' later.1 here.0)
+    go ih (inr later) (inr after) =
+        let s : Step = after.0 in
+        let same = same_step (step_of h m) later.0 s later.1.step after.1.step in
+        ih (knows_also s.change.rd knows) (hart_after s.change h) (memory_after s.did.accesses m)
+        (subst (λ (t : Step). GoesWrong words (knows_also t.change.rd knows) (hart_after t.change h) (memory_after t.did.accesses m) rs (n + 1) kind step) same later.2) after.2

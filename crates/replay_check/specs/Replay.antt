@@ -1,0 +1,62 @@
+-- How the steps of a hart on what is known are those of the whole hart with zero elsewhere.
+use Rattle.std.specs.Prelude.{◌≡◌, ℕ, List, length}
+use Rattle.rv_script.specs.Memory.{memory_after}
+use Rattle.rv_hart.specs.declared.hart.Hart.{Hart}
+use Rattle.rv_hart.specs.declared.record.Record.{Record}
+use Rattle.rv_hart.specs.Whole.{Step, hart_after}
+use Rattle.tpl_parse.specs.declared.template.Region.{Region}
+use Rattle.tpl_admit.specs.declared.certificate.Cert.{Cert}
+use Rattle.tpl_admit.specs.declared.certificate.HartState.{HartState}
+use Rattle.tpl_admit.specs.Starts.{start_of, is_given}
+use Rattle.tpl_admit.specs.Solo.{solo, solo_run, knows_also, knows_after}
+use Rattle.tpl_admit.specs.Failures.{IsRight, IsWrong, AreRight, GoesWrong}
+use Rattle.replay_check.specs.Knowledge.{knows_of, whole_of}
+use Rattle.replay_check.specs.Memory.{given_word, whole_memory}
+
+-- two records are the same, field by field
+pub record IsSameChange (a b : Record) : Type 0 where
+  pub outcome : a.outcome ≡ b.outcome
+  pub rd : a.rd ≡ b.rd
+  pub next_pc : a.next_pc ≡ b.next_pc
+
+pub record IsSameRecord (a b : Record) : Type 0 where
+  pub pc : a.pc ≡ b.pc
+  pub privilege : a.privilege ≡ b.privilege
+  pub word : a.word ≡ b.word
+  pub change : IsSameChange a b
+  pub accesses : a.accesses ≡ b.accesses
+
+-- the hart makes the step of a record, which leaves memory as it is
+pub record Takes (ram : Region) (words : List (ℕ × ℕ)) (h new : Hart) (r : Record) : Type 0 where
+  pub step : Step
+  pub right : IsRight (given_word words) (knows_of h) (whole_of ram h) (whole_memory words) r step
+  pub hart : whole_of ram new ≡ hart_after step.change (whole_of ram h)
+  pub knows : knows_of new ≡ knows_also step.change.rd (knows_of h)
+  pub memory : memory_after step.did.accesses (whole_memory words) ≡ whole_memory words
+
+-- the hart's step isn't that of a record
+abbrev pub Strays : Region → List (ℕ × ℕ) → Hart → Record → ℕ → Type 0
+Strays ram words h r kind = IsWrong (given_word words) (knows_of h) (whole_of ram h) (whole_memory words) r kind
+
+-- the hart's steps are those of the records, and lead to this hart
+pub record TakesAll (ram : Region) (words : List (ℕ × ℕ)) (h new : Hart) (rs : List Record) : Type 0 where
+  pub right : AreRight (given_word words) (knows_of h) (whole_of ram h) (whole_memory words) rs
+  pub hart : (solo (length rs) (whole_of ram h) (whole_memory words)).hart ≡ whole_of ram new
+  pub knows : knows_after (knows_of h) (solo (length rs) (whole_of ram h) (whole_memory words)).moments ≡ knows_of new
+
+abbrev pub StraysAt : Region → List (ℕ × ℕ) → Hart → List Record → ℕ → ℕ → Type 0
+StraysAt ram words h rs kind step = GoesWrong (given_word words) (knows_of h) (whole_of ram h) (whole_memory words) rs 0 kind step
+
+-- hart k of a certificate, alone, is in the end just what is known of this hart
+pub record EndsAs (c : Cert) (k : ℕ) (h : Hart) : Type 0 where
+  pub hart : (solo_run c k).hart ≡ whole_of c.template.ram h
+  pub knows : knows_after (is_given (start_of c k)) (solo_run c k).moments ≡ knows_of h
+
+-- the fixed parts of a hart with this number are those of a state
+pub record IsFixedTold (s : HartState) (k : ℕ) (h : Hart) : Type 0 where
+  pub pc : s.pc ≡ h.pc
+  pub privilege : s.privilege ≡ h.privilege
+  pub mstatus : s.mstatus ≡ h.csrs.mstatus
+  pub medeleg : s.medeleg ≡ h.csrs.medeleg
+  pub satp : s.satp ≡ h.csrs.satp
+  pub number : h.csrs.hart ≡ k

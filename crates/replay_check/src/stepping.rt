@@ -1,0 +1,85 @@
+// The steps of a hart against printed records.
+ghost use Rattle.std.specs.Prelude.{◌≡◌, ◌↔◌, ℕ, ◌≤◌, IsTrue, IfSome, length};
+ghost use Rattle.std.specs.List.{AllByRecursion};
+ghost use Rattle.tpl_admit.specs.WellFormed.{IsRecord};
+ghost use Rattle.replay_check.specs.Knowledge.{IsShaped};
+ghost use Rattle.replay_check.specs.Memory.{IsStart};
+ghost use Rattle.replay_check.specs.Replay.{IsSameChange, IsSameRecord, Takes, Strays, TakesAll, StraysAt};
+
+use crate::lookup::Given;
+use crate::verdict::Kind;
+use rv_hart::{Hart, Record, Stepped, step};
+
+/// The first step that is not that of its record.
+#[derive(Clone, Copy)]
+pub struct Wrong {
+    pub kind: u8,
+    pub step: u32,
+}
+
+/// Whether two steps made the same accesses.
+fn has_same_accesses(one: &Record, other: &Record) -> bool
+    ensures { IsTrue result ↔ (one.now.accesses ≡ other.now.accesses) }
+{
+    one.accesses.as_slice() == other.accesses.as_slice()
+}
+
+/// Whether two steps did the same to their harts.
+fn has_same_change(one: &Record, other: &Record) -> bool
+    ensures { IsTrue result ↔ IsSameChange one.now other.now }
+{
+    one.outcome == other.outcome && one.rd == other.rd && one.next_pc == other.next_pc
+}
+
+/// Whether two records are the same.
+fn is_same(one: &Record, other: &Record) -> bool
+    ensures { IsTrue result ↔ IsSameRecord one.now other.now }
+{
+    one.pc == other.pc
+        && one.privilege == other.privilege
+        && one.word == other.word
+        && has_same_change(one, other)
+        && has_same_accesses(one, other)
+}
+
+/// Takes the hart's next step, and says of which kind the failure is where it is not that of the record.
+fn take(hart: &mut Hart, memory: &Given<'_>, done: &Record) -> Option<u8>
+    requires start { IsStart memory.now.ram memory.now.words.now }
+    requires shape { IsShaped hart.old }
+    requires done { IsRecord done.now }
+    ensures right { result ≡ None → Takes memory.now.ram memory.now.words.now hart.old hart.new done.now }
+    ensures wrong { (kind : ℕ) → result ≡ Some kind → Strays memory.now.ram memory.now.words.now hart.old done.now kind }
+    ensures shape { IsShaped hart.new }
+{
+    match step(hart, memory) {
+        Stepped::Did(did) => {
+            if is_same(&did, done) {
+                None
+            } else {
+                Some(Kind::OtherRecord as u8)
+            }
+        }
+        Stepped::Missing(_) => Some(Kind::MissingPlace as u8),
+        Stepped::Outside => Some(Kind::NoStep as u8),
+    }
+}
+
+/// Takes the hart's steps, and says where they first are not those of the records.
+pub fn take_all(hart: &mut Hart, memory: &Given<'_>, records: &[Record]) -> Option<Wrong>
+    requires start { IsStart memory.now.ram memory.now.words.now }
+    requires shape { IsShaped hart.old }
+    requires records { AllByRecursion IsRecord records.now }
+    requires count { length records.now ≤ 8192 }
+    ensures right { result ≡ None → TakesAll memory.now.ram memory.now.words.now hart.old hart.new records.now }
+    ensures wrong { IfSome result (λ w. StraysAt memory.now.ram memory.now.words.now hart.old records.now w.kind w.step) }
+{
+    for (i, done) in records.iter().enumerate() {
+        if let Some(kind) = take(hart, memory, done) {
+            return Some(Wrong {
+                kind,
+                step: i as u32,
+            });
+        }
+    }
+    None
+}

@@ -1,0 +1,53 @@
+// What is said of a file.
+ghost use Rattle.std.specs.Prelude.{◌≡◌, ◌++◌, ◌≤◌, length, OnOk, IfOk, string_bytes};
+ghost use Rattle.trace_text.specs.Verdicts.{no_text, verdict_text, malformed_text};
+
+use crate::OutOfMemory;
+use replay_check::Verdict;
+use std::alloc::{AllocError, Global};
+use std::fmt::Write;
+
+#[tactic(auto, unfolding(crate::specs::Verdicts::no_text))]
+fn push_no(text: &mut String, kind: u8, hart: u8, step: u32) -> Result<(), AllocError>
+    ensures { OnOk result (string_bytes text.new ≡ string_bytes text.old ++ no_text kind hart step) }
+{
+    writeln!(text, "no {kind} hart {hart} step {step}")
+}
+
+fn push_verdict(text: &mut String, verdict: &Verdict) -> Result<(), AllocError>
+    ensures { OnOk result (string_bytes text.new ≡ string_bytes text.old ++ verdict_text verdict.now) }
+{
+    match *verdict {
+        Verdict::Yes => text.push_str("yes\n"),
+        Verdict::No { kind, hart, step } => push_no(text, kind, hart, step),
+    }
+}
+
+/// The verdict of a check as one line: `yes`, or the first failure.
+#[tactic(auto, using(crate::proofs::Lengths::verdict_short))]
+pub fn verdict(alloc: Global, verdict: &Verdict) -> Result<String, OutOfMemory>
+    ensures text { IfOk result (λ s. string_bytes s ≡ verdict_text verdict.now) }
+    ensures size { length (verdict_text verdict.now) ≤ 256 }
+{
+    let mut text = String::new(alloc);
+    push_verdict(&mut text, verdict)?;
+    Ok(text)
+}
+
+#[tactic(auto, unfolding(crate::specs::Verdicts::malformed_text))]
+fn push_malformed(text: &mut String, part: u8) -> Result<(), AllocError>
+    ensures { OnOk result (string_bytes text.new ≡ string_bytes text.old ++ malformed_text part) }
+{
+    writeln!(text, "malformed part {part}")
+}
+
+/// That bytes are no file, as one line with the number of their first wrong part.
+#[tactic(auto, using(crate::proofs::Lengths::malformed_short))]
+pub fn malformed(alloc: Global, part: u8) -> Result<String, OutOfMemory>
+    ensures text { IfOk result (λ s. string_bytes s ≡ malformed_text part) }
+    ensures size { length (malformed_text part) ≤ 256 }
+{
+    let mut text = String::new(alloc);
+    push_malformed(&mut text, part)?;
+    Ok(text)
+}
