@@ -1,6 +1,7 @@
 pub mod Low
 pub mod Totals
 pub mod Members
+pub mod Ascending
 pub mod Residues
 pub mod Times
 pub mod Powers

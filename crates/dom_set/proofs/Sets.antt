@@ -8,11 +8,13 @@ use Rattle.std.specs.Prelude.{pos, negsuc}
 use Rattle.std.specs.Int.{w32, cast_signed}
 use Rattle.std.proofs.lemmas.Int.{to_z_pos}
 use Rattle.std.proofs.lemmas.Bool.Decides.{nat_tests}
+use Rattle.std.proofs.lemmas.Map.Keys.{sorted_from_strictly_increasing}
 use Rattle.dom_set.specs.declared.progression.Progression.{Progression}
 use Rattle.dom_set.specs.Elements.{elements_of, is_in, first_cyclic, is_signed_lt}
 use Rattle.dom_set.specs.Progressions.{holds, one, times, total, IsApart, IsFirstFrom}
 use Rattle.dom_set.proofs.Totals.{total_same}
 use Rattle.dom_set.proofs.Members.{members, members_same, filter_both, is_in-members, is_in-Contains, Contains-is_in, length-members, slice_get-members, first_is_found, find_none, find_first, members_ascend, members_below}
+use Rattle.dom_set.proofs.Ascending.{same_members}
 use Rattle.dom_set.proofs.Times.{holds_is, holds_once, times_is, times_past}
 
 elements_is : (t : ℕ → Bool) → elements_of t ≡ members t (2 ^ 32)
@@ -218,3 +220,17 @@ Contains-elements t x = (
 
 pub is_in_tests : (xs : List ℕ) (x : ℕ) → (is_in xs x ≡ true) ↔ Contains xs x
 is_in_tests xs x = (is_in-Contains xs x, Contains-is_in xs x)
+
+word_in : (xs : List ℕ) (x : ℕ) → All (λ y. y < 2 ^ 32) xs → is_in xs x ≡ true → x < 2 ^ 32
+word_in xs x words h =
+    let there = is_in-Contains xs x h in
+    omega (arith, words there.0 x there.1, there.2)
+
+-- an ascending list of words is that of the words which are in it
+pub own_elements : (xs : List ℕ) → IsStrictlyIncreasing xs → All (λ x. x < 2 ^ 32) xs → xs ≡ elements_of (is_in xs)
+own_elements xs up all = same_members xs (elements_of (is_in xs)) (sorted_from_strictly_increasing xs up)
+    (sorted_from_strictly_increasing (elements_of (is_in xs)) (ascending (is_in xs))) (λ x.
+    within x (is_in xs x) (word_in xs x all)
+    ∙ sym (ap (λ (ys : List ℕ). is_in ys x) (elements_is (is_in xs)) ∙ is_in-members (is_in xs) (2 ^ 32) x)) where
+      within : (x : ℕ) (b : Bool) → (b ≡ true → x < 2 ^ 32) → b ≡ (ltb x (2 ^ 32) && b)
+      within x b h = grind (arith, nat_tests)

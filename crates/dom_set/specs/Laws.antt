@@ -1,5 +1,5 @@
 -- The laws of the lists that stand for sets, and of the test of what they are aligned to.
-use Rattle.std.specs.Prelude.{◌≡◌, ℕ, ◌<◌, ◌^◌, ◌↔◌, Bool, true, List, Contains, IsTrue}
+use Rattle.std.specs.Prelude.{◌≡◌, ℕ, ◌<◌, ◌^◌, ◌↔◌, Bool, true, List, All, Contains, IsTrue}
 use Rattle.std.specs.List.Sorted.{IsStrictlyIncreasing}
 use Rattle.std.specs.Int.{is_power_of_two, IsPowerOfTwo}
 use Rattle.dom_set.specs.Elements.{elements_of, is_in}
@@ -19,6 +19,10 @@ SameTestsSameElements = (test other : ℕ → Bool) → ((x : ℕ) → x < 2 ^ 3
 -- the test for being in a list says just that
 abbrev pub IsInTests : Type 0
 IsInTests = (xs : List ℕ) (x : ℕ) → IsTrue (is_in xs x) ↔ Contains xs x
+
+-- an ascending list of 32-bit numbers is that of the numbers which are in it
+abbrev pub AscendingAreElements : Type 0
+AscendingAreElements = (xs : List ℕ) → IsStrictlyIncreasing xs → All (λ x. x < 2 ^ 32) xs → xs ≡ elements_of (is_in xs)
 
 -- std's test of a power of two
 abbrev pub PowersAreTested : Type 0

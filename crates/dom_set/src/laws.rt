@@ -1,5 +1,5 @@
 // The laws of the lists that contracts see sets as.
-ghost use Rattle.dom_set.specs.Laws.{ElementsPass, ElementsAscend, SameTestsSameElements, IsInTests, PowersAreTested};
+ghost use Rattle.dom_set.specs.Laws.{ElementsPass, ElementsAscend, SameTestsSameElements, IsInTests, AscendingAreElements, PowersAreTested};
 
 /// Does nothing. Its contract says which list stands for the numbers that pass a test, so that what
 /// is known of a number's test is known of the set; and that std's test of a power of two tells one.
@@ -8,5 +8,6 @@ pub fn set_laws()
     ensures ascend { ElementsAscend }
     ensures same { SameTestsSameElements }
     ensures tests { IsInTests }
+    ensures lists { AscendingAreElements }
     ensures powers { PowersAreTested }
 {}

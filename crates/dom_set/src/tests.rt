@@ -8,7 +8,7 @@ type Row = (&'static [(u32, u32)], u32);
 
 /// Sets of each step that is used: ranges that overlap, touch, lie apart, stand in another order,
 /// have one number, none, or all.
-const ROWS: [Row; 16] = [
+const ROWS: [Row; 17] = [
     (&[], 1),
     (&[(7, 3)], 1),
     (&[(5, 5)], 1),
@@ -21,6 +21,7 @@ const ROWS: [Row; 16] = [
     (&[(1, 1), (5, 20), (16, 31)], 2),
     (&[(0, 15)], 4),
     (&[(40, 50), (1, 2), (4, 7), (9, 11)], 4),
+    (&[(11, 18), (4, 9)], 4),
     (&[(0, 0xffff)], 4096),
     (&[(0x3f_0000, 0x41_0000), (0xfff0_0000, u32::MAX)], 4096),
     (&[(0, u32::MAX)], 0x40_0000),
@@ -35,7 +36,7 @@ const ROWS: [Row; 16] = [
 ];
 
 /// Distances and bounds.
-const NUMBERS: [u32; 10] = [
+const NUMBERS: [u32; 11] = [
     0,
     1,
     4,
@@ -46,6 +47,25 @@ const NUMBERS: [u32; 10] = [
     0x7fff_ffff,
     0x8000_0000,
     0xffff_fffc,
+    u32::MAX,
+];
+
+/// Of all numbers: a bound, and the ranges of those below it, unsigned and signed.
+const BOUNDS: [(u32, &[(u32, u32)], &[(u32, u32)]); 6] = [
+    (0, &[], &[(0x8000_0000, u32::MAX)]),
+    (1, &[(0, 0)], &[(0, 0), (0x8000_0000, u32::MAX)]),
+    (
+        0x7fff_ffff,
+        &[(0, 0x7fff_fffe)],
+        &[(0, 0x7fff_fffe), (0x8000_0000, u32::MAX)],
+    ),
+    (0x8000_0000, &[(0, 0x7fff_ffff)], &[]),
+    (
+        0x8000_0001,
+        &[(0, 0x8000_0000)],
+        &[(0x8000_0000, 0x8000_0000)],
+    ),
+    (u32::MAX, &[(0, 0xffff_fffe)], &[(0x8000_0000, 0xffff_fffe)]),
 ];
 
 /// A set, and its elements in ascending order.
@@ -73,13 +93,17 @@ fn multiples(alloc: Global, row: Row) -> Result<Vec<u32>, AllocError> {
 }
 
 #[tactic(auto, using(crate::proofs::Powers::power_from_test))]
+fn case_of(rt: &impl Abort, alloc: Global, row: Row) -> Result<Case, Fail> {
+    assert!(rt; row.1.is_power_of_two());
+    let set = Set::from_ranges(alloc, row.0, row.1)?;
+    let list = multiples(alloc, row)?;
+    Ok(Case { set, list })
+}
+
 fn cases(rt: &impl Abort, alloc: Global) -> Result<Vec<Case>, Fail> {
     let mut out = Vec::new(alloc);
     for row in ROWS {
-        assert!(rt; row.1.is_power_of_two());
-        let set = Set::from_ranges(alloc, row.0, row.1)?;
-        let list = multiples(alloc, row)?;
-        out.push(Case { set, list })?;
+        out.push(case_of(rt, alloc, row)?)?;
     }
     Ok(out)
 }
@@ -188,6 +212,37 @@ fn two_sets_are_as_two_lists(rt: HostRuntime) -> Result<(), Fail> {
             assert_eq!(rt; intersection == b.set, common.as_slice() == list);
             assert_eq!(rt; difference == a.set, rest == a.list);
         }
+    }
+    Ok(())
+}
+
+#[test]
+fn each_number_is_in_its_place_among_all(rt: HostRuntime) -> Result<(), Fail> {
+    let alloc = rt.alloc();
+    let all = Set::from_ranges(alloc, &[(0, u32::MAX)], 1)?;
+    assert_eq!(rt; all.size(), 1 << 32);
+    for x in NUMBERS {
+        let place = u64::from(x);
+        assert!(rt; place < all.size());
+        assert_eq!(rt; all.nth(place), x);
+        assert_eq!(rt; all.first_from(x), Some(x));
+        assert!(rt; all.shift(alloc, x)? == all);
+    }
+    Ok(())
+}
+
+#[test]
+fn bounds_cut_all_numbers(rt: HostRuntime) -> Result<(), Fail> {
+    let alloc = rt.alloc();
+    let all = Set::from_ranges(alloc, &[(0, u32::MAX)], 1)?;
+    for (x, below, signed_below) in BOUNDS {
+        let below = Set::from_ranges(alloc, below, 1)?;
+        assert!(rt; all.below(alloc, x)? == below, "below {x}");
+        let signed_below = Set::from_ranges(alloc, signed_below, 1)?;
+        assert!(rt;
+            all.signed_below(alloc, x)? == signed_below,
+            "signed below {x}"
+        );
     }
     Ok(())
 }

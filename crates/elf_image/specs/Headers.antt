@@ -1,12 +1,12 @@
 -- The ELF header and the program headers (System V ABI, Object Files, ELF Header; Program Loading, Program Header).
 use Rattle.std.specs.Prelude.{ℕ, ◌+◌, ◌-◌, ◌*◌, List, [], ◌∷◌, ◌++◌, length, replicate}
 use Rattle.byte_format.specs.Numbers.{half, word, pieces}
-use Rattle.elf_image.specs.declared.elf.TheConstants.{ELFMAG0, ELFMAG1, ELFMAG2, ELFMAG3, ELFCLASS32, ELFDATA2LSB, EV_CURRENT, ELFOSABI_NONE, EI_PAD, EI_NIDENT, ET_EXEC, EM_RISCV, EHDR_SIZE, PHDR_SIZE, PT_LOAD, PT_NOTE, PF_X, PF_W, PF_R, ALIGN}
+use Rattle.elf_image.specs.declared.elf.TheConstants.{ELFMAG0, ELFMAG1, ELFMAG2, ELFMAG3, ELFCLASS32, ELFDATA2LSB, EV_CURRENT, ELFOSABI_NONE, EI_ABIVERSION, EI_NIDENT, ET_EXEC, EM_RISCV, EHDR_SIZE, PHDR_SIZE, PT_LOAD, PT_NOTE, PF_X, PF_W, PF_R, ALIGN}
 use Rattle.elf_image.specs.declared.runs.Run.{Run}
 use Rattle.elf_image.specs.declared.writing.headers.Segment.{Segment}
 
 unfoldable pub e_ident : List ℕ
-e_ident = ELFMAG0 ∷ ELFMAG1 ∷ ELFMAG2 ∷ ELFMAG3 ∷ ELFCLASS32 ∷ ELFDATA2LSB ∷ EV_CURRENT ∷ ELFOSABI_NONE ∷ replicate (EI_NIDENT - EI_PAD) 0
+e_ident = ELFMAG0 ∷ ELFMAG1 ∷ ELFMAG2 ∷ ELFMAG3 ∷ ELFCLASS32 ∷ ELFDATA2LSB ∷ EV_CURRENT ∷ ELFOSABI_NONE ∷ replicate (EI_NIDENT - EI_ABIVERSION) 0
 
 -- e_type, e_machine, e_version, e_entry
 unfoldable pub elf_kind : ℕ → List ℕ

@@ -16,8 +16,8 @@ pub const ELFDATA2LSB: u8 = 1;
 pub const EV_CURRENT: u8 = 1;
 /// No extensions.
 pub const ELFOSABI_NONE: u8 = 0;
-/// How many bytes of e_ident are used.
-pub const EI_PAD: usize = 8;
+/// The place of the ABI's version in e_ident; from there on all bytes are 0.
+pub const EI_ABIVERSION: usize = 8;
 /// How many bytes e_ident has.
 pub const EI_NIDENT: usize = 16;
 /// The bytes of e_ident.

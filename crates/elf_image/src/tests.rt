@@ -46,6 +46,48 @@ const BEHIND: [&str; 2] = [
     "93027000",
 ];
 
+// A file with a store, a trap, CSRs, two runs of words and a text of 89 bytes, made from the format.
+const TRAP_BEFORE: [&str; 14] = [
+    // The ELF header.
+    "7f454c460101010000000000000000000200f3000100000000000080340000000000000000000000",
+    "340020000300000000000000",
+    // PT_NOTE and two times PT_LOAD.
+    "04000000940000000000000000000000ac010000ac01000004000000040000000100000040020000",
+    "00000080000000800800000008000000070000000400000001000000480200001000008010000080",
+    "04000000040000000700000004000000",
+    // The note of the start: x5 and mtvec.
+    "0500000030000000010000005447454e000000000100000001000000000000800300000000000000",
+    "00010000000000000200000005000000080000800513000000020080",
+    // The note of the records: a store of one byte, and ECALL, which traps to M.
+    "0500000060000000020000005447454e000000000200000000000080238052000400008003ffff00",
+    "00000000000000000200000000000080238052000004000010000080080000000301000004000080",
+    "7300000000020080030b0300000000000000000001000000040000807300000000040000",
+    // The note of the end, with the CSRs of the trap.
+    "0500000050000000030000005447454e000000000002008003000000001800000001000000000000",
+    "05000000050000000800008005130000000200804113000004000080421300000b00000043130000",
+    "0000000003000000238052007300000008223344",
+    // The note of the template, of which the text follows as it is.
+    "0500000059000000040000005447454e00000000",
+];
+
+const TRAP_TEXT: &str = "ram 0x80000000 0x80001000
+pool 0x80000000
+hart 0 {
+start pc 0x80000000 priv m
+body {
+}
+}
+";
+
+const TRAP_BEHIND: [&str; 3] = [
+    // Three bytes behind the text.
+    "000000",
+    // The note of the rest.
+    "050000000c000000050000005447454e00000000000000000000000000000000",
+    // The words.
+    "238052007300000011223344",
+];
+
 /// The value of a hexadecimal digit.
 fn digit(c: u8) -> u8 {
     match c {
@@ -216,6 +258,28 @@ fn each_part_is_judged_in_its_turn(rt: HostRuntime) -> Result<(), Fail> {
         assert!(rt; at < file.len());
         file[at] = byte;
         assert_eq!(rt; wrong_part(alloc, &file), part, "at {at}");
+    }
+    Ok(())
+}
+
+#[test]
+fn a_file_with_a_trap_is_read_and_written_back(rt: HostRuntime) -> Result<(), Fail> {
+    let alloc = rt.alloc();
+    let mut file = Vec::new(alloc);
+    put_lines(&mut file, &TRAP_BEFORE)?;
+    file.extend_from_slice(TRAP_TEXT.as_bytes())?;
+    put_lines(&mut file, &TRAP_BEHIND)?;
+    assert_eq!(rt; file.len(), 588);
+    match read(alloc, &file) {
+        Err(_) => assert!(rt; false),
+        Ok(cert) => {
+            let written = write(alloc, &cert)?;
+            assert_eq!(rt; written.as_slice(), file.as_slice());
+            assert_eq!(rt; cert.words.len(), 3);
+            for end in cert.finals.as_slice() {
+                assert_eq!(rt; end.places.len(), 5);
+            }
+        }
     }
     Ok(())
 }

@@ -26,7 +26,7 @@ use Rattle.gen_engine.proofs.Machines.{Takes, takes, looks_leave, Shows, shows_w
 -- the words of the leaves stand in memory from a pc on, in RAM
 abbrev pub AreThere : Region → (ℕ → Option ℕ) → ℕ → List Leaf → Type 0
 AreThere ram words pc [] = Unit {0}
-AreThere ram words pc (l ∷ ls) = (words (pc / 4) ≡ Some (leaf_word l)) × (is_in ram pc ≡ true) × AreThere ram words (pc + 4) ls
+AreThere ram words pc (l ∷ ls) = (words (pc / 4) ≡ Some (leaf_word l)) × (is_in ram (pc / 4 * 4) ≡ true) × AreThere ram words (pc + 4) ls
 
 -- a hart stands before leaves, with just these registers known
 pub record Before (ram : Region) (words : ℕ → Option ℕ) (pc : ℕ) (regs : List (Option ℕ)) (ls : List Leaf) (h : WholeHart) (knows : ℕ → Bool) : Type 0 where

@@ -1,8 +1,8 @@
 -- The step of a leaf on a hart that stands before it.
-use Rattle.std.proofs.Common.{◌≡◌, ℕ, ◌+◌, ◌-◌, ◌%◌, ◌^◌, ◌<◌, ◌≤◌, true, List, [], ◌∷◌, Option, Some, None, refl, sym, ap, ◌∙◌, inl, inr, ◌⊎◌, ◌&&◌, arith, if◌then◌else◌}
+use Rattle.std.proofs.Common.{◌≡◌, ℕ, ◌+◌, ◌-◌, ◌/◌, ◌%◌, ◌^◌, ◌<◌, ◌≤◌, true, eqb, List, [], ◌∷◌, Option, Some, None, refl, sym, ap, ◌∙◌, inl, inr, ◌⊎◌, ◌&&◌, arith, if◌then◌else◌}
 use Rattle.std.specs.Prelude.{slice_index_or}
 use Rattle.std.specs.Option.{unwrap_or, IsSome}
-use Rattle.std.proofs.lemmas.Bool.{lt-ltb, le-ltb}
+use Rattle.std.proofs.lemmas.Bool.{cases_Bool, lt-ltb, le-ltb}
 use Rattle.rv_isa.specs.Encoding.{Fits, IsEncoded, sign_extended}
 use Rattle.rv_isa.specs.Reading.{decoded}
 use Rattle.rv_isa.proofs.Codec.{read_encoded, encoded_below}
@@ -10,6 +10,10 @@ use Rattle.rv_script.specs.declared.place.Place.TheVariants.{Reg, Word}
 use Rattle.rv_script.specs.Bytes.{word_address, part_of}
 use Rattle.rv_script.specs.Script.{Question.OfMemory, access_of, Script, Script.Outside, Label.Fetched, ◌>>=◌, read}
 use Rattle.rv_script.specs.Folds.{Known, Answer.Does, answer_on, prefixed, noted, on_told}
+use Rattle.rv_mem.specs.declared.words.Seen.{Seen}
+use Rattle.rv_mem.specs.declared.words.Seen.TheVariants.{Known as KnownWord, Untouched, Vacant}
+use Rattle.rv_mem.specs.Seen.{known_word, is_there}
+use Rattle.rv_hart.specs.Effects.{seen_word_after, seen_after}
 use Rattle.rv_hart.specs.declared.csrs.Priv.{Priv}
 use Rattle.rv_hart.specs.declared.hart.Hart.{Hart}
 use Rattle.rv_hart.specs.declared.record.Change.{Change}
@@ -17,14 +21,13 @@ use Rattle.rv_hart.specs.declared.record.Outcome.TheVariants.{Retired}
 use Rattle.rv_hart.specs.declared.record.Record.{Record}
 use Rattle.rv_hart.specs.declared.record.Stepped.TheVariants.{Did}
 use Rattle.rv_hart.specs.Whole.{record_of}
-use Rattle.rv_hart.specs.View.{known, fixed_of, shown, known_word, is_there}
+use Rattle.rv_hart.specs.View.{known, fixed_of, shown}
 use Rattle.rv_hart.specs.Machine.{Fixed, is_bare, rd_told, retired, immediate_row, instruction, script}
 use Rattle.tpl_parse.specs.declared.template.Leaf.{Leaf}
 use Rattle.tpl_parse.specs.Form.{IsFit}
 use Rattle.tpl_admit.specs.Admission.{instr_of}
-use Rattle.tpl_parse.specs.declared.template.Region.{Region}
 use Rattle.gen_engine.specs.Plan.{leaf_word, leaf_value, leaf_write, leaf_record, fetch_of}
-use Rattle.gen_engine.specs.Code.{code_at, IsAt}
+use Rattle.gen_engine.specs.Code.{IsAt}
 
 -- a fetch that is told its word
 fetched : (k : Known) (pc word : ℕ) (next : ℕ → Script Change) → pc % 4 ≡ 0 → word < 2 ^ 32 → k (Word pc) ≡ Some word
@@ -43,12 +46,12 @@ unfolding immediate_row
 row_answered f k word l a there = rw there refl
 
 -- a leaf's instruction at the pc, with its source known
-pub leaf_answered : (f : Fixed) (k : Known) (l : Leaf) (word a : ℕ) → is_bare f.privilege f.satp ≡ true → f.ram f.pc ≡ true → f.pc % 4 ≡ 0 → word < 2 ^ 32
+pub leaf_answered : (f : Fixed) (k : Known) (l : Leaf) (word a : ℕ) → is_bare f.privilege f.satp ≡ true → f.ram (f.pc / 4) ≡ true → f.pc % 4 ≡ 0 → word < 2 ^ 32
     → k (Word f.pc) ≡ Some word → decoded word ≡ Some (instr_of l) → k (Reg l.rs1) ≡ Some a
     → answer_on k (script f) ≡ Does (fetch_of f.pc word ∷ []) (retired f.pc word (rd_told l.rd ((a + l.imm) % 2 ^ 32)))
 unfolding script instruction
 leaf_answered f k l word a bare there aligned small fetches decodes source =
-    ap (λ b. answer_on k (if b && f.ram f.pc then read Fetched f.pc 4 >>= (λ w. instruction f w (decoded w)) else Outside)) bare
+    ap (λ b. answer_on k (if b && f.ram (f.pc / 4) then read Fetched f.pc 4 >>= (λ w. instruction f w (decoded w)) else Outside)) bare
     ∙ ap (λ b. answer_on k (if b then read Fetched f.pc 4 >>= (λ w. instruction f w (decoded w)) else Outside)) there
     ∙ fetched k f.pc word (λ w. instruction f w (decoded w)) aligned small fetches
     ∙ ap (λ o. prefixed (fetch_of f.pc word ∷ []) (answer_on k (instruction f word o))) decodes
@@ -73,20 +76,29 @@ pub leaf_decoded : (l : Leaf) → IsFit l → decoded (leaf_word l) ≡ Some (in
 leaf_decoded l fit = read_encoded (leaf_word l) (instr_of l) (encoded l fit)
 
 -- the step of a hart that stands before a leaf
-pub step_is : (h : Hart) (ram : Region) (base : ℕ) (words : List ℕ) (l : Leaf) → IsAt h ram base words l
-    → shown (fixed_of h (code_at ram base words)) (answer_on (known h (code_at ram base words)) (script (fixed_of h (code_at ram base words)))) ≡ Did (leaf_record h.pc h.regs l)
-step_is h ram base words l at = go (slice_index_or h.regs l.rs1 None) refl at.known
+pub step_is : (h : Hart) (see : ℕ → Seen) (l : Leaf) → IsAt h see l
+    → shown (fixed_of h see) (answer_on (known h see) (script (fixed_of h see))) ≡ Did (leaf_record h.pc h.regs l)
+step_is h see l at = go (slice_index_or h.regs l.rs1 None) refl at.known
   where
     go : (o : Option ℕ) → slice_index_or h.regs l.rs1 None ≡ o → IsSome o
-        → shown (fixed_of h (code_at ram base words)) (answer_on (known h (code_at ram base words)) (script (fixed_of h (code_at ram base words)))) ≡ Did (leaf_record h.pc h.regs l)
+        → shown (fixed_of h see) (answer_on (known h see) (script (fixed_of h see))) ≡ Did (leaf_record h.pc h.regs l)
     go None e some = absurd (cc some)
     go (Some a) e some =
-        let answered = leaf_answered (fixed_of h (code_at ram base words)) (known h (code_at ram base words)) l (leaf_word l) a (rw at.privilege refl) (ap is_there at.word) h.aligned
+        let answered = leaf_answered (fixed_of h see) (known h see) l (leaf_word l) a (rw at.privilege refl) (ap is_there at.word) h.aligned
         (encoded_below (leaf_word l) (instr_of l) (encoded l at.fit)) (ap known_word at.word) (leaf_decoded l at.fit) e in
         let value : (a + l.imm) % 2 ^ 32 ≡ leaf_value h.regs l = ap (λ (o : Option ℕ). (unwrap_or o 0 + l.imm) % 2 ^ 32) (sym e) in
-        ap (shown (fixed_of h (code_at ram base words))) answered
-        ∙ ap (λ (n : ℕ). Did (record_of (fixed_of h (code_at ram base words)) (fetch_of h.pc (leaf_word l) ∷ []) (retired h.pc (leaf_word l) (rd_told l.rd n)))) value
+        ap (shown (fixed_of h see)) answered
+        ∙ ap (λ (n : ℕ). Did (record_of (fixed_of h see) (fetch_of h.pc (leaf_word l) ∷ []) (retired h.pc (leaf_word l) (rd_told l.rd n)))) value
         ∙ ap (λ (p : Priv). Did (record { pc = h.pc; privilege = p; word = leaf_word l; outcome = Retired; rd = leaf_write h.regs l; accesses = fetch_of h.pc (leaf_word l) ∷ []; next_pc = (h.pc + 4) % 2 ^ 32 })) at.privilege
 
 pub did_same : (r s : Record) → Did r ≡ Did s → r ≡ s
 did_same r s e = cc
+
+-- its fetch leaves memory as it is
+pub fetch_leaves : (see : ℕ → Seen) (pc word n : ℕ) → seen_after (fetch_of pc word ∷ []) see n ≡ see n
+fetch_leaves see pc word n = elim (cases_Bool (eqb n (pc / 4))) [ inl here ↦ rw here (kept (see n)) | inr other ↦ rw other refl ]
+  where
+    kept : (s : Seen) → seen_word_after (fetch_of pc word) n s ≡ s
+    kept (KnownWord w) = refl
+    kept Untouched = refl
+    kept Vacant = refl

@@ -1,10 +1,13 @@
 -- Leaves one after another in lists.
-use Rattle.std.proofs.Common.{◌≡◌, ℕ, zero, suc, ◌+◌, ◌-◌, ◌*◌, ◌/◌, ◌<◌, ◌≤◌, List, [], ◌∷◌, ◌++◌, length, map, drop, Option, Some, refl, sym, ap, ◌∙◌, subst, arith, true, append_assoc, add-one}
+use Rattle.std.proofs.Common.{◌≡◌, ◌≢◌, ℕ, zero, suc, ◌+◌, ◌-◌, ◌*◌, ◌/◌, ◌%◌, ◌<◌, ◌≤◌, List, [], ◌∷◌, ◌++◌, length, get_or, map, drop, take, leb, if◌then◌else◌, inl, inr, Option, Some, None, refl, sym, ap, ◌∙◌, subst, arith, true, append_assoc, add-one}
 use Rattle.std.specs.Prelude.{slice_get}
-use Rattle.std.proofs.lemmas.Bool.{le-leb, lt-ltb, and_from}
+use Rattle.std.proofs.lemmas.Bool.{cases_Bool, le-leb, leb-true, lt-ltb, and_from}
+use Rattle.rv_mem.specs.declared.words.Seen.{Seen}
+use Rattle.rv_mem.specs.declared.words.Seen.TheVariants.{Known, Untouched, Vacant}
+use Rattle.rv_mem.specs.Seen.{is_there}
+use Rattle.rv_mem.specs.Ram.{in_ram}
 use Rattle.rv_hart.specs.declared.csrs.Priv.TheVariants.{M}
 use Rattle.rv_hart.specs.declared.hart.Hart.{Hart}
-use Rattle.rv_hart.specs.declared.memory.Seen.TheVariants.{Known}
 use Rattle.rv_hart.specs.declared.record.Record.{Record}
 use Rattle.rv_hart.specs.Registers.{written}
 use Rattle.tpl_parse.specs.declared.template.Leaf.{Leaf}
@@ -12,7 +15,7 @@ use Rattle.tpl_parse.specs.declared.template.Region.{Region}
 use Rattle.tpl_parse.specs.Form.{IsFit, AreLeavesFit}
 use Rattle.tpl_admit.specs.Starts.{is_in}
 use Rattle.gen_engine.specs.Plan.{leaf_word, leaf_write, leaf_record, records_from, regs_from}
-use Rattle.gen_engine.specs.Code.{code_at, AreKnown, IsAt, IsReady}
+use Rattle.gen_engine.specs.Code.{seen_word, code_at, AreKnown, IsAt, IsReady}
 
 -- the item at a place, and what follows it
 pub record IsItem {A : Type 0} (items : List A) (i : ℕ) (x : A) : Type 0 where
@@ -34,28 +37,29 @@ mapped_at [] i l there = absurd (cc there)
 mapped_at (x ∷ ls) zero l there = let same : x ≡ l = cc there in ap (λ (k : Leaf). Some (leaf_word k)) same
 mapped_at (x ∷ ls) (suc i) l there = mapped_at ls i l there
 
--- the known word i of the code
-pub code_word : (ram : Region) (base : ℕ) (words : List ℕ) (i w : ℕ) → slice_get words i ≡ Some w → ram.low ≤ base → base + 4 * i < ram.high → code_at ram base words (base + 4 * i) ≡ Known w
-code_word ram base words i w there low high =
-    let inside : is_in ram (base + 4 * i) ≡ true = and_from _ _ (le-leb ram.low (base + 4 * i) (omega arith)) (lt-ltb (base + 4 * i) ram.high high) in
-    let place : (base + 4 * i - base) / 4 ≡ i = omega arith in
-    rw (inside, le-leb base (base + 4 * i) (omega arith), place, there) refl
+-- word i of the code, which begins at an address
+pub code_word : (ram : Region) (base : ℕ) (words : List ℕ) (i w : ℕ) → slice_get words i ≡ Some w → base % 4 ≡ 0 → ram.low ≤ base → base + 4 * i < ram.high
+    → code_at ram base words ((base + 4 * i) / 4) ≡ Known w
+code_word ram base words i w there aligned low high =
+    let back : (base + 4 * i) / 4 * 4 ≡ base + 4 * i = omega (arith, aligned) in
+    let inside : is_in ram ((base + 4 * i) / 4 * 4) ≡ true = and_from _ _ (le-leb ram.low ((base + 4 * i) / 4 * 4) (omega (arith, back, low))) (lt-ltb ((base + 4 * i) / 4 * 4) ram.high (omega (arith, back, high))) in
+    let place : (base + 4 * i) / 4 - base / 4 ≡ i = omega (arith, aligned) in
+    rw (inside, le-leb (base / 4) ((base + 4 * i) / 4) (omega (arith, aligned)), place, there) refl
 
 -- the hart stands before leaf i
-pub at_leaf : (first h : Hart) (ram : Region) (base : ℕ) (words : List ℕ) (leaves : List Leaf) (i : ℕ) (l : Leaf) → IsReady first ram base words leaves → IsItem leaves i l
-    → AreKnown h.regs (drop i leaves) → h.pc ≡ first.pc + 4 * i → h.privilege ≡ M → i < length leaves → IsAt h ram base words l
-at_leaf first h ram base words leaves i l ready item knows pc privilege within =
+pub at_leaf : (first h : Hart) (see now : ℕ → Seen) (ram : Region) (leaves : List Leaf) (i : ℕ) (l : Leaf) → IsReady first see ram leaves → ((n : ℕ) → now n ≡ see n) → IsItem leaves i l
+    → AreKnown h.regs (drop i leaves) → h.pc ≡ first.pc + 4 * i → h.privilege ≡ M → i < length leaves → IsAt h now l
+at_leaf first h see now ram leaves i l ready same item knows pc privilege within =
     let known : AreKnown h.regs (l ∷ drop (i + 1) leaves) = subst (AreKnown h.regs) item.rest knows in
     let fits : IsFit l = fit_at leaves i l ready.fit item.there in
-    let at : h.pc ≡ base + 4 * i = omega (arith, pc, ready.pc) in
-    let there : slice_get words i ≡ Some (leaf_word l) = ap (λ (ws : List ℕ). slice_get ws i) ready.words_are ∙ mapped_at leaves i l item.there in
     record {
       privilege = privilege;
-      word = ap (code_at ram base words) at ∙ code_word ram base words i (leaf_word l) there ready.low (omega (arith, ready.high, within));
+      word = same (h.pc / 4) ∙ ready.code (h.pc / 4) ∙ ap (λ (a : ℕ). code_at ram first.pc (map leaf_word leaves) (a / 4)) pc
+          ∙ code_word ram first.pc (map leaf_word leaves) i (leaf_word l) (mapped_at leaves i l item.there) first.aligned ready.low (omega (arith, ready.high, within));
       fit = fits;
       known = known.0;
       source = fits.rs1;
-      next = omega (arith, at, ready.high, ready.small, within);
+      next = omega (arith, pc, ready.high, ready.small, within);
     }
 
 -- one more record, with those that are left
@@ -75,3 +79,60 @@ one_more_write all regs after l left rest split write h = ap (λ (q : List (Opti
 pub known_next : (regs after : List (Option ℕ)) (l : Leaf) (left rest : List Leaf) → left ≡ l ∷ rest → after ≡ written (leaf_write regs l) regs → AreKnown regs left → AreKnown after rest
 known_next regs after l left rest split write h =
     let known : AreKnown regs (l ∷ rest) = subst (AreKnown regs) split h in subst (λ (q : List (Option ℕ)). AreKnown q rest) (sym write) known.1
+
+-- ---- words that are put one after another
+
+take_other : (ws : List ℕ) (i k : ℕ) → k ≢ i → slice_get (take (suc i) ws) k ≡ slice_get (take i ws) k
+take_other [] zero k other = refl
+take_other [] (suc i) k other = refl
+take_other (w ∷ ws) zero zero other = absurd (other refl)
+take_other (w ∷ ws) zero (suc k) other = refl
+take_other (w ∷ ws) (suc i) zero other = refl
+take_other (w ∷ ws) (suc i) (suc k) other = take_other ws i k (λ e. other (ap suc e))
+
+take_here : (ws : List ℕ) (i w : ℕ) → slice_get ws i ≡ Some w → slice_get (take (suc i) ws) i ≡ Some w
+take_here [] i w there = there
+take_here (x ∷ ws) zero w there = there
+take_here (x ∷ ws) (suc i) w there = take_here ws i w there
+
+-- the word that is put is the next one of the code
+pub code_put : (ram : Region) (base : ℕ) (words : List ℕ) (i w : ℕ) → slice_get words i ≡ Some w → base % 4 ≡ 0 → ram.low ≤ base → base + 4 * i < ram.high
+    → code_at ram base (take (i + 1) words) ((base + 4 * i) / 4) ≡ Known w
+code_put ram base words i w there aligned low high =
+    ap (λ (n : ℕ). code_at ram base (take n words) ((base + 4 * i) / 4)) (add-one i) ∙ code_word ram base (take (suc i) words) i w (take_here words i w there) aligned low high
+
+-- and the others stay
+pub code_others : (ram : Region) (base : ℕ) (words : List ℕ) (i n : ℕ) → base % 4 ≡ 0 → n ≢ (base + 4 * i) / 4 → code_at ram base (take i words) n ≡ code_at ram base (take (i + 1) words) n
+code_others ram base words i n aligned other =
+    ap (λ (s : Seen). if is_in ram (n * 4) then s else Vacant) (elim (cases_Bool (leb (base / 4) n)) [
+      | inl from ↦
+          let apart : n - base / 4 ≢ i = λ e. other (omega (arith, e, leb-true (base / 4) n from, aligned)) in
+          rw from (ap seen_word (sym (take_other words i (n - base / 4) apart) ∙ ap (λ (k : ℕ). slice_get (take k words) (n - base / 4)) (sym (add-one i))))
+      | inr before ↦ rw before refl
+    ])
+
+-- a word of RAM is there before it is put
+pub code_there : (ram : Region) (base : ℕ) (words : List ℕ) (n : ℕ) → is_in ram (n * 4) ≡ true → is_there (code_at ram base words n) ≡ true
+code_there ram base words n inside = rw inside (elim (cases_Bool (leb (base / 4) n)) [ inl from ↦ rw from (there_word (slice_get words (n - base / 4))) | inr before ↦ rw before refl ])
+  where
+    there_word : (o : Option ℕ) → is_there (seen_word o) ≡ true
+    there_word None = refl
+    there_word (Some w) = refl
+
+-- no word is put at first
+pub code_none : (ram : Region) (base : ℕ) (n : ℕ) → (if is_in ram (n * 4) then Untouched else Vacant) ≡ code_at ram base [] n
+code_none ram base n = ap (λ (s : Seen). if is_in ram (n * 4) then s else Vacant) (elim (cases_Bool (leb (base / 4) n)) [ inl from ↦ rw from refl | inr before ↦ rw before refl ])
+
+pub word_in : (ram : Region) (base i : ℕ) → base % 4 ≡ 0 → ram.low ≤ base → base + 4 * i < ram.high → is_in ram ((base + 4 * i) / 4 * 4) ≡ true
+word_in ram base i aligned low high =
+    let back : (base + 4 * i) / 4 * 4 ≡ base + 4 * i = omega (arith, aligned) in
+    and_from _ _ (le-leb ram.low ((base + 4 * i) / 4 * 4) (omega (arith, back, low))) (lt-ltb ((base + 4 * i) / 4 * 4) ram.high (omega (arith, back, high)))
+
+-- RAM of one region
+pub one_region : (ram : Region) (n : ℕ) → in_ram ((ram.low, ram.high) ∷ []) n ≡ is_in ram (n * 4)
+one_region ram n = elim (cases_Bool (is_in ram (n * 4))) [ inl inside ↦ rw inside refl | inr outside ↦ rw outside refl ]
+
+pub word_at : (ws : List ℕ) (i : ℕ) → i < length ws → slice_get ws i ≡ Some (get_or ws i 0)
+word_at [] i within = absurd (omega arith)
+word_at (w ∷ ws) zero within = refl
+word_at (w ∷ ws) (suc i) within = word_at ws i (omega (arith, within))

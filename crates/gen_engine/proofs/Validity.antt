@@ -9,6 +9,7 @@ use Rattle.std.proofs.lemmas.List.{get_or-replicate, get_or_past, length-map, le
 use Rattle.rv_script.specs.declared.access.Access.{Access}
 use Rattle.rv_script.specs.Lists.{HasItem}
 use Rattle.rv_script.specs.Bytes.{is_look}
+use Rattle.rv_mem.specs.declared.words.Seen.{Seen}
 use Rattle.rv_hart.specs.declared.csrs.Priv.TheVariants.{M}
 use Rattle.rv_hart.specs.declared.hart.Hart.{Hart}
 use Rattle.rv_hart.specs.declared.record.Record.{Record}
@@ -18,7 +19,7 @@ use Rattle.tpl_parse.specs.declared.template.Leaf.{Leaf}
 use Rattle.tpl_parse.specs.declared.template.Region.{Region}
 use Rattle.tpl_parse.specs.declared.template.Template.{Template}
 use Rattle.tpl_parse.specs.Form.{AreLeavesFit, HasTarget, AreFed, IsAllowed}
-use Rattle.tpl_admit.specs.Starts.{found, trace_of, word_of, first_hart, first_memory, is_given, start_of, final_of, ArePlaces, AreStartWords}
+use Rattle.tpl_admit.specs.Starts.{found, is_in, trace_of, word_of, first_hart, first_memory, is_given, start_of, final_of, ArePlaces, AreStartWords}
 use Rattle.tpl_admit.specs.Races.{footprint_of}
 use Rattle.tpl_admit.specs.Solo.{solo, solo_run}
 use Rattle.tpl_admit.specs.Admission.{instr_of, AreMet}
@@ -27,7 +28,7 @@ use Rattle.tpl_admit.specs.Sizes.{trace_size, certificate_size}
 use Rattle.rv_isa.proofs.Codec.{encoded_below}
 use Rattle.gen_engine.specs.Plan.{leaf_word, leaf_write, leaf_value, records_from, regs_from, placed, known_from, assembled, planned}
 use Rattle.gen_engine.specs.Given.{addresses, GivesCodeAlone}
-use Rattle.gen_engine.specs.Code.{AreKnown, IsReady}
+use Rattle.gen_engine.specs.Code.{code_at, AreKnown, IsReady}
 use Rattle.gen_engine.proofs.Leaves.{encoded}
 use Rattle.gen_engine.proofs.Machines.{looks_leave, regs_known, written_size, written_zero}
 use Rattle.gen_engine.proofs.Courses.{AreThere, Before, Course, course}
@@ -74,7 +75,7 @@ words_there ram words base [] aligned low high has = tt
 words_there ram words base (l ∷ ls) aligned low high has =
     let back : base / 4 * 4 ≡ base = omega (arith, aligned) in (
       has base (omega arith) ∙ ap (found (placed base (map leaf_word (l ∷ ls)))) back ∙ rw (eq-eqb base base refl) refl,
-      and_from _ _ (le-leb ram.low base low) (lt-ltb base ram.high (omega arith)),
+      subst (λ (a : ℕ). is_in ram a ≡ true) (sym back) (and_from _ _ (le-leb ram.low base low) (lt-ltb base ram.high (omega arith))),
       words_there ram words (base + 4) ls (omega arith) (omega arith) (omega arith) (λ a above. has a (omega (arith, above)) ∙ rw (ne_eqb base (a / 4 * 4) (λ e. omega (arith, e, above, aligned))) refl),
     )
 
@@ -365,15 +366,14 @@ is_planned t words pc regs records places leaves first at ls f none ws rs gs e p
     same_places = ps ∙ ap (λ (q : List (Option ℕ)). known_from 1 (drop 1 q)) (gs ∙ ap (λ (q : List (Option ℕ)). regs_from q leaves) none ∙ ap (regs_from no_registers) ls)
 
 -- the hart stands before the first leaf
-pub first_ready : (t : Template) (h : Hart) (words : List ℕ) (leaves : List Leaf) → IsAllowed t → h.pc ≡ t.start_pc → h.privilege ≡ M → h.regs ≡ no_registers → leaves ≡ t.leaves → words ≡ map leaf_word leaves
-    → IsReady h t.ram t.start_pc words leaves
-first_ready t h words leaves is pc privilege regs ls ws = record {
+pub first_ready : (t : Template) (h : Hart) (see : ℕ → Seen) (words : List ℕ) (leaves : List Leaf) → IsAllowed t → h.pc ≡ t.start_pc → h.privilege ≡ M → h.regs ≡ no_registers → leaves ≡ t.leaves → words ≡ map leaf_word leaves
+    → ((n : ℕ) → see n ≡ code_at t.ram t.start_pc words n) → IsReady h see t.ram leaves
+first_ready t h see words leaves is pc privilege regs ls ws code = record {
   privilege = privilege;
-  pc = pc;
-  words_are = ws;
+  code = λ n. code n ∙ ap (λ (l : List ℕ). code_at t.ram t.start_pc l n) ws ∙ ap (λ (a : ℕ). code_at t.ram a (map leaf_word leaves) n) (sym pc);
   fit = subst AreLeavesFit (sym ls) is.fit;
   known = subst (λ (q : List (Option ℕ)). AreKnown q leaves) (sym regs) (subst (AreKnown no_registers) (sym ls) (fed_known [] no_registers t.leaves is.fed is.fit (λ r none. absurd none) refl refl));
-  low = omega (arith, is.above, is.first);
-  high = omega (arith, is.last, is.within, ap length ls);
+  low = omega (arith, is.above, is.first, pc);
+  high = omega (arith, is.last, is.within, ap length ls, pc);
   small = omega (arith, is.high);
 }

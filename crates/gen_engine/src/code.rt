@@ -1,40 +1,46 @@
 // The instructions of a template as the only known words of memory.
-ghost use Rattle.std.specs.Prelude.{◌≡◌, ◌≤◌, ◌+◌, ◌*◌, ◌^◌, ◌%◌, map, length, IfOk};
+ghost use Rattle.std.specs.Prelude.{◌≡◌, ◌≤◌, ◌+◌, ◌*◌, ◌%◌, ℕ, [], ◌∷◌, map, length, IfOk};
+ghost use Rattle.rv_mem.specs.Part.{part_at};
 ghost use Rattle.tpl_parse.specs.Form.{IsFit, AreLeavesFit};
+ghost use Rattle.gen_engine.specs.Code.{code_at};
 ghost use Rattle.gen_engine.specs.Plan.{leaf_word};
-ghost use Rattle.rv_isa.specs.Encoding.{IsEncoded};
-ghost use Rattle.tpl_admit.specs.Admission.{instr_of};
 
-use rv_hart::{Seen, Words};
+use crate::OutOfMemory;
 use rv_isa::{Instr, Op, encode};
+use rv_mem::{PartMem, Ram};
 use std::alloc::{AllocError, Global};
 use tpl_parse::{Leaf, Region};
 
-/// Memory of which words are known that stand one after another from an address on.
-#[derive(Drop)]
-pub struct Code {
-    pub ram: Region,
-    pub base: u32,
-    pub words: Vec<u32>,
+/// RAM of one region.
+fn ram_of(alloc: Global, ram: Region) -> Result<Ram, AllocError>
+    requires low { ram.low % 4 ≡ 0 }
+    requires high { ram.high % 4 ≡ 0 }
+    ensures { IfOk result (λ r. r ≡ (ram.low, ram.high) ∷ []) }
+{
+    let mut regions = Vec::new(alloc);
+    regions.push((ram.low, ram.high))?;
+    Ok(Ram::new(regions))
 }
 
-impl Words for Code {
-    ghost use Rattle.gen_engine.specs.Code.{code_at};
-
-    ghost at = { λ m a. code_at m.ram m.base m.words.items a };
-
-    fn word(&self, a: u32) -> Seen {
-        if a < self.ram.low || a >= self.ram.high {
-            return Seen::Vacant;
-        }
-        if a < self.base {
-            return Seen::Untouched;
-        }
-        match self.words.get(((a - self.base) / 4) as usize) {
-            Some(word) => Seen::Known(*word),
-            None => Seen::Untouched,
-        }
+/// Memory of which words are known that stand one after another from an address on.
+pub fn memory_of(
+    alloc: Global,
+    ram: Region,
+    base: u32,
+    words: &[u32],
+) -> Result<PartMem, OutOfMemory>
+    requires ram_low { ram.low % 4 ≡ 0 }
+    requires ram_high { ram.high % 4 ≡ 0 }
+    requires aligned { base % 4 ≡ 0 }
+    requires low { ram.low ≤ base }
+    requires high { base + 4 * length words.now ≤ ram.high }
+    ensures { IfOk result (λ m. (n : ℕ) → part_at m n ≡ code_at ram base words.now n) }
+{
+    let mut memory = PartMem::new(alloc, &ram_of(alloc, ram)?)?;
+    for (i, word) in words.iter().enumerate() {
+        memory.put(base + 4 * i as u32, *word)?;
     }
+    Ok(memory)
 }
 
 /// The word of a leaf's instruction.

@@ -7,6 +7,12 @@ use thiserror::Error;
 #[error("out of memory")]
 pub struct OutOfMemory;
 
+impl From<rv_mem::OutOfMemory> for OutOfMemory {
+    fn from(_: rv_mem::OutOfMemory) -> Self {
+        OutOfMemory
+    }
+}
+
 impl From<AllocError> for OutOfMemory {
     fn from(_: AllocError) -> Self {
         OutOfMemory

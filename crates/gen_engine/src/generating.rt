@@ -1,6 +1,8 @@
 // From a template to a certificate.
-ghost use Rattle.std.specs.Prelude.{◌≡◌, ◌≤◌, ◌+◌, ◌*◌, ◌<◌, length, IfOk};
+ghost use Rattle.std.specs.Prelude.{◌≡◌, ◌≤◌, ◌+◌, ◌*◌, ℕ, length, IfOk};
+ghost use Rattle.rv_mem.specs.Part.{part_at};
 ghost use Rattle.tpl_parse.specs.declared.template.Leaf.{Leaf as ALeaf};
+ghost use Rattle.tpl_parse.specs.declared.template.Region.{Region as ARegion};
 ghost use Rattle.tpl_parse.specs.Form.{Parses};
 ghost use Rattle.tpl_admit.specs.Validity.{IsValid};
 ghost use Rattle.tpl_admit.specs.Faithfulness.{IsFaithful};
@@ -13,21 +15,23 @@ ghost use Rattle.gen_engine.specs.Code.{IsAt, IsReady};
 
 use crate::OutOfMemory;
 use crate::assembling::{assemble, known_places};
-use crate::code::{Code, words_of};
+use crate::code::{memory_of, words_of};
 use rv_hart::{Hart, Priv, Record, Stepped, step};
+use rv_mem::PartMem;
 use std::alloc::{AllocError, Global};
 use tpl_admit::Cert;
 use tpl_parse::{Items, Leaf, Template};
 
 /// The step of the leaf whose instruction stands at the pc.
-fn take_leaf(hart: &mut Hart, code: &Code) -> Record
-    requires { (l : ALeaf) × IsAt hart.old code.now.ram code.now.base code.now.words.items l }
-    ensures record { (l : ALeaf) → IsAt hart.old code.now.ram code.now.base code.now.words.items l → result ≡ leaf_record hart.old.pc hart.old.regs l }
-    ensures regs { (l : ALeaf) → IsAt hart.old code.now.ram code.now.base code.now.words.items l → hart.new.regs ≡ written (leaf_write hart.old.regs l) hart.old.regs }
+fn take_leaf(hart: &mut Hart, memory: &mut PartMem) -> Record
+    requires { (l : ALeaf) × IsAt hart.old (part_at memory.old) l }
+    ensures record { (l : ALeaf) → IsAt hart.old (part_at memory.old) l → result ≡ leaf_record hart.old.pc hart.old.regs l }
+    ensures regs { (l : ALeaf) → IsAt hart.old (part_at memory.old) l → hart.new.regs ≡ written (leaf_write hart.old.regs l) hart.old.regs }
+    ensures memory { (n : ℕ) → part_at memory.new n ≡ part_at memory.old n }
     ensures pc { hart.new.pc ≡ hart.old.pc + 4 }
     ensures privilege { hart.new.privilege ≡ hart.old.privilege }
 {
-    match step(hart, code) {
+    match step(hart, memory) {
         Stepped::Did(record) => record,
         Stepped::Missing(_) => unreachable!(),
         Stepped::Outside => unreachable!(),
@@ -38,17 +42,17 @@ fn take_leaf(hart: &mut Hart, code: &Code) -> Record
 fn records_of(
     alloc: Global,
     hart: &mut Hart,
-    code: &Code,
+    memory: &mut PartMem,
     leaves: &[Leaf],
 ) -> Result<Items<Record>, AllocError>
-    requires { IsReady hart.old code.now.ram code.now.base code.now.words.items leaves.now }
+    requires { (ram : ARegion) × IsReady hart.old (part_at memory.old) ram leaves.now }
     ensures records { IfOk result (λ records. records ≡ records_from hart.old.pc hart.old.regs leaves.now) }
     ensures regs { IfOk result (λ _. hart.new.regs ≡ regs_from hart.old.regs leaves.now) }
     ensures pc { IfOk result (λ _. hart.new.pc ≡ hart.old.pc + 4 * length leaves.now) }
 {
     let mut records = Items::new(alloc);
     for _leaf in leaves {
-        records.push(take_leaf(hart, code))?;
+        records.push(take_leaf(hart, memory))?;
     }
     Ok(records)
 }
@@ -67,15 +71,10 @@ pub fn generate(alloc: Global, template: Template) -> Result<Cert, OutOfMemory>
 {
     let base = template.start_pc;
     let words = words_of(alloc, template.leaves.as_slice())?;
-    let code = Code {
-        ram: template.ram,
-        base,
-        words,
-    };
+    let mut memory = memory_of(alloc, template.ram, base, &words)?;
     let mut hart = Hart::new(0, base, Priv::M);
-    let records = records_of(alloc, &mut hart, &code, template.leaves.as_slice())?;
+    let records = records_of(alloc, &mut hart, &mut memory, template.leaves.as_slice())?;
     let places = known_places(alloc, &hart.regs)?;
-    let Code { words, .. } = code;
     let end = hart.pc;
     Ok(assemble(alloc, template, words, records, end, places)?)
 }

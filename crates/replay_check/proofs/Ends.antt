@@ -1,38 +1,34 @@
 -- How harts and memory end.
-use Rattle.std.proofs.Common.{◌≡◌, ℕ, zero, suc, ◌+◌, ◌*◌, ◌/◌, ◌%◌, ◌<◌, ◌≤◌, Bool, true, eqb, List, [], ◌∷◌, length, get_or, map, Option, Some, None, if◌then◌else◌, refl, sym, ap, ◌∙◌, subst, inl, inr, arith}
-use Rattle.std.specs.Prelude.{slice_index_or}
+use Rattle.std.proofs.Common.{◌≡◌, ℕ, zero, suc, ◌*◌, ◌/◌, ◌%◌, ◌<◌, ◌≤◌, Bool, List, [], ◌∷◌, length, get_or, Option, Some, None, if◌then◌else◌, refl, sym, ap, ◌∙◌, subst, inl, inr, arith}
+use Rattle.std.specs.Prelude.{◌↔◌, slice_index_or}
 use Rattle.std.specs.Option.{unwrap_or, is_some}
 use Rattle.std.specs.List.{AllByRecursion}
 use Rattle.std.proofs.Math.Path.{fun_ext}
-use Rattle.std.proofs.lemmas.Bool.{cases_Bool, cases_lt, eq-eqb, eqb-true, ne_eqb}
-use Rattle.std.proofs.lemmas.List.{get_or_past}
-use Rattle.rv_script.specs.declared.access.Access.{Access}
-use Rattle.rv_script.specs.Lists.{HasItem}
-use Rattle.rv_script.specs.Bytes.{is_look}
+use Rattle.std.proofs.lemmas.Bool.{cases_lt}
+use Rattle.rv_mem.specs.declared.words.Seen.{Seen}
+use Rattle.rv_mem.specs.declared.words.Seen.TheVariants.{Known}
 use Rattle.rv_script.specs.Memory.{memory_after}
 use Rattle.rv_hart.specs.declared.csrs.Priv.{Priv}
 use Rattle.rv_hart.specs.declared.hart.Hart.{Hart}
-use Rattle.rv_hart.specs.declared.record.Record.{Record}
 use Rattle.rv_hart.specs.Machine.{Fixed}
 use Rattle.rv_hart.specs.View.{lazy_csrs, at_position}
 use Rattle.rv_hart.specs.Whole.{WholeHart, csr_key}
 use Rattle.tpl_parse.specs.declared.template.Region.{Region}
 use Rattle.tpl_admit.specs.declared.certificate.Cert.{Cert}
 use Rattle.tpl_admit.specs.declared.certificate.HartState.{HartState}
-use Rattle.tpl_admit.specs.Starts.{found, is_in, ArePlaces, AreStartWords, no_state, start_of, final_of, trace_of, word_of, fixed_in, first_hart, first_memory, is_given, zero_elsewhere}
-use Rattle.tpl_admit.specs.Races.{footprint_of, IsRaceFree}
+use Rattle.tpl_admit.specs.Starts.{found, is_in, ArePlaces, no_state, start_of, final_of, trace_of, word_of, fixed_in, first_hart, first_memory, is_given, zero_elsewhere}
+use Rattle.tpl_admit.specs.Races.{footprint_of, footprints_of}
 use Rattle.tpl_admit.specs.Solo.{Solo, solo, solo_run, knows_after}
 use Rattle.tpl_admit.specs.Validity.{in_turn}
 use Rattle.tpl_admit.specs.WellFormed.{IsState, IsWellFormed}
-use Rattle.tpl_admit.specs.Failures.{AreRight, GoesWrong, HartIsRight, HartGoesWrong, EndsAsTold}
+use Rattle.tpl_admit.specs.Failures.{AreRight, GoesWrong, HartIsRight, HartGoesWrong, EndsAsTold, MemoryEndsAsTold}
 use Rattle.replay_check.specs.Knowledge.{lazy_place, known_at, known_of, knows_of, fixed_now, whole_of}
-use Rattle.replay_check.specs.Memory.{IsStart}
+use Rattle.replay_check.specs.Memory.{IsStart, ShowsOf}
 use Rattle.replay_check.specs.Replay.{TakesAll, StraysAt, EndsAs, IsFixedTold}
 use Rattle.replay_check.proofs.Keys.{found_no_key}
 use Rattle.replay_check.proofs.Lazy.{lazy_at, lazy_key, lazy_of}
 use Rattle.replay_check.proofs.Knowledge.{wholes, known_zero, known_small, known_large}
-use Rattle.replay_check.proofs.Looks.{looks_leave}
-use Rattle.replay_check.proofs.Traces.{right_looks}
+use Rattle.replay_check.proofs.Shown.{each_told}
 
 -- ---- the lists of a well-formed certificate
 
@@ -59,19 +55,19 @@ start_knows : (c : Cert) (k : ℕ) (h : Hart) → ((key : ℕ) → known_of h ke
 start_knows c k h known = fun_ext (λ key. ap (λ (o : Option ℕ). is_some o) (known key))
 
 pub replayed_right : (c : Cert) (k : ℕ) (h new : Hart) → ((key : ℕ) → known_of h key ≡ found (start_of c k).places key) → fixed_now c.template.ram h ≡ fixed_in c.template.ram k (start_of c k)
-    → TakesAll c.template.ram c.words h new (trace_of c k) → HartIsRight c k
+    → TakesAll c.template.ram (word_of c) (first_memory c) h new (trace_of c k) → HartIsRight c k
 replayed_right c k h new known fixed t =
     subst (λ (g : WholeHart). AreRight (word_of c) (is_given (start_of c k)) g (first_memory c) (trace_of c k)) (start_whole c k h known fixed)
     (subst (λ (s : ℕ → Bool). AreRight (word_of c) s (whole_of c.template.ram h) (first_memory c) (trace_of c k)) (start_knows c k h known) t.right)
 
 pub replayed_wrong : (c : Cert) (k : ℕ) (h : Hart) (kind step : ℕ) → ((key : ℕ) → known_of h key ≡ found (start_of c k).places key) → fixed_now c.template.ram h ≡ fixed_in c.template.ram k (start_of c k)
-    → StraysAt c.template.ram c.words h (trace_of c k) kind step → HartGoesWrong c k kind step
+    → StraysAt c.template.ram (word_of c) (first_memory c) h (trace_of c k) kind step → HartGoesWrong c k kind step
 replayed_wrong c k h kind step known fixed wrong =
     subst (λ (g : WholeHart). GoesWrong (word_of c) (is_given (start_of c k)) g (first_memory c) (trace_of c k) 0 kind step) (start_whole c k h known fixed)
     (subst (λ (s : ℕ → Bool). GoesWrong (word_of c) s (whole_of c.template.ram h) (first_memory c) (trace_of c k) 0 kind step) (start_knows c k h known) wrong)
 
 pub replayed_end : (c : Cert) (k : ℕ) (h new : Hart) → ((key : ℕ) → known_of h key ≡ found (start_of c k).places key) → fixed_now c.template.ram h ≡ fixed_in c.template.ram k (start_of c k)
-    → TakesAll c.template.ram c.words h new (trace_of c k) → EndsAs c k new
+    → TakesAll c.template.ram (word_of c) (first_memory c) h new (trace_of c k) → EndsAs c k new
 replayed_end c k h new known fixed t =
     let run : WholeHart → Solo = λ g. solo (length (trace_of c k)) g (first_memory c) in
     let whole = start_whole c k h known fixed in
@@ -93,7 +89,7 @@ ends_shown c k h ends key =
     ∙ sym (shown (known_of h key))
 
 abbrev all_fixed : Region → ℕ → Priv → ℕ → ℕ → ℕ → ℕ → Fixed
-all_fixed ram pc privilege mstatus medeleg satp number = record { pc = pc; privilege = privilege; mstatus = mstatus; medeleg = medeleg; satp = satp; number = number; ram = is_in ram }
+all_fixed ram pc privilege mstatus medeleg satp number = record { pc = pc; privilege = privilege; mstatus = mstatus; medeleg = medeleg; satp = satp; number = number; ram = λ n. is_in ram (n * 4) }
 
 fixed_told : (ram : Region) (k : ℕ) (s : HartState) (h : Hart) → IsFixedTold s k h → fixed_in ram k s ≡ fixed_now ram h
 fixed_told ram k s h t =
@@ -158,50 +154,17 @@ csr_told regs lazy told all i within =
 
 -- ---- memory
 
-found_above : (ram : Region) (from : ℕ) (ws : List (ℕ × ℕ)) (a v : ℕ) → AreStartWords ram from ws → found ws a ≡ Some v → from ≤ a
-found_above ram from [] a v is e = absurd (cc e)
-found_above ram from (w ∷ ws) a v is e = elim (cases_Bool (eqb w.0 a)) [
-  | inl here ↦ (let same = eqb-true w.0 a here in omega (arith, same, is.0))
-  | inr other ↦ (let later = found_above ram (w.0 + 4) ws a v is.4 (rw other at e) in omega (arith, later, is.0))
-]
+-- what one hart alone makes of memory is what all make of it
+pub alone_memory : (c : Cert) (at : ℕ → Seen) → IsWellFormed c → ShowsOf c (memory_after (footprint_of (trace_of c 0)) (first_memory c)) at
+    → ShowsOf c (in_turn (length c.start) (footprints_of (trace_of c)) (first_memory c)) at
+alone_memory c at w s = subst (λ (n : ℕ). ShowsOf c (in_turn n (footprints_of (trace_of c)) (first_memory c)) at) (sym w.harts) s
 
-each_given : (ram : Region) (from : ℕ) (given : ℕ → Option ℕ) (ws : List (ℕ × ℕ)) → AreStartWords ram from ws → ((a v : ℕ) → found ws a ≡ Some v → given a ≡ Some v)
-    → map (λ (w : ℕ × ℕ). unwrap_or (given (w.0 / 4 * 4)) 0) ws ≡ map (λ (w : ℕ × ℕ). w.1) ws
-each_given ram from given [] is h = refl
-each_given ram from given (w ∷ ws) is h =
-    let aligned : w.0 % 4 ≡ 0 = is.1 in
-    let back : w.0 / 4 * 4 ≡ w.0 = omega (arith, aligned) in
-    let here : given w.0 ≡ Some w.1 = h w.0 w.1 (rw (eq-eqb w.0 w.0 refl) refl) in
-    let head : unwrap_or (given (w.0 / 4 * 4)) 0 ≡ w.1 = ap (λ (o : Option ℕ). unwrap_or o 0) (ap given back ∙ here) in
-    let tail : map (λ (v : ℕ × ℕ). unwrap_or (given (v.0 / 4 * 4)) 0) ws ≡ map (λ (v : ℕ × ℕ). v.1) ws =
-    each_given ram (w.0 + 4) given ws is.4 (λ a v e. h a v (later a v e)) in
-    rw (head, tail) refl
+-- the given words end as is printed just where they are seen so
+pub memory_told : (c : Cert) (at : ℕ → Seen) → IsWellFormed c → ShowsOf c (in_turn (length c.start) (footprints_of (trace_of c)) (first_memory c)) at
+    → ((k : ℕ) → k < length c.words → at ((get_or c.words k (0, 0)).0 / 4) ≡ Known (get_or c.last k 0)) ↔ MemoryEndsAsTold c
+memory_told c at w s =
+    each_told c.template.ram (word_of c) (in_turn (length c.start) (footprints_of (trace_of c)) (first_memory c)) at 0 c.words c.last s w.words
+    (λ a v aligned e. ap (found c.words) (back a aligned) ∙ e) w.last_count
   where
-    later : (a v : ℕ) → found ws a ≡ Some v → found (w ∷ ws) a ≡ Some v
-    later a v e = let above = found_above ram (w.0 + 4) ws a v is.4 e in rw (ne_eqb w.0 a (λ same. absurd (omega (arith, same, above)))) e
-
-turn_leaves : (n : ℕ) (did : ℕ → List Access) (words : ℕ → ℕ) → ((k : ℕ) → k < n → memory_after (did k) words ≡ words) → in_turn n did words ≡ words
-turn_leaves zero did words same = refl
-turn_leaves (suc n) did words same = ap (memory_after (did n)) (turn_leaves n did words (λ k within. same k (omega arith))) ∙ same n (omega arith)
-
-pub memory_same : (c : Cert) → IsWellFormed c → ((k : ℕ) → k < length c.start → HartIsRight c k)
-    → map (λ (w : ℕ × ℕ). in_turn (length c.start) (λ k. footprint_of (trace_of c k)) (first_memory c) (w.0 / 4)) c.words ≡ map (λ (w : ℕ × ℕ). w.1) c.words
-memory_same c w right =
-    let leaves : in_turn (length c.start) (λ k. footprint_of (trace_of c k)) (first_memory c) ≡ first_memory c =
-    turn_leaves (length c.start) (λ k. footprint_of (trace_of c k)) (first_memory c)
-    (λ k within. looks_leave (footprint_of (trace_of c k)) (first_memory c) (right_looks (word_of c) (is_given (start_of c k)) (first_hart c k) (first_memory c) (trace_of c k) (right k within))) in
-    ap (λ (m : ℕ → ℕ). map (λ (w : ℕ × ℕ). m (w.0 / 4)) c.words) leaves ∙ each_given c.template.ram 0 (found c.words) c.words w.words (λ a v e. e)
-
-pub race_free : (c : Cert) → IsWellFormed c → ((k : ℕ) → k < length c.start → HartIsRight c k) → IsRaceFree (trace_of c)
-race_free c w right = record {
-  harts = λ j k ne x y hx hy meet. looks j x hx;
-  code = λ j k x y hx hy is meet. looks j x hx;
-}
-  where
-    looks : (j : ℕ) (x : Access) → HasItem (footprint_of (trace_of c j)) x → is_look x.role ≡ true
-    looks j x at = elim (cases_lt j (length c.start)) [
-      | inl within ↦ right_looks (word_of c) (is_given (start_of c j)) (first_hart c j) (first_memory c) (trace_of c j) (right j within) x at
-      | inr past ↦
-          let none : trace_of c j ≡ [] = get_or_past c.traces j [] (omega (arith, past, w.traces_count)) in
-          absurd (subst (λ (rs : List Record). HasItem (footprint_of rs) x) none at)
-    ]
+    back : (a : ℕ) → a % 4 ≡ 0 → a / 4 * 4 ≡ a
+    back a aligned = omega (arith, aligned)

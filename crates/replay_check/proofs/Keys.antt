@@ -1,5 +1,5 @@
 -- Values in pairs whose keys ascend.
-use Rattle.std.proofs.Common.{◌≡◌, ◌≢◌, ℕ, zero, suc, ◌+◌, ◌%◌, ◌<◌, ◌≤◌, true, eqb, List, [], ◌∷◌, length, get_or, Option, Some, None, if◌then◌else◌, refl, sym, ap, ◌∙◌, subst, inl, inr, arith}
+use Rattle.std.proofs.Common.{◌≡◌, ◌≢◌, ℕ, zero, suc, ◌+◌, ◌<◌, ◌≤◌, true, eqb, List, [], ◌∷◌, length, get_or, Option, Some, None, if◌then◌else◌, refl, sym, ap, ◌∙◌, subst, inl, inr, arith}
 use Rattle.std.specs.Prelude.{nat_eq}
 use Rattle.std.specs.declared.cmp.Ordering.TheVariants.{Less, Equal, Greater}
 use Rattle.std.specs.List.Sorted.{IsNonDecreasingBy, IsPartitionPoint}
@@ -12,14 +12,6 @@ use Rattle.replay_check.specs.Memory.{is_ascending}
 pub places_ascend : (from : ℕ) (es : List (ℕ × ℕ)) → ArePlaces from es → is_ascending from es ≡ true
 places_ascend from [] is = refl
 places_ascend from (e ∷ es) is = and_from _ _ (le-leb from e.0 is.0) (places_ascend (e.0 + 1) es is.3)
-
-words_ascend_from : (ram : Region) (low from : ℕ) (ws : List (ℕ × ℕ)) → low ≤ from → AreStartWords ram from ws → is_ascending low ws ≡ true
-words_ascend_from ram low from [] l is = refl
-words_ascend_from ram low from (w ∷ ws) l is =
-    and_from _ _ (le-leb low w.0 (omega (arith, l, is.0))) (words_ascend_from ram (w.0 + 1) (w.0 + 4) ws (omega arith) is.4)
-
-pub words_ascend : (ram : Region) (ws : List (ℕ × ℕ)) → AreStartWords ram 0 ws → is_ascending 0 ws ≡ true
-words_ascend ram ws is = words_ascend_from ram 0 0 ws (omega arith) is
 
 -- the keys of ascending pairs are not below the first
 not_below : (from : ℕ) (es : List (ℕ × ℕ)) (i : ℕ) (d : ℕ × ℕ) → is_ascending from es ≡ true → i < length es → from ≤ (get_or es i d).0
@@ -65,12 +57,6 @@ found_in ram from (w ∷ ws) a v is e = elim (cases_Bool (eqb w.0 a)) [
   | inl here ↦ subst (λ (n : ℕ). is_in ram n ≡ true) (eqb-true w.0 a here) is.2
   | inr other ↦ found_in ram (w.0 + 4) ws a v is.4 (rw other at e)
 ]
-
--- the words that are given, at their addresses
-pub found_each : (ram : Region) (from : ℕ) (ws : List (ℕ × ℕ)) (w : ℕ × ℕ) (rest : List (ℕ × ℕ)) → ws ≡ w ∷ rest → AreStartWords ram from ws → (found ws w.0 ≡ Some w.1) × (w.0 % 4 ≡ 0)
-found_each ram from ws w rest split is =
-    let split_is : AreStartWords ram from (w ∷ rest) = subst (AreStartWords ram from) split is in
-    (rw split (rw (eq-eqb w.0 w.0 refl) refl), split_is.1)
 
 -- ---- what a binary search by key says
 

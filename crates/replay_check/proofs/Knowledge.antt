@@ -1,5 +1,5 @@
 -- What is known of a hart, by keys.
-use Rattle.std.proofs.Common.{◌≡◌, ◌≢◌, ℕ, zero, suc, ◌+◌, ◌-◌, ◌<◌, ◌≤◌, Bool, true, false, ◌||◌, List, length, get_or, Option, Some, None, if◌then◌else◌, refl, sym, ap, ◌∙◌, subst, inl, inr, arith}
+use Rattle.std.proofs.Common.{◌≡◌, ◌≢◌, ℕ, zero, suc, ◌+◌, ◌-◌, ◌*◌, ◌<◌, ◌≤◌, Bool, true, false, ◌||◌, List, length, get_or, Option, Some, None, if◌then◌else◌, refl, sym, ap, ◌∙◌, subst, inl, inr, arith}
 use Rattle.std.specs.Prelude.{nat_eq, slice_index_or, slice_set, replicate, position}
 use Rattle.std.specs.Option.{unwrap_or, is_some}
 use Rattle.std.proofs.Math.Path.{fun_ext}
@@ -140,7 +140,7 @@ known_new key = elim (cases_lt key 32) [
 -- ---- whole harts
 
 abbrev fixed_from : Region → ℕ → Priv → Csrs → Fixed
-fixed_from ram pc privilege csrs = record { pc = pc; privilege = privilege; mstatus = csrs.mstatus; medeleg = csrs.medeleg; satp = csrs.satp; number = csrs.hart; ram = is_in ram }
+fixed_from ram pc privilege csrs = record { pc = pc; privilege = privilege; mstatus = csrs.mstatus; medeleg = csrs.medeleg; satp = csrs.satp; number = csrs.hart; ram = λ n. is_in ram (n * 4) }
 
 abbrev pub whole : Fixed → (ℕ → ℕ) → WholeHart
 whole f a = record { fixed = f; file = a }

@@ -1,8 +1,10 @@
 pub mod Keys
 pub mod Lazy
 pub mod Knowledge
-pub mod Looks
+pub mod Questions
+pub mod Shown
 pub mod Steps
 pub mod Traces
 pub mod Ends
 pub mod Verdicts
+pub mod Behind

@@ -1,11 +1,12 @@
 -- A step on what is known is that of the whole hart with zero elsewhere.
-use Rattle.std.proofs.Common.{◌≡◌, ◌≢◌, ℕ, ◌*◌, ◌/◌, ◌%◌, ◌<◌, ◌≤◌, Bool, true, false, leb, ltb, List, [], ◌∷◌, map, Option, Some, None, refl, sym, ap, ◌∙◌, subst, inl, inr, arith}
+use Rattle.std.proofs.Common.{◌≡◌, ◌≢◌, ℕ, ◌/◌, Bool, true, false, List, [], ◌∷◌, map, Option, Some, None, refl, sym, ap, ◌∙◌, subst, inl, inr, arith}
 use Rattle.std.specs.Prelude.{slice_index_or}
 use Rattle.std.specs.Option.{unwrap_or, is_some}
 use Rattle.std.proofs.Math.Path.{fun_ext}
-use Rattle.std.proofs.lemmas.Bool.{cases_Bool, cases_eq, cases_lt, eq-eqb, ne_eqb, and_parts, and_from, leb-true, ltb-true, le-leb, lt-ltb}
+use Rattle.std.proofs.lemmas.Bool.{cases_eq, cases_lt, eq-eqb, ne_eqb}
 use Rattle.std.proofs.lemmas.List.{get_or_past}
 use Rattle.std.proofs.lemmas.Option.{get_or_from_slice_get}
+use Rattle.rv_mem.specs.declared.words.Seen.{Seen}
 use Rattle.rv_script.specs.declared.access.Access.{Access}
 use Rattle.rv_script.specs.declared.place.Place.{Place}
 use Rattle.rv_script.specs.declared.place.Place.TheVariants.{Reg, Csr, Word}
@@ -22,63 +23,27 @@ use Rattle.rv_hart.specs.declared.record.Stepped.{Stepped}
 use Rattle.rv_hart.specs.declared.record.Stepped.TheVariants.{Did, Missing, Outside}
 use Rattle.rv_hart.specs.Machine.{Fixed, script}
 use Rattle.rv_hart.specs.Registers.{written}
-use Rattle.rv_hart.specs.View.{known, known_word, is_there, fixed_of}
+use Rattle.rv_hart.specs.View.{known, fixed_of}
 use Rattle.rv_hart.specs.Whole.{WholeHart, csr_key, value_at, sight_of, planned, Step, step_of}
 use Rattle.rv_hart.specs.Clauses.{Has, stepped_by, first_needed, IsMachineStep}
 use Rattle.tpl_parse.specs.declared.template.Region.{Region}
-use Rattle.tpl_admit.specs.Starts.{found, is_in, zero_elsewhere}
+use Rattle.tpl_admit.specs.Starts.{zero_elsewhere}
 use Rattle.tpl_admit.specs.Solo.{is_set}
 use Rattle.tpl_admit.specs.WellFormed.{IsWritten}
 use Rattle.tpl_admit.specs.Failures.{AreSet}
 use Rattle.replay_check.specs.Knowledge.{known_at, known_of, knows_of, fixed_now, whole_of, IsShaped}
-use Rattle.replay_check.specs.Memory.{seen_word, seen_at, given_word, whole_memory, IsStart}
+use Rattle.replay_check.specs.Memory.{Shows}
 use Rattle.replay_check.specs.Replay.{IsSameRecord, Takes, Strays}
-use Rattle.replay_check.proofs.Keys.{found_in}
 use Rattle.replay_check.proofs.Knowledge.{known_small, known_csr, known_write, whole_next}
-use Rattle.replay_check.proofs.Looks.{IsNamed, names_alone, script_names, step_leaves}
-
--- ---- memory
-
-there_word : (o : Option ℕ) → is_there (seen_word o) ≡ true
-there_word None = refl
-there_word (Some w) = refl
-
-known_seen : (o : Option ℕ) → known_word (seen_word o) ≡ o
-known_seen None = refl
-known_seen (Some w) = refl
-
-there_in : (ram : Region) (words : List (ℕ × ℕ)) (a : ℕ) → is_there (seen_at ram words a) ≡ is_in ram a
-unfolding seen_at
-there_in ram words a = elim (cases_Bool (is_in ram a)) [
-  | inl inside ↦ rw inside (there_word (found words (a / 4 * 4)))
-  | inr outside ↦ rw outside refl
-]
-
--- an address is in RAM where its aligned word is
-in_aligned : (ram : Region) (a : ℕ) → ram.high % 4 ≡ 0 → is_in ram (a / 4 * 4) ≡ true → is_in ram a ≡ true
-in_aligned ram a aligned inside =
-    let parts = and_parts (leb ram.low (a / 4 * 4)) (ltb (a / 4 * 4) ram.high) inside in
-    let low : ram.low ≤ a / 4 * 4 = leb-true ram.low (a / 4 * 4) parts.0 in
-    let high : a / 4 * 4 < ram.high = ltb-true (a / 4 * 4) ram.high parts.1 in
-    and_from _ _ (le-leb ram.low a (omega (arith, low))) (lt-ltb a ram.high (omega (arith, high, aligned)))
-
-known_given : (ram : Region) (words : List (ℕ × ℕ)) (a : ℕ) → IsStart ram words → known_word (seen_at ram words a) ≡ given_word words (a / 4)
-unfolding seen_at
-known_given ram words a start = elim (cases_Bool (is_in ram a)) [
-  | inl inside ↦ rw inside (known_seen (found words (a / 4 * 4)))
-  | inr outside ↦ rw outside (go (found words (a / 4 * 4)) refl outside)
-]
-  where
-    go : (o : Option ℕ) → found words (a / 4 * 4) ≡ o → is_in ram a ≡ false → None ≡ found words (a / 4 * 4)
-    go None e outside = sym e
-    go (Some v) e outside = let inside = in_aligned ram a start.high (found_in ram 0 words (a / 4 * 4) v start.words_are e) in let no : true ≡ false = sym inside ∙ outside in absurd (cc no)
+use Rattle.replay_check.proofs.Questions.{IsNamed, needs_named}
+use Rattle.replay_check.proofs.Shown.{shown_there, shown_known, shown_unknown}
 
 -- ---- what is known of the whole hart
 
-fixed_same : (ram : Region) (words : List (ℕ × ℕ)) (h : Hart) → fixed_of h (seen_at ram words) ≡ fixed_now ram h
-fixed_same ram words h =
+fixed_same : (ram : Region) (given : ℕ → Option ℕ) (m : ℕ → ℕ) (at : ℕ → Seen) (h : Hart) → Shows ram given m at → fixed_of h at ≡ fixed_now ram h
+fixed_same ram given m at h s =
     ap (λ (there : ℕ → Bool). let f : Fixed = record { pc = h.pc; privilege = h.privilege; mstatus = h.csrs.mstatus; medeleg = h.csrs.medeleg; satp = h.csrs.satp; number = h.csrs.hart; ram = there } in f)
-    (fun_ext (there_in ram words))
+    (fun_ext (shown_there ram given m at s))
 
 zero_known : (h : Hart) → slice_index_or h.regs 0 None ≡ Some 0
 zero_known h = get_or_from_slice_get h.regs 0 (Some 0) None h.zero
@@ -90,9 +55,9 @@ no_value : (o p : Option ℕ) → o ≡ p → p ≡ None → is_some o ≡ false
 no_value o p same none = let e : o ≡ None = same ∙ none in rw e refl
 
 -- a known place has its value in the whole hart, and was given or written
-settled : (ram : Region) (words : List (ℕ × ℕ)) (h : Hart) → IsStart ram words → IsShaped h → (place : Place) (v : ℕ) → known h (seen_at ram words) place ≡ Some v
-    → (value_at (zero_elsewhere (known_of h)) (whole_memory words) place ≡ v) × (is_set (knows_of h) (given_word words) place ≡ true)
-settled ram words h start shape (Reg n) v e = elim (cases_eq n 0) [
+settled : (ram : Region) (given : ℕ → Option ℕ) (m : ℕ → ℕ) (at : ℕ → Seen) (h : Hart) → Shows ram given m at → IsShaped h → (place : Place) (v : ℕ) → known h at place ≡ Some v
+    → (value_at (zero_elsewhere (known_of h)) m place ≡ v) × (is_set (knows_of h) given place ≡ true)
+settled ram given m at h start shape (Reg n) v e = elim (cases_eq n 0) [
   | inl none ↦
       let zero_is : slice_index_or h.regs 0 None ≡ Some v = subst (λ (k : ℕ). slice_index_or h.regs k None ≡ Some v) none e in
       let same : Some 0 ≡ Some v = sym (zero_known h) ∙ zero_is in
@@ -102,13 +67,13 @@ settled ram words h start shape (Reg n) v e = elim (cases_eq n 0) [
     | inr large ↦ (let past : slice_index_or h.regs n None ≡ None = get_or_past h.regs n None (omega (arith, large, shape.regs)) in let no : None ≡ Some v = sym past ∙ e in absurd (cc no))
   ])
 ]
-settled ram words h start shape (Csr addr) v e = some_value (known_at h.regs h.csrs.lazy (csr_key addr)) (known h (seen_at ram words) (Csr addr)) v (known_csr h.regs h.csrs.lazy addr) e
-settled ram words h start shape (Word addr) v e = some_value (given_word words (addr / 4)) (known h (seen_at ram words) (Word addr)) v (sym (known_given ram words addr start)) e
+settled ram given m at h start shape (Csr addr) v e = some_value (known_at h.regs h.csrs.lazy (csr_key addr)) (known h at (Csr addr)) v (known_csr h.regs h.csrs.lazy addr) e
+settled ram given m at h start shape (Word addr) v e = shown_known ram given m at start (addr / 4) v e
 
 -- a place that isn't known was neither given nor written
-unsettled : (ram : Region) (words : List (ℕ × ℕ)) (h : Hart) → IsStart ram words → (place : Place) → IsNamed place → known h (seen_at ram words) place ≡ None
-    → is_set (knows_of h) (given_word words) place ≡ false
-unsettled ram words h start (Reg n) named e = elim (cases_eq n 0) [
+unsettled : (ram : Region) (given : ℕ → Option ℕ) (m : ℕ → ℕ) (at : ℕ → Seen) (h : Hart) → Shows ram given m at → (place : Place) → IsNamed place → known h at place ≡ None
+    → is_set (knows_of h) given place ≡ false
+unsettled ram given m at h start (Reg n) named e = elim (cases_eq n 0) [
   | inl none ↦
       (let zero_is : slice_index_or h.regs 0 None ≡ None = subst (λ (k : ℕ). slice_index_or h.regs k None ≡ None) none e in
       let no : Some 0 ≡ None = sym (zero_known h) ∙ zero_is in
@@ -118,13 +83,13 @@ unsettled ram words h start (Reg n) named e = elim (cases_eq n 0) [
     | inr large ↦ absurd (omega (arith, named, large))
   ])
 ]
-unsettled ram words h start (Csr addr) named e = no_value (known_at h.regs h.csrs.lazy (csr_key addr)) (known h (seen_at ram words) (Csr addr)) (known_csr h.regs h.csrs.lazy addr) e
-unsettled ram words h start (Word addr) named e = no_value (given_word words (addr / 4)) (known h (seen_at ram words) (Word addr)) (sym (known_given ram words addr start)) e
+unsettled ram given m at h start (Csr addr) named e = no_value (known_at h.regs h.csrs.lazy (csr_key addr)) (known h at (Csr addr)) (known_csr h.regs h.csrs.lazy addr) e
+unsettled ram given m at h start (Word addr) named e = shown_unknown ram given m at start (addr / 4) e
 
-has : (ram : Region) (words : List (ℕ × ℕ)) (h : Hart) → IsStart ram words → IsShaped h → Has (fixed_of h (seen_at ram words)) (known h (seen_at ram words)) (whole_of ram h) (whole_memory words)
-has ram words h start shape = record {
-  fixed = sym (fixed_same ram words h);
-  values = λ place v e. (settled ram words h start shape place v e).0;
+has : (ram : Region) (given : ℕ → Option ℕ) (m : ℕ → ℕ) (at : ℕ → Seen) (h : Hart) → Shows ram given m at → IsShaped h → Has (fixed_of h at) (known h at) (whole_of ram h) m
+has ram given m at h start shape = record {
+  fixed = sym (fixed_same ram given m at h start);
+  values = λ place v e. (settled ram given m at h start shape place v e).0;
 }
 
 -- ---- the answer of a step
@@ -169,18 +134,18 @@ stepped_outside None None e = (refl, refl)
 stepped_outside None (Some s) e = absurd (cc e)
 
 -- all that the step needs was given or written
-are_set : (ram : Region) (words : List (ℕ × ℕ)) (h : Hart) → IsStart ram words → IsShaped h → first_needed (known h (seen_at ram words)) (whole_of ram h) (whole_memory words) ≡ None
-    → AreSet (given_word words) (knows_of h) (whole_of ram h) (whole_memory words)
-are_set ram words h start shape none place at =
-    let k = all_known (known h (seen_at ram words)) (log_of (whole_of ram h) (whole_memory words)) none place at in
-    (settled ram words h start shape place k.0 k.1).1
+are_set : (ram : Region) (given : ℕ → Option ℕ) (m : ℕ → ℕ) (at : ℕ → Seen) (h : Hart) → Shows ram given m at → IsShaped h → first_needed (known h at) (whole_of ram h) m ≡ None
+    → AreSet given (knows_of h) (whole_of ram h) m
+are_set ram given m at h start shape none place item =
+    let k = all_known (known h at) (log_of (whole_of ram h) m) none place item in
+    (settled ram given m at h start shape place k.0 k.1).1
 
-abbrev Machine : Region → List (ℕ × ℕ) → Hart → Stepped → Type 0
-Machine ram words h result = IsMachineStep (fixed_of h (seen_at ram words)) (known h (seen_at ram words)) result
+abbrev Machine : (ℕ → Seen) → Hart → Stepped → Type 0
+Machine at h result = IsMachineStep (fixed_of h at) (known h at) result
 
-answer : (ram : Region) (words : List (ℕ × ℕ)) (h : Hart) (result : Stepped) → IsStart ram words → IsShaped h → Machine ram words h result
-    → result ≡ stepped_by (first_needed (known h (seen_at ram words)) (whole_of ram h) (whole_memory words)) (step_of (whole_of ram h) (whole_memory words))
-answer ram words h result start shape machine = machine (whole_of ram h) (whole_memory words) (has ram words h start shape)
+answer : (ram : Region) (given : ℕ → Option ℕ) (m : ℕ → ℕ) (at : ℕ → Seen) (h : Hart) (result : Stepped) → Shows ram given m at → IsShaped h → Machine at h result
+    → result ≡ stepped_by (first_needed (known h at) (whole_of ram h) m) (step_of (whole_of ram h) m)
+answer ram given m at h result start shape machine = machine (whole_of ram h) m (has ram given m at h start shape)
 
 -- what a step records and what it does to its hart are the same
 planned_same : (f : Fixed) (xs : List Access) (o : Option Change) (s : Step) → planned f xs o ≡ Some s → (s.did.rd ≡ s.change.rd) × (s.did.next_pc ≡ s.change.next_pc)
@@ -190,10 +155,10 @@ planned_same f xs (Some c) s e = let same = some_step e in (ap (λ (t : Step). t
     some_step : {t : Step} → Some t ≡ Some s → t ≡ s
     some_step e = cc
 
-pub takes : (ram : Region) (words : List (ℕ × ℕ)) (h new : Hart) (did r : Record) → IsStart ram words → IsShaped h → IsWritten r.rd → Machine ram words h (Did did) → did ≡ r
-    → new.pc ≡ did.next_pc → new.privilege ≡ h.privilege → new.regs ≡ written did.rd h.regs → new.csrs ≡ h.csrs → Takes ram words h new r
-takes ram words h new did r start shape is machine same pc privilege regs csrs =
-    let d = stepped_did _ _ did (answer ram words h (Did did) start shape machine) in
+pub takes : (ram : Region) (given : ℕ → Option ℕ) (m : ℕ → ℕ) (at : ℕ → Seen) (h new : Hart) (did r : Record) → Shows ram given m at → IsShaped h → IsWritten r.rd → Machine at h (Did did) → did ≡ r
+    → new.pc ≡ did.next_pc → new.privilege ≡ h.privilege → new.regs ≡ written did.rd h.regs → new.csrs ≡ h.csrs → Takes ram given m h new r
+takes ram given m at h new did r start shape is machine same pc privilege regs csrs =
+    let d = stepped_did _ _ did (answer ram given m at h (Did did) start shape machine) in
     let s : Step = d.1 in
     let change = planned_same (whole_of ram h).fixed _ _ s d.2 in
     let did_is : s.did ≡ r = d.3 ∙ same in
@@ -205,28 +170,27 @@ takes ram words h new did r start shape is machine same pc privilege regs csrs =
     ap (λ (rs : List (Option ℕ)). known_at rs new.csrs.lazy) regs_are ∙ ap (λ (c : Csrs). known_at (written s.change.rd h.regs) c.lazy) csrs in
     record {
       step = s;
-      right = record { set = are_set ram words h start shape d.0; step = d.2; did = did_is };
+      right = record { set = are_set ram given m at h start shape d.0; step = d.2; did = did_is };
       hart = whole_next ram h new s.change.next_pc s.change.rd (pc ∙ ap (λ (q : Record). q.next_pc) (sym d.3) ∙ change.1) privilege csrs (ap (λ (k : ℕ → Option ℕ). zero_elsewhere k) known_is ∙ write.0);
       knows = ap {B = ℕ → Bool} (λ (k : ℕ → Option ℕ). λ (key : ℕ). is_some (k key)) known_is ∙ write.1;
-      memory = step_leaves (whole_of ram h) (whole_memory words) (whole_memory words) s d.2;
     }
 
-pub strays_other : (ram : Region) (words : List (ℕ × ℕ)) (h : Hart) (did r : Record) → IsStart ram words → IsShaped h → Machine ram words h (Did did) → (did ≢ r) → Strays ram words h r 1
-strays_other ram words h did r start shape machine other =
-    let d = stepped_did _ _ did (answer ram words h (Did did) start shape machine) in
-    inr (inr (refl, are_set ram words h start shape d.0, d.1, d.2, λ same. other (sym d.3 ∙ same)))
+pub strays_other : (ram : Region) (given : ℕ → Option ℕ) (m : ℕ → ℕ) (at : ℕ → Seen) (h : Hart) (did r : Record) → Shows ram given m at → IsShaped h → Machine at h (Did did) → (did ≢ r) → Strays ram given m h r 1
+strays_other ram given m at h did r start shape machine other =
+    let d = stepped_did _ _ did (answer ram given m at h (Did did) start shape machine) in
+    inr (inr (refl, are_set ram given m at h start shape d.0, d.1, d.2, λ same. other (sym d.3 ∙ same)))
 
-pub strays_missing : (ram : Region) (words : List (ℕ × ℕ)) (h : Hart) (place : Place) (r : Record) → IsStart ram words → IsShaped h → Machine ram words h (Missing place) → Strays ram words h r 2
-strays_missing ram words h place r start shape machine =
-    let m = stepped_missing _ _ place (answer ram words h (Missing place) start shape machine) in
-    let one = one_missing (known h (seen_at ram words)) (log_of (whole_of ram h) (whole_memory words)) place m in
-    let named : IsNamed place = names_alone (script (whole_of ram h).fixed) (sight_of (whole_of ram h).file (whole_memory words)) (script_names (whole_of ram h).fixed) place one.0 in
-    inl (refl, place, one.0, unsettled ram words h start place named one.1)
+pub strays_missing : (ram : Region) (given : ℕ → Option ℕ) (m : ℕ → ℕ) (at : ℕ → Seen) (h : Hart) (place : Place) (r : Record) → Shows ram given m at → IsShaped h → Machine at h (Missing place) → Strays ram given m h r 2
+strays_missing ram given m at h place r start shape machine =
+    let missing = stepped_missing _ _ place (answer ram given m at h (Missing place) start shape machine) in
+    let one = one_missing (known h at) (log_of (whole_of ram h) m) place missing in
+    let named : IsNamed place = needs_named (whole_of ram h) m h.aligned place one.0 in
+    inl (refl, place, one.0, unsettled ram given m at h start place named one.1)
 
-pub strays_outside : (ram : Region) (words : List (ℕ × ℕ)) (h : Hart) (r : Record) → IsStart ram words → IsShaped h → Machine ram words h Outside → Strays ram words h r 3
-strays_outside ram words h r start shape machine =
-    let o = stepped_outside _ _ (answer ram words h Outside start shape machine) in
-    inr (inl (refl, are_set ram words h start shape o.0, o.1))
+pub strays_outside : (ram : Region) (given : ℕ → Option ℕ) (m : ℕ → ℕ) (at : ℕ → Seen) (h : Hart) (r : Record) → Shows ram given m at → IsShaped h → Machine at h Outside → Strays ram given m h r 3
+strays_outside ram given m at h r start shape machine =
+    let o = stepped_outside _ _ (answer ram given m at h Outside start shape machine) in
+    inr (inl (refl, are_set ram given m at h start shape o.0, o.1))
 
 -- ---- the numbers of kinds
 

@@ -1,10 +1,10 @@
 -- Steps one after another.
-use Rattle.std.proofs.Common.{◌≡◌, ℕ, suc, ◌+◌, ◌<◌, Bool, true, false, List, [], ◌∷◌, ◌++◌, length, map, drop, get_or, Option, Some, None, ◌⊎◌, refl, sym, ap, ◌∙◌, subst, inl, inr}
+use Rattle.std.proofs.Common.{◌≡◌, ℕ, suc, ◌+◌, ◌<◌, Bool, true, false, List, [], ◌∷◌, length, map, drop, get_or, Option, Some, None, refl, sym, ap, ◌∙◌, subst, inl, inr}
+use Rattle.std.specs.Prelude.{All}
 use Rattle.std.proofs.lemmas.List.{drop_more}
-use Rattle.rv_script.specs.declared.access.Access.{Access}
-use Rattle.rv_script.specs.Lists.{HasItem}
-use Rattle.rv_script.specs.Bytes.{is_look}
+use Rattle.rv_mem.specs.declared.words.Seen.{Seen}
 use Rattle.rv_script.specs.Memory.{memory_after}
+use Rattle.rv_hart.specs.Effects.{IsInWord, seen_after}
 use Rattle.rv_hart.specs.declared.hart.Hart.{Hart}
 use Rattle.rv_hart.specs.declared.record.Record.{Record}
 use Rattle.rv_hart.specs.Whole.{WholeHart, Step, step_of, hart_after}
@@ -13,81 +13,110 @@ use Rattle.tpl_admit.specs.Races.{footprint_of}
 use Rattle.tpl_admit.specs.Solo.{Moment, Solo, solo, solo_on, knows_also, AreInitialised, knows_after}
 use Rattle.tpl_admit.specs.Failures.{IsRight, IsWrong, AreRight, GoesWrong}
 use Rattle.replay_check.specs.Knowledge.{knows_of, whole_of}
-use Rattle.replay_check.specs.Memory.{given_word, whole_memory}
+use Rattle.replay_check.specs.Memory.{Shows, AreInWords}
 use Rattle.replay_check.specs.Replay.{Takes, Strays, TakesAll, StraysAt}
-use Rattle.replay_check.proofs.Looks.{step_looks}
+use Rattle.replay_check.proofs.Questions.{step_in_words}
+use Rattle.replay_check.proofs.Shown.{shown_same, shown_after, after_both}
 
 pub split_at : {A : Type 0} (xs : List A) (i : ℕ) (x : A) → i < length xs → x ≡ get_or xs i x → drop i xs ≡ x ∷ drop (i + 1) xs
 split_at {A} xs i x within is = drop_more xs i x within ∙ ap (λ (y : A). y ∷ drop (i + 1) xs) (sym is)
 
--- ---- the loop over records: all is said by the records that are left
+-- ---- the loop over records: all is said by the records that are left, on the memory of now
 
-pub record IsUpTo (ram : Region) (words : List (ℕ × ℕ)) (first now : Hart) (rs : List Record) (i : ℕ) : Type 0 where
-  pub right : AreRight (given_word words) (knows_of now) (whole_of ram now) (whole_memory words) (drop i rs) → AreRight (given_word words) (knows_of first) (whole_of ram first) (whole_memory words) rs
-  pub wrong : (kind step : ℕ) → GoesWrong (given_word words) (knows_of now) (whole_of ram now) (whole_memory words) (drop i rs) i kind step
-      → GoesWrong (given_word words) (knows_of first) (whole_of ram first) (whole_memory words) rs 0 kind step
-  pub hart : (solo (length rs) (whole_of ram first) (whole_memory words)).hart ≡ (solo (length (drop i rs)) (whole_of ram now) (whole_memory words)).hart
-  pub knows : knows_after (knows_of first) (solo (length rs) (whole_of ram first) (whole_memory words)).moments ≡ knows_after (knows_of now) (solo (length (drop i rs)) (whole_of ram now) (whole_memory words)).moments
+pub record IsUpTo (ram : Region) (given : ℕ → Option ℕ) (origin : ℕ → ℕ) (first now : Hart) (at : ℕ → Seen) (rs : List Record) (i : ℕ) : Type 0 where
+  pub memory : ℕ → ℕ
+  pub shows : Shows ram given memory at
+  pub after : memory_after (footprint_of rs) origin ≡ memory_after (footprint_of (drop i rs)) memory
+  pub words : AreInWords (drop i rs) → AreInWords rs
+  pub right : AreRight given (knows_of now) (whole_of ram now) memory (drop i rs) → AreRight given (knows_of first) (whole_of ram first) origin rs
+  pub wrong : (kind step : ℕ) → GoesWrong given (knows_of now) (whole_of ram now) memory (drop i rs) i kind step → GoesWrong given (knows_of first) (whole_of ram first) origin rs 0 kind step
+  pub hart : (solo (length rs) (whole_of ram first) origin).hart ≡ (solo (length (drop i rs)) (whole_of ram now) memory).hart
+  pub knows : knows_after (knows_of first) (solo (length rs) (whole_of ram first) origin).moments ≡ knows_after (knows_of now) (solo (length (drop i rs)) (whole_of ram now) memory).moments
 
-pub up_to_none : (ram : Region) (words : List (ℕ × ℕ)) (h : Hart) (rs : List Record) → IsUpTo ram words h h rs 0
-up_to_none ram words h rs = record { right = λ a. a; wrong = λ kind step g. g; hart = refl; knows = refl }
+pub up_to_none : (ram : Region) (given : ℕ → Option ℕ) (m : ℕ → ℕ) (h : Hart) (at : ℕ → Seen) (rs : List Record) → Shows ram given m at → IsUpTo ram given m h h at rs 0
+up_to_none ram given m h at rs s = record { memory = m; shows = s; after = refl; words = λ a. a; right = λ a. a; wrong = λ kind step g. g; hart = refl; knows = refl }
 
 -- the course of a hart whose first step is this
-solo_next : (n : ℕ) (h h' : WholeHart) (m : ℕ → ℕ) (s : Step) → step_of h m ≡ Some s → hart_after s.change h ≡ h' → memory_after s.did.accesses m ≡ m
-    → solo (suc n) h m ≡ record { moments = record { hart = h; memory = m; step = s } ∷ (solo n h' m).moments; hart = (solo n h' m).hart }
-solo_next n h h' m s is after same =
+solo_next : (n : ℕ) (h h' : WholeHart) (m m' : ℕ → ℕ) (s : Step) → step_of h m ≡ Some s → hart_after s.change h ≡ h' → memory_after s.did.accesses m ≡ m'
+    → solo (suc n) h m ≡ record { moments = record { hart = h; memory = m; step = s } ∷ (solo n h' m').moments; hart = (solo n h' m').hart }
+solo_next n h h' m m' s is after stored =
     ap (λ (o : Option Step). solo_on o h m (λ h' m'. solo n h' m')) is
-    ∙ ap (λ (w : ℕ → ℕ). let r : Solo = record { moments = record { hart = h; memory = m; step = s } ∷ (solo n (hart_after s.change h) w).moments; hart = (solo n (hart_after s.change h) w).hart } in r) same
-    ∙ ap (λ (g : WholeHart). let r : Solo = record { moments = record { hart = h; memory = m; step = s } ∷ (solo n g m).moments; hart = (solo n g m).hart } in r) after
+    ∙ ap (λ (w : ℕ → ℕ). let r : Solo = record { moments = record { hart = h; memory = m; step = s } ∷ (solo n (hart_after s.change h) w).moments; hart = (solo n (hart_after s.change h) w).hart } in r) stored
+    ∙ ap (λ (g : WholeHart). let r : Solo = record { moments = record { hart = h; memory = m; step = s } ∷ (solo n g m').moments; hart = (solo n g m').hart } in r) after
+
+-- what the step stores is what its record says
+stored : (given : ℕ → Option ℕ) (knows : ℕ → Bool) (h : WholeHart) (m : ℕ → ℕ) (r : Record) (s : Step) → IsRight given knows h m r s → memory_after s.did.accesses m ≡ memory_after r.accesses m
+stored given knows h m r s right = ap (λ (q : Record). memory_after q.accesses m) right.did
 
 -- the rest is right, and so all from this step on
-right_next : (ram : Region) (words : List (ℕ × ℕ)) (h new : Hart) (r : Record) (rest : List Record) → Takes ram words h new r
-    → AreRight (given_word words) (knows_of new) (whole_of ram new) (whole_memory words) rest → AreRight (given_word words) (knows_of h) (whole_of ram h) (whole_memory words) (r ∷ rest)
-right_next ram words h new r rest t right = (
+right_next : (ram : Region) (given : ℕ → Option ℕ) (m : ℕ → ℕ) (h new : Hart) (r : Record) (rest : List Record) → Takes ram given m h new r
+    → AreRight given (knows_of new) (whole_of ram new) (memory_after r.accesses m) rest → AreRight given (knows_of h) (whole_of ram h) m (r ∷ rest)
+right_next ram given m h new r rest t right = (
   t.step,
   t.right,
-  subst (λ (m : ℕ → ℕ). AreRight (given_word words) (knows_also t.step.change.rd (knows_of h)) (hart_after t.step.change (whole_of ram h)) m rest) (sym t.memory)
-      (subst (λ (g : WholeHart). AreRight (given_word words) (knows_also t.step.change.rd (knows_of h)) g (whole_memory words) rest) t.hart
-      (subst (λ (k : ℕ → Bool). AreRight (given_word words) k (whole_of ram new) (whole_memory words) rest) t.knows right)),
+  subst (λ (w : ℕ → ℕ). AreRight given (knows_also t.step.change.rd (knows_of h)) (hart_after t.step.change (whole_of ram h)) w rest) (sym (stored given (knows_of h) (whole_of ram h) m r t.step t.right))
+      (subst (λ (g : WholeHart). AreRight given (knows_also t.step.change.rd (knows_of h)) g (memory_after r.accesses m) rest) t.hart
+      (subst (λ (k : ℕ → Bool). AreRight given k (whole_of ram new) (memory_after r.accesses m) rest) t.knows right)),
 )
 
-wrong_next : (ram : Region) (words : List (ℕ × ℕ)) (h new : Hart) (r : Record) (rest : List Record) (i kind step : ℕ) → Takes ram words h new r
-    → GoesWrong (given_word words) (knows_of new) (whole_of ram new) (whole_memory words) rest (i + 1) kind step
-    → GoesWrong (given_word words) (knows_of h) (whole_of ram h) (whole_memory words) (r ∷ rest) i kind step
-wrong_next ram words h new r rest i kind step t wrong =
+wrong_next : (ram : Region) (given : ℕ → Option ℕ) (m : ℕ → ℕ) (h new : Hart) (r : Record) (rest : List Record) (i kind step : ℕ) → Takes ram given m h new r
+    → GoesWrong given (knows_of new) (whole_of ram new) (memory_after r.accesses m) rest (i + 1) kind step
+    → GoesWrong given (knows_of h) (whole_of ram h) m (r ∷ rest) i kind step
+wrong_next ram given m h new r rest i kind step t wrong =
     inr (
       t.step,
       t.right,
-      subst (λ (m : ℕ → ℕ). GoesWrong (given_word words) (knows_also t.step.change.rd (knows_of h)) (hart_after t.step.change (whole_of ram h)) m rest (i + 1) kind step) (sym t.memory)
-          (subst (λ (g : WholeHart). GoesWrong (given_word words) (knows_also t.step.change.rd (knows_of h)) g (whole_memory words) rest (i + 1) kind step) t.hart
-          (subst (λ (k : ℕ → Bool). GoesWrong (given_word words) k (whole_of ram new) (whole_memory words) rest (i + 1) kind step) t.knows wrong)),
+      subst (λ (w : ℕ → ℕ). GoesWrong given (knows_also t.step.change.rd (knows_of h)) (hart_after t.step.change (whole_of ram h)) w rest (i + 1) kind step) (sym (stored given (knows_of h) (whole_of ram h) m r t.step t.right))
+          (subst (λ (g : WholeHart). GoesWrong given (knows_also t.step.change.rd (knows_of h)) g (memory_after r.accesses m) rest (i + 1) kind step) t.hart
+          (subst (λ (k : ℕ → Bool). GoesWrong given k (whole_of ram new) (memory_after r.accesses m) rest (i + 1) kind step) t.knows wrong)),
     )
 
-pub up_to_next : (ram : Region) (words : List (ℕ × ℕ)) (first now new : Hart) (rs : List Record) (i : ℕ) (r : Record) → drop i rs ≡ r ∷ drop (i + 1) rs → Takes ram words now new r
-    → IsUpTo ram words first now rs i → IsUpTo ram words first new rs (i + 1)
-up_to_next ram words first now new rs i r split t u =
+-- the accesses of a step that was taken keep to words
+in_words : (ram : Region) (given : ℕ → Option ℕ) (m : ℕ → ℕ) (h new : Hart) (r : Record) → Takes ram given m h new r → All IsInWord r.accesses
+in_words ram given m h new r t = subst (λ (q : Record). All IsInWord q.accesses) t.right.did (step_in_words (whole_of ram h) m t.step h.aligned t.right.step)
+
+pub up_to_next : (ram : Region) (given : ℕ → Option ℕ) (origin : ℕ → ℕ) (first now new : Hart) (at seen : ℕ → Seen) (rs : List Record) (i : ℕ) (r : Record) → drop i rs ≡ r ∷ drop (i + 1) rs
+    → (u : IsUpTo ram given origin first now at rs i) → Takes ram given u.memory now new r → ((n : ℕ) → seen n ≡ seen_after r.accesses at n)
+    → IsUpTo ram given origin first new seen rs (i + 1)
+up_to_next ram given origin first now new at seen rs i r split u t same =
     let rest : List Record = drop (i + 1) rs in
-    let m : ℕ → ℕ = whole_memory words in
+    let m : ℕ → ℕ = u.memory in
+    let m' : ℕ → ℕ = memory_after r.accesses m in
     let count : length (drop i rs) ≡ suc (length rest) = ap (λ (l : List Record). length l) split in
-    let next = solo_next (length rest) (whole_of ram now) (whole_of ram new) m t.step t.right.step (sym t.hart) t.memory in
+    let next = solo_next (length rest) (whole_of ram now) (whole_of ram new) m m' t.step t.right.step (sym t.hart) (stored given (knows_of now) (whole_of ram now) m r t.step t.right) in
     let course = ap (λ (n : ℕ). solo n (whole_of ram now) m) count ∙ next in
     record {
-      right = λ a. u.right (rw split (right_next ram words now new r rest t a));
-      wrong = λ kind step g. u.wrong kind step (rw split (wrong_next ram words now new r rest i kind step t g));
+      memory = m';
+      shows = shown_same ram given m' (seen_after r.accesses at) seen same (shown_after ram given m at r.accesses u.shows);
+      after = u.after ∙ ap (λ (l : List Record). memory_after (footprint_of l) m) split ∙ after_both r.accesses (footprint_of rest) m;
+      words = λ a. u.words (rw split (in_words ram given m now new r t, a));
+      right = λ a. u.right (rw split (right_next ram given m now new r rest t a));
+      wrong = λ kind step g. u.wrong kind step (rw split (wrong_next ram given m now new r rest i kind step t g));
       hart = u.hart ∙ ap (λ (s : Solo). s.hart) course;
-      knows = u.knows ∙ ap (λ (s : Solo). knows_after (knows_of now) s.moments) course ∙ ap (λ (k : ℕ → Bool). knows_after k (solo (length rest) (whole_of ram new) m).moments) (sym t.knows);
+      knows = u.knows ∙ ap (λ (s : Solo). knows_after (knows_of now) s.moments) course ∙ ap (λ (k : ℕ → Bool). knows_after k (solo (length rest) (whole_of ram new) m').moments) (sym t.knows);
     }
 
-pub up_to_end : (ram : Region) (words : List (ℕ × ℕ)) (first now : Hart) (rs : List Record) (i : ℕ) → drop i rs ≡ [] → IsUpTo ram words first now rs i → TakesAll ram words first now rs
-up_to_end ram words first now rs i none u = record {
+pub up_to_end : (ram : Region) (given : ℕ → Option ℕ) (origin : ℕ → ℕ) (first now : Hart) (at : ℕ → Seen) (rs : List Record) (i : ℕ) → drop i rs ≡ [] → IsUpTo ram given origin first now at rs i
+    → TakesAll ram given origin first now rs
+up_to_end ram given origin first now at rs i none u = record {
   right = u.right (rw none tt);
-  hart = u.hart ∙ ap (λ (l : List Record). (solo (length l) (whole_of ram now) (whole_memory words)).hart) none;
-  knows = u.knows ∙ ap (λ (l : List Record). knows_after (knows_of now) (solo (length l) (whole_of ram now) (whole_memory words)).moments) none;
+  hart = u.hart ∙ ap (λ (l : List Record). (solo (length l) (whole_of ram now) u.memory).hart) none;
+  knows = u.knows ∙ ap (λ (l : List Record). knows_after (knows_of now) (solo (length l) (whole_of ram now) u.memory).moments) none;
 }
 
-pub up_to_wrong : (ram : Region) (words : List (ℕ × ℕ)) (first now : Hart) (rs : List Record) (i : ℕ) (r : Record) (kind : ℕ) → drop i rs ≡ r ∷ drop (i + 1) rs → Strays ram words now r kind
-    → IsUpTo ram words first now rs i → StraysAt ram words first rs kind i
-up_to_wrong ram words first now rs i r kind split strays u = u.wrong kind i (rw split (inl (strays, refl)))
+pub up_to_memory : (ram : Region) (given : ℕ → Option ℕ) (origin : ℕ → ℕ) (first now : Hart) (at : ℕ → Seen) (rs : List Record) (i : ℕ) → drop i rs ≡ [] → IsUpTo ram given origin first now at rs i
+    → Shows ram given (memory_after (footprint_of rs) origin) at
+up_to_memory ram given origin first now at rs i none u =
+    let last : memory_after (footprint_of rs) origin ≡ u.memory = u.after ∙ ap (λ (l : List Record). memory_after (footprint_of l) u.memory) none in
+    subst (λ (w : ℕ → ℕ). Shows ram given w at) (sym last) u.shows
+
+pub up_to_words : (ram : Region) (given : ℕ → Option ℕ) (origin : ℕ → ℕ) (first now : Hart) (at : ℕ → Seen) (rs : List Record) (i : ℕ) → drop i rs ≡ [] → IsUpTo ram given origin first now at rs i
+    → AreInWords rs
+up_to_words ram given origin first now at rs i none u = u.words (rw none tt)
+
+pub up_to_wrong : (ram : Region) (given : ℕ → Option ℕ) (origin : ℕ → ℕ) (first now : Hart) (at : ℕ → Seen) (rs : List Record) (i : ℕ) (r : Record) (kind : ℕ) → drop i rs ≡ r ∷ drop (i + 1) rs
+    → (u : IsUpTo ram given origin first now at rs i) → Strays ram given u.memory now r kind → StraysAt ram given origin first rs kind i
+up_to_wrong ram given origin first now at rs i r kind split u strays = u.wrong kind i (rw split (inl (strays, refl)))
 
 -- ---- right steps
 
@@ -128,22 +157,6 @@ right_course words knows h m (r ∷ rs) records initialised = go (step_of h m) r
         let head : s.did ≡ r = cc records in
         let tail : map (λ (x : Moment). x.step.did) (solo (length rs) h' m').moments ≡ rs = cc records in
         (s, record { set = initialised.0; step = e; did = head }, ih (knows_also s.change.rd knows) h' m' tail initialised.1)
-
--- right steps only look
-pub right_looks : (words : ℕ → Option ℕ) (knows : ℕ → Bool) (h : WholeHart) (m : ℕ → ℕ) (rs : List Record) → AreRight words knows h m rs → (x : Access) → HasItem (footprint_of rs) x → is_look x.role ≡ true
-right_looks words knows h m [] right x at = absurd at
-right_looks words knows h m (r ∷ rs) right x at =
-    let s : Step = right.0 in
-    let ih = right_looks words (knows_also s.change.rd knows) (hart_after s.change h) (memory_after s.did.accesses m) rs right.2 x in
-    elim (in_either r.accesses (footprint_of rs) at) [
-      | inl here ↦ step_looks h m s right.1.step x (subst (λ (q : Record). HasItem q.accesses x) (sym right.1.did) here)
-      | inr later ↦ ih later
-    ]
-  where
-    in_either : (xs ys : List Access) → HasItem (xs ++ ys) x → HasItem xs x ⊎ HasItem ys x
-    in_either [] ys at = inr at
-    in_either (y ∷ xs) ys (inl here) = inl (inl here)
-    in_either (y ∷ xs) ys (inr there) = elim (in_either xs ys there) [ inl here ↦ inl (inr here) | inr later ↦ inr later ]
 
 -- ---- one failure at most
 

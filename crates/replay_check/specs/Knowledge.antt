@@ -1,5 +1,5 @@
 -- What is known of a hart, by the keys of its places, and the whole hart that has zero elsewhere.
-use Rattle.std.specs.Prelude.{◌≡◌, ℕ, ◌-◌, Bool, nat_eq, nat_lt, if◌then◌else◌, List, length, Option, None, slice_index_or, position}
+use Rattle.std.specs.Prelude.{◌≡◌, ℕ, ◌-◌, ◌*◌, Bool, nat_eq, nat_lt, if◌then◌else◌, List, length, Option, None, slice_index_or, position}
 use Rattle.std.specs.Option.{is_some}
 use Rattle.rv_hart.specs.declared.hart.Hart.{Hart}
 use Rattle.rv_hart.specs.Machine.{Fixed}
@@ -33,7 +33,7 @@ fixed_now ram h = record {
   medeleg = h.csrs.medeleg;
   satp = h.csrs.satp;
   number = h.csrs.hart;
-  ram = is_in ram;
+  ram = λ n. is_in ram (n * 4);
 }
 
 -- the hart with zero wherever nothing is known

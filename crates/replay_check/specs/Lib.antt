@@ -1,3 +1,4 @@
 pub mod Knowledge
 pub mod Memory
+pub mod Racing
 pub mod Replay

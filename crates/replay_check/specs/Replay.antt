@@ -1,17 +1,16 @@
 -- How the steps of a hart on what is known are those of the whole hart with zero elsewhere.
-use Rattle.std.specs.Prelude.{◌≡◌, ℕ, List, length}
-use Rattle.rv_script.specs.Memory.{memory_after}
+use Rattle.std.specs.Prelude.{◌≡◌, ℕ, List, length, Option}
 use Rattle.rv_hart.specs.declared.hart.Hart.{Hart}
 use Rattle.rv_hart.specs.declared.record.Record.{Record}
 use Rattle.rv_hart.specs.Whole.{Step, hart_after}
 use Rattle.tpl_parse.specs.declared.template.Region.{Region}
 use Rattle.tpl_admit.specs.declared.certificate.Cert.{Cert}
 use Rattle.tpl_admit.specs.declared.certificate.HartState.{HartState}
-use Rattle.tpl_admit.specs.Starts.{start_of, is_given}
+use Rattle.tpl_admit.specs.Starts.{start_of, trace_of, is_given}
 use Rattle.tpl_admit.specs.Solo.{solo, solo_run, knows_also, knows_after}
-use Rattle.tpl_admit.specs.Failures.{IsRight, IsWrong, AreRight, GoesWrong}
+use Rattle.tpl_admit.specs.Failures.{IsRight, IsWrong, AreRight, GoesWrong, MemoryEndsAsTold, AllAreRight, AllEndAsTold}
 use Rattle.replay_check.specs.Knowledge.{knows_of, whole_of}
-use Rattle.replay_check.specs.Memory.{given_word, whole_memory}
+use Rattle.replay_check.specs.Memory.{AreInWords}
 
 -- two records are the same, field by field
 pub record IsSameChange (a b : Record) : Type 0 where
@@ -26,26 +25,25 @@ pub record IsSameRecord (a b : Record) : Type 0 where
   pub change : IsSameChange a b
   pub accesses : a.accesses ≡ b.accesses
 
--- the hart makes the step of a record, which leaves memory as it is
-pub record Takes (ram : Region) (words : List (ℕ × ℕ)) (h new : Hart) (r : Record) : Type 0 where
+-- the hart makes the step of a record on this memory
+pub record Takes (ram : Region) (given : ℕ → Option ℕ) (memory : ℕ → ℕ) (h new : Hart) (r : Record) : Type 0 where
   pub step : Step
-  pub right : IsRight (given_word words) (knows_of h) (whole_of ram h) (whole_memory words) r step
+  pub right : IsRight given (knows_of h) (whole_of ram h) memory r step
   pub hart : whole_of ram new ≡ hart_after step.change (whole_of ram h)
   pub knows : knows_of new ≡ knows_also step.change.rd (knows_of h)
-  pub memory : memory_after step.did.accesses (whole_memory words) ≡ whole_memory words
 
 -- the hart's step isn't that of a record
-abbrev pub Strays : Region → List (ℕ × ℕ) → Hart → Record → ℕ → Type 0
-Strays ram words h r kind = IsWrong (given_word words) (knows_of h) (whole_of ram h) (whole_memory words) r kind
+abbrev pub Strays : Region → (ℕ → Option ℕ) → (ℕ → ℕ) → Hart → Record → ℕ → Type 0
+Strays ram given memory h r kind = IsWrong given (knows_of h) (whole_of ram h) memory r kind
 
 -- the hart's steps are those of the records, and lead to this hart
-pub record TakesAll (ram : Region) (words : List (ℕ × ℕ)) (h new : Hart) (rs : List Record) : Type 0 where
-  pub right : AreRight (given_word words) (knows_of h) (whole_of ram h) (whole_memory words) rs
-  pub hart : (solo (length rs) (whole_of ram h) (whole_memory words)).hart ≡ whole_of ram new
-  pub knows : knows_after (knows_of h) (solo (length rs) (whole_of ram h) (whole_memory words)).moments ≡ knows_of new
+pub record TakesAll (ram : Region) (given : ℕ → Option ℕ) (memory : ℕ → ℕ) (h new : Hart) (rs : List Record) : Type 0 where
+  pub right : AreRight given (knows_of h) (whole_of ram h) memory rs
+  pub hart : (solo (length rs) (whole_of ram h) memory).hart ≡ whole_of ram new
+  pub knows : knows_after (knows_of h) (solo (length rs) (whole_of ram h) memory).moments ≡ knows_of new
 
-abbrev pub StraysAt : Region → List (ℕ × ℕ) → Hart → List Record → ℕ → ℕ → Type 0
-StraysAt ram words h rs kind step = GoesWrong (given_word words) (knows_of h) (whole_of ram h) (whole_memory words) rs 0 kind step
+abbrev pub StraysAt : Region → (ℕ → Option ℕ) → (ℕ → ℕ) → Hart → List Record → ℕ → ℕ → Type 0
+StraysAt ram given memory h rs kind step = GoesWrong given (knows_of h) (whole_of ram h) memory rs 0 kind step
 
 -- hart k of a certificate, alone, is in the end just what is known of this hart
 pub record EndsAs (c : Cert) (k : ℕ) (h : Hart) : Type 0 where
@@ -60,3 +58,10 @@ pub record IsFixedTold (s : HartState) (k : ℕ) (h : Hart) : Type 0 where
   pub medeleg : s.medeleg ≡ h.csrs.medeleg
   pub satp : s.satp ≡ h.csrs.satp
   pub number : h.csrs.hart ≡ k
+
+-- each hart alone does what is printed, and harts and memory end as is printed
+pub record IsReplayed (c : Cert) : Type 0 where
+  pub steps : AllAreRight c
+  pub ends : AllEndAsTold c
+  pub memory : MemoryEndsAsTold c
+  pub words : (k : ℕ) → AreInWords (trace_of c k)

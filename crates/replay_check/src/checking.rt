@@ -1,22 +1,28 @@
 // The whole check of a certificate.
-ghost use Rattle.std.specs.Prelude.{◌≡◌, ◌↔◌, ℕ, ◌≤◌, ◌<◌, IsTrue, IfOk, IfErr, length, map};
+ghost use Rattle.std.specs.Prelude.{◌≡◌, ◌↔◌, ℕ, ◌≤◌, ◌<◌, IsTrue, IfOk, IfErr, IfSome, OnOk, length};
 ghost use Rattle.std.specs.List.{AllByRecursion};
+ghost use Rattle.rv_mem.specs.Part.{part_at};
+ghost use Rattle.rv_script.specs.Memory.{memory_after};
 ghost use Rattle.tpl_admit.specs.declared.certificate.Cert.{Cert as ACert};
-ghost use Rattle.tpl_admit.specs.Starts.{start_of, final_of, trace_of};
+ghost use Rattle.tpl_admit.specs.Starts.{start_of, final_of, trace_of, first_memory};
+ghost use Rattle.tpl_admit.specs.Races.{footprint_of, footprints_of};
 ghost use Rattle.tpl_admit.specs.WellFormed.{IsWellFormed, IsState, IsRecord};
-ghost use Rattle.tpl_admit.specs.Validity.{IsValid};
+ghost use Rattle.tpl_admit.specs.Validity.{in_turn, IsValid};
 ghost use Rattle.tpl_admit.specs.Faithfulness.{IsFaithful};
 ghost use Rattle.tpl_admit.specs.Failures.{HartIsRight, HartGoesWrong, EndsAsTold, MemoryEndsAsTold, IsFirstFailure};
 ghost use Rattle.replay_check.specs.declared.verdict.Verdict.TheVariants.{Yes, No};
-ghost use Rattle.replay_check.specs.Replay.{EndsAs, IsFixedTold};
+ghost use Rattle.replay_check.specs.Memory.{ShowsOf, AreInWords};
+ghost use Rattle.replay_check.specs.Replay.{EndsAs, IsFixedTold, IsReplayed};
 
-use crate::lookup::Given;
+use crate::memory::{are_last, memory_of};
 use crate::places::are_told;
+use crate::racing::first_race;
 use crate::start::hart_in;
 use crate::stepping::{Wrong, take_all};
 use crate::verdict::Kind;
 use crate::{OutOfMemory, Verdict};
 use rv_hart::{Hart, Record};
+use rv_mem::PartMem;
 use std::alloc::Global;
 use tpl_admit::{Cert, HartState, admits};
 
@@ -51,20 +57,27 @@ fn trace(cert: &Cert, k: u8) -> &[Record]
     cert.traces.as_slice()[usize::from(k)].as_slice()
 }
 
-/// Hart k after all its steps alone, or the first of them that is not that of its record.
-fn replayed(cert: &Cert, k: u8) -> Result<Hart, Wrong>
+/// Memory as the start gives it.
+fn start_memory(alloc: Global, cert: &Cert) -> Result<PartMem, OutOfMemory>
+    requires { IsWellFormed cert.now }
+    ensures { IfOk result (λ m. ShowsOf cert.now (first_memory cert.now) (part_at m)) }
+{
+    memory_of(alloc, cert.template.ram, cert.words.as_slice())
+}
+
+/// Hart k after all its steps alone on the start's memory, or the first of them that is not that of its record.
+fn replayed(cert: &Cert, k: u8, memory: &mut PartMem) -> Result<Hart, Wrong>
     requires well_formed { IsWellFormed cert.now }
     requires there { k < length cert.now.start }
+    requires memory { ShowsOf cert.now (first_memory cert.now) (part_at memory.old) }
     ensures right { IfOk result (λ h. HartIsRight cert.now k) }
     ensures end { IfOk result (λ h. EndsAs cert.now k h) }
     ensures wrong { IfErr result (λ w. HartGoesWrong cert.now k w.kind w.step) }
+    ensures memory { OnOk result (ShowsOf cert.now (memory_after (footprint_of (trace_of cert.now k)) (first_memory cert.now)) (part_at memory.new)) }
+    ensures words { OnOk result (AreInWords (trace_of cert.now k)) }
 {
     let mut hart = hart_in(start_state(cert, k), u32::from(k));
-    let memory = Given {
-        ram: cert.template.ram,
-        words: cert.words.as_slice(),
-    };
-    match take_all(&mut hart, &memory, trace(cert, k)) {
+    match take_all(&mut hart, memory, trace(cert, k)) {
         None => Ok(hart),
         Some(wrong) => Err(wrong),
     }
@@ -93,64 +106,105 @@ fn ends_as_told(cert: &Cert, k: u8, hart: &Hart) -> bool
     is_fixed_told(told, k, hart) && are_told(hart, told.places.as_slice())
 }
 
-/// Whether the words end as they were given.
-fn are_unchanged(words: &[(u32, u32)], last: &[u32]) -> bool
-    requires { length last.now ≡ length words.now }
-    ensures { IsTrue result ↔ (map (λ w. w.1) words.now ≡ last.now) }
-{
-    words.iter().zip(last).all(|(word, value)| word.1 == *value)
-}
-
-/// Whether memory ends as printed, where all steps are as printed: they leave it as it was.
-fn memory_ends_as_told(cert: &Cert) -> bool
+/// Whether memory ends as printed, where this is what is known of it after all steps.
+fn memory_ends_as_told(cert: &Cert, memory: &PartMem) -> bool
     requires well_formed { IsWellFormed cert.now }
-    requires steps { HartIsRight cert.now 0 }
+    requires end { ShowsOf cert.now (in_turn (length cert.now.start) (footprints_of (trace_of cert.now)) (first_memory cert.now)) (part_at memory.now) }
     ensures { IsTrue result ↔ MemoryEndsAsTold cert.now }
 {
-    are_unchanged(cert.words.as_slice(), cert.last.as_slice())
+    are_last(memory, cert.words.as_slice(), cert.last.as_slice())
+}
+
+/// Where a certificate fails, and of which kind that is.
+struct Failure {
+    kind: u8,
+    hart: u8,
+    step: u32,
+}
+
+/// The first step that is not as printed, or else the first end of a hart, or else that of memory.
+fn unlike_machine(alloc: Global, cert: &Cert) -> Result<Option<Failure>, OutOfMemory>
+    requires { IsWellFormed cert.now }
+    ensures none { IfOk result (λ o. o ≡ None → IsReplayed cert.now) }
+    ensures some { IfOk result (λ o. IfSome o (λ f. IsFirstFailure cert.now f.kind f.hart f.step)) }
+{
+    let mut memory = start_memory(alloc, cert)?;
+    let hart = match replayed(cert, 0, &mut memory) {
+        Ok(hart) => hart,
+        Err(Wrong { kind, step }) => return Ok(Some(Failure {
+            kind,
+            hart: 0,
+            step,
+        })),
+    };
+    let kind = Kind::OtherEnd as u8;
+    if !ends_as_told(cert, 0, &hart) {
+        let step = trace(cert, 0).len() as u32;
+        return Ok(Some(Failure {
+            kind,
+            hart: 0,
+            step,
+        }));
+    }
+    if !memory_ends_as_told(cert, &memory) {
+        let hart = cert.start.len() as u8;
+        return Ok(Some(Failure {
+            kind,
+            hart,
+            step: 0,
+        }));
+    }
+    Ok(None)
+}
+
+/// The first record that races, or else where the template does not admit the trace.
+fn unfit(alloc: Global, cert: &Cert) -> Result<Option<Failure>, OutOfMemory>
+    requires well_formed { IsWellFormed cert.now }
+    requires replayed { IsReplayed cert.now }
+    ensures none { IfOk result (λ o. o ≡ None → IsValid cert.now) }
+    ensures some { IfOk result (λ o. IfSome o (λ f. IsFirstFailure cert.now f.kind f.hart f.step)) }
+{
+    if let Some((hart, step)) = first_race(alloc, cert)? {
+        return Ok(Some(Failure {
+            kind: Kind::Race as u8,
+            hart,
+            step,
+        }));
+    }
+    if let Some(unmet) = admits(cert) {
+        return Ok(Some(Failure {
+            kind: Kind::NotAdmitted as u8,
+            hart: unmet.hart,
+            step: unmet.step,
+        }));
+    }
+    Ok(None)
+}
+
+/// The first failure of a certificate.
+fn first_failure(alloc: Global, cert: &Cert) -> Result<Option<Failure>, OutOfMemory>
+    requires { IsWellFormed cert.now }
+    ensures none { IfOk result (λ o. o ≡ None → IsValid cert.now) }
+    ensures some { IfOk result (λ o. IfSome o (λ f. IsFirstFailure cert.now f.kind f.hart f.step)) }
+{
+    if let Some(failure) = unlike_machine(alloc, cert)? {
+        return Ok(Some(failure));
+    }
+    unfit(alloc, cert)
 }
 
 /// Whether a certificate is valid, or its first failure: the steps of each hart alone are looked at first, then the
-/// ends of harts and of memory, and then whether the template admits the trace.
-pub fn check(_alloc: Global, cert: &Cert) -> Result<Verdict, OutOfMemory>
+/// ends of harts and of memory, then whether accesses race, and then whether the template admits the trace.
+pub fn check(alloc: Global, cert: &Cert) -> Result<Verdict, OutOfMemory>
     requires { IsWellFormed cert.now }
     ensures yes { IfOk result (λ v. v ≡ Yes → IsValid cert.now) }
     ensures faithful { IfOk result (λ v. v ≡ Yes → IsFaithful cert.now) }
     ensures no { IfOk result (λ v. (kind hart step : ℕ) → v ≡ No kind hart step → IsFirstFailure cert.now kind hart step) }
 {
-    let hart = match replayed(cert, 0) {
-        Ok(hart) => hart,
-        Err(Wrong { kind, step }) => return Ok(Verdict::No {
-            kind,
-            hart: 0,
-            step,
-        }),
-    };
-    let kind = Kind::OtherEnd as u8;
-    if !ends_as_told(cert, 0, &hart) {
-        let step = trace(cert, 0).len() as u32;
-        return Ok(Verdict::No {
-            kind,
-            hart: 0,
-            step,
-        });
+    match first_failure(alloc, cert)? {
+        None => Ok(Verdict::Yes),
+        Some(Failure { kind, hart, step }) => Ok(Verdict::No { kind, hart, step }),
     }
-    if !memory_ends_as_told(cert) {
-        let hart = cert.start.len() as u8;
-        return Ok(Verdict::No {
-            kind,
-            hart,
-            step: 0,
-        });
-    }
-    if let Some(unmet) = admits(cert) {
-        return Ok(Verdict::No {
-            kind: Kind::NotAdmitted as u8,
-            hart: unmet.hart,
-            step: unmet.step,
-        });
-    }
-    Ok(Verdict::Yes)
 }
 
 /// The law that a valid certificate has no first failure, and that each has one at most.

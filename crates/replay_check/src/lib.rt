@@ -1,14 +1,18 @@
 //! Whether a certificate is valid, and where it isn't, its first failure. Each hart is run alone on the machine from
-//! what the certificate gives at its start, each record is compared with the printed one, then the ends, then memory,
-//! and then the template is asked whether it admits the trace.
+//! what the certificate gives at its start, each record is compared with the printed one, then the ends, then memory;
+//! then races are looked for, and the template is asked whether it admits the trace.
 #![tactic(auto)]
 
 mod checking;
 mod error;
 mod lookup;
+mod memory;
 mod places;
+mod racing;
 mod start;
 mod stepping;
+#[cfg(test)]
+mod store_tests;
 #[cfg(test)]
 mod tests;
 mod verdict;

@@ -1,14 +1,18 @@
 // The steps of a hart against printed records.
 ghost use Rattle.std.specs.Prelude.{◌≡◌, ◌↔◌, ℕ, ◌≤◌, IsTrue, IfSome, length};
 ghost use Rattle.std.specs.List.{AllByRecursion};
+ghost use Rattle.rv_mem.specs.Part.{part_at};
+ghost use Rattle.rv_script.specs.Memory.{memory_after};
+ghost use Rattle.rv_hart.specs.Effects.{seen_after};
+ghost use Rattle.tpl_admit.specs.Races.{footprint_of};
 ghost use Rattle.tpl_admit.specs.WellFormed.{IsRecord};
 ghost use Rattle.replay_check.specs.Knowledge.{IsShaped};
-ghost use Rattle.replay_check.specs.Memory.{IsStart};
+ghost use Rattle.replay_check.specs.Memory.{Shows, WhereShown, AreInWords};
 ghost use Rattle.replay_check.specs.Replay.{IsSameChange, IsSameRecord, Takes, Strays, TakesAll, StraysAt};
 
-use crate::lookup::Given;
 use crate::verdict::Kind;
 use rv_hart::{Hart, Record, Stepped, step};
+use rv_mem::PartMem;
 
 /// The first step that is not that of its record.
 #[derive(Clone, Copy)]
@@ -43,12 +47,12 @@ fn is_same(one: &Record, other: &Record) -> bool
 }
 
 /// Takes the hart's next step, and says of which kind the failure is where it is not that of the record.
-fn take(hart: &mut Hart, memory: &Given<'_>, done: &Record) -> Option<u8>
-    requires start { IsStart memory.now.ram memory.now.words.now }
+fn take(hart: &mut Hart, memory: &mut PartMem, done: &Record) -> Option<u8>
     requires shape { IsShaped hart.old }
     requires done { IsRecord done.now }
-    ensures right { result ≡ None → Takes memory.now.ram memory.now.words.now hart.old hart.new done.now }
-    ensures wrong { (kind : ℕ) → result ≡ Some kind → Strays memory.now.ram memory.now.words.now hart.old done.now kind }
+    ensures right { WhereShown (part_at memory.old) (λ ram given m. result ≡ None → Takes ram given m hart.old hart.new done.now) }
+    ensures wrong { WhereShown (part_at memory.old) (λ ram given m. (kind : ℕ) → result ≡ Some kind → Strays ram given m hart.old done.now kind) }
+    ensures memory { result ≡ None → (n : ℕ) → part_at memory.new n ≡ seen_after done.now.accesses (part_at memory.old) n }
     ensures shape { IsShaped hart.new }
 {
     match step(hart, memory) {
@@ -65,13 +69,14 @@ fn take(hart: &mut Hart, memory: &Given<'_>, done: &Record) -> Option<u8>
 }
 
 /// Takes the hart's steps, and says where they first are not those of the records.
-pub fn take_all(hart: &mut Hart, memory: &Given<'_>, records: &[Record]) -> Option<Wrong>
-    requires start { IsStart memory.now.ram memory.now.words.now }
+pub fn take_all(hart: &mut Hart, memory: &mut PartMem, records: &[Record]) -> Option<Wrong>
     requires shape { IsShaped hart.old }
     requires records { AllByRecursion IsRecord records.now }
     requires count { length records.now ≤ 8192 }
-    ensures right { result ≡ None → TakesAll memory.now.ram memory.now.words.now hart.old hart.new records.now }
-    ensures wrong { IfSome result (λ w. StraysAt memory.now.ram memory.now.words.now hart.old records.now w.kind w.step) }
+    ensures right { WhereShown (part_at memory.old) (λ ram given m. result ≡ None → TakesAll ram given m hart.old hart.new records.now) }
+    ensures wrong { WhereShown (part_at memory.old) (λ ram given m. IfSome result (λ w. StraysAt ram given m hart.old records.now w.kind w.step)) }
+    ensures memory { WhereShown (part_at memory.old) (λ ram given m. result ≡ None → Shows ram given (memory_after (footprint_of records.now) m) (part_at memory.new)) }
+    ensures words { WhereShown (part_at memory.old) (λ ram given m. result ≡ None → AreInWords records.now) }
 {
     for (i, done) in records.iter().enumerate() {
         if let Some(kind) = take(hart, memory, done) {

@@ -9,7 +9,7 @@ pub enum Verdict {
     /// - 2 where a step needs a place that was neither given at the start nor written,
     /// - 3 where the machine has no step,
     /// - 4 where a hart or memory does not end as printed,
-    /// - 5 where accesses race, which no step of today's machine does,
+    /// - 5 where the accesses of a record race with those of an earlier one, or among themselves, harts in ascending order,
     /// - 6 where the template does not admit the trace.
     ///
     /// `hart` and `step` are those of the failure, counted from 0. For a hart's end `step` is its number of records, and
@@ -23,5 +23,6 @@ pub(crate) enum Kind {
     MissingPlace = 2,
     NoStep = 3,
     OtherEnd = 4,
+    Race = 5,
     NotAdmitted = 6,
 }

@@ -1,2 +1,6 @@
+pub mod Shifts
+pub mod Branches
 pub mod Prefixes
 pub mod Steps
+pub mod Stores
+pub mod Afters

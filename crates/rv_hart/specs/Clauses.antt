@@ -1,20 +1,25 @@
 -- What a step on known places says of whole harts and memories.
-use Rattle.std.specs.Prelude.{◌≡◌, ℕ, Option, Some, None}
-use Rattle.std.specs.Option.{unwrap_or}
+use Rattle.std.specs.Prelude.{◌≡◌, ◌↔◌, ℕ, Bool, false, ◌||◌, nat_eq, All, IsTrue, Option, Some, None}
+use Rattle.std.specs.Option.{unwrap_or, is_some}
+use Rattle.rv_isa.specs.declared.operation.Op.{Op}
+use Rattle.rv_isa.specs.Arithmetic.{IsTaken}
 use Rattle.rv_script.specs.declared.place.Place.{Place}
+use Rattle.rv_script.specs.declared.place.Place.TheVariants.{Reg}
 use Rattle.rv_script.specs.Lists.{HasItem}
 use Rattle.rv_script.specs.Script.{place_of}
 use Rattle.rv_script.specs.Folds.{Known, by_known, Sight, Entry, asked_of, first_missing}
 use Rattle.rv_script.specs.Laws.{IsSeenAlike}
+use Rattle.rv_script.specs.Memory.{memory_after}
 use Rattle.rv_hart.specs.declared.record.Change.{Change}
 use Rattle.rv_hart.specs.declared.record.Record.{Record}
 use Rattle.rv_hart.specs.declared.record.Stepped.{Stepped}
 use Rattle.rv_hart.specs.declared.record.Stepped.TheVariants.{Did, Missing, Outside}
-use Rattle.rv_hart.specs.declared.stepping.Looked.{Looked}
-use Rattle.rv_hart.specs.declared.stepping.Looked.TheVariants.{Does, Missing as LooksMissing, Outside as LooksOutside}
+use Rattle.rv_hart.specs.declared.looked.Looked.{Looked}
+use Rattle.rv_hart.specs.declared.looked.Looked.TheVariants.{Does, Missing as LooksMissing, Outside as LooksOutside}
 use Rattle.rv_hart.specs.Changes.{IsSoundChange}
-use Rattle.rv_hart.specs.Machine.{Fixed, script}
-use Rattle.rv_hart.specs.Whole.{WholeHart, value_at, sight_of, Step, step_of}
+use Rattle.rv_hart.specs.Effects.{IsInWord}
+use Rattle.rv_hart.specs.Machine.{Fixed, script, is_taken}
+use Rattle.rv_hart.specs.Whole.{WholeHart, value_at, sight_of, Step, step_of, hart_after}
 
 -- a whole hart and memory have these fixed parts and all that is known
 pub record Has (f : Fixed) (known : Known) (h : WholeHart) (words : ℕ → ℕ) : Type 0 where
@@ -55,8 +60,45 @@ IsLocalStep f known (Did r) = IsLocal f known r
 IsLocalStep f known (Missing place) = Unit {0}
 IsLocalStep f known Outside = Unit {0}
 
--- what is done leaves a hart as it must be
+-- the write is one to this place
+abbrev pub is_written : Option (ℕ × ℕ) → Place → Bool
+is_written (Some w) (Reg n) = nat_eq w.0 n
+is_written _ place = false
+
+-- from what was known to what is known, by a step
+pub record IsDone (f : Fixed) (known : Known) (r : Record) (new_f : Fixed) (new_known : Known) : Type 0 where
+  -- each whole hart and memory that have what was known make this step, and with its changes they have what is known
+  pub wholes : (h : WholeHart) (words : ℕ → ℕ) → Has f known h words
+      → (s : Step) × (step_of h words ≡ Some s) × (s.did ≡ r) × Has new_f new_known (hart_after s.change h) (memory_after s.did.accesses words)
+  -- known are the places that were known, and the register that was written
+  pub places : (place : Place) → is_some (new_known place) ≡ (is_written r.rd place || is_some (known place))
+
+-- from what was known to what is known, where nothing was done
+pub record IsKept (f : Fixed) (known : Known) (new_f : Fixed) (new_known : Known) : Type 0 where
+  pub fixed : new_f ≡ f
+  pub places : (place : Place) → new_known place ≡ known place
+
+abbrev pub IsAfter : Fixed → Known → Stepped → Fixed → Known → Type 0
+IsAfter f known (Did r) new_f new_known = IsDone f known r new_f new_known
+IsAfter f known (Missing place) new_f new_known = IsKept f known new_f new_known
+IsAfter f known Outside new_f new_known = IsKept f known new_f new_known
+
+-- what would be done leaves a hart as it must be
 abbrev pub IsSound : Looked → Type 0
 IsSound (Does c) = IsSoundChange c
 IsSound (LooksMissing place) = Unit {0}
 IsSound LooksOutside = Unit {0}
+
+-- a record of such a change, whose accesses keep to words
+pub record IsSoundRecord (r : Record) : Type 0 where
+  pub change : IsSoundChange (change_of r)
+  pub accesses : All IsInWord r.accesses
+
+abbrev pub IsSoundStep : Stepped → Type 0
+IsSoundStep (Did r) = IsSoundRecord r
+IsSoundStep (Missing place) = Unit {0}
+IsSoundStep Outside = Unit {0}
+
+-- a branch is taken where its condition holds (Unprivileged, 2.5.2)
+abbrev pub TakenAreTaken : Type 0
+TakenAreTaken = (op : Op) (x y : ℕ) → IsTrue (is_taken op x y) ↔ IsTaken op x y

@@ -1,11 +1,15 @@
 -- The machine: what one instruction asks and does.
-use Rattle.std.specs.Prelude.{ℕ, ◌+◌, ◌%◌, ◌^◌, Bool, true, false, ◌&&◌, ◌||◌, nat_eq, nat_lt, if◌then◌else◌, Option, Some, None}
+use Rattle.std.specs.Prelude.{ℕ, ◌+◌, ◌-◌, ◌/◌, ◌%◌, ◌^◌, Bool, true, false, ◌&&◌, ◌||◌, not, nat_eq, nat_le, nat_lt, int_lt, if◌then◌else◌, Option, Some, None}
 use Rattle.rv_isa.specs.declared.instruction.Instr.{Instr}
 use Rattle.rv_isa.specs.declared.operation.Op.{Op}
-use Rattle.rv_isa.specs.declared.operation.Op.TheVariants.{Addi}
-use Rattle.rv_isa.specs.Arithmetic.{alu_result}
+use Rattle.rv_isa.specs.declared.operation.Op.TheVariants.{Beq, Bne, Blt, Bge, Bltu, Bgeu, Lb, Lh, Lbu, Lhu, Sb, Sh}
+use Rattle.rv_isa.specs.declared.table.Row.{Row}
+use Rattle.rv_isa.specs.declared.table.Row.TheVariants.{R, I, Shift, S, B, U, J, FenceSets}
+use Rattle.rv_isa.specs.Arithmetic.{alu_result, signed}
+use Rattle.rv_isa.specs.Encoding.{sign_extended}
 use Rattle.rv_isa.specs.Reading.{decoded}
-use Rattle.rv_script.specs.Script.{Label.FromRs1, Label.Fetched, Script, Script.Outside, Script.Done, ◌>>=◌, register, read}
+use Rattle.rv_isa.specs.Table.{row_of}
+use Rattle.rv_script.specs.Script.{Label.FromRs1, Label.FromRs2, Label.Fetched, Label.DataWord, Script, Script.Outside, Script.Done, ◌>>=◌, register, read, write}
 use Rattle.rv_hart.specs.declared.csrs.Priv.{Priv}
 use Rattle.rv_hart.specs.declared.csrs.Priv.TheVariants.{M}
 use Rattle.rv_hart.specs.declared.record.Change.{Change}
@@ -20,7 +24,7 @@ pub record Fixed : Type 0 where
   pub satp : ℕ
   -- mhartid
   pub number : ℕ
-  -- whether an aligned word of memory is there
+  -- whether the word of memory with this number, its address divided by 4, is there
   pub ram : ℕ → Bool
 
 abbrev pub is_machine : Priv → Bool
@@ -31,13 +35,117 @@ is_machine _ = false
 abbrev pub is_bare : Priv → ℕ → Bool
 is_bare privilege satp = is_machine privilege || nat_lt satp 0x80000000
 
+-- loads and stores are made as in M: where mstatus has MPRV, its bit 17, if MPP, its bits 12 and 11, is M, and else in M (Privileged, 3.1.6.3)
+abbrev pub is_data_machine : Fixed → Bool
+is_data_machine f = if nat_eq (f.mstatus / 2 ^ 17 % 2) 1 then nat_eq (f.mstatus / 2 ^ 11 % 4) 3 else is_machine f.privilege
+
+-- their addresses are not translated
+abbrev pub is_data_bare : Fixed → Bool
+is_data_bare f = is_data_machine f || nat_lt f.satp 0x80000000
+
+-- bytes can be loaded or stored there: the address is a multiple of their number, isn't translated and is in RAM (Unprivileged, 2.6)
+abbrev pub is_accessible : Fixed → ℕ → ℕ → Bool
+is_accessible f addr size = nat_eq (addr % size) 0 && (is_data_bare f && f.ram (addr / 4))
+
 -- a write to x0 vanishes (Unprivileged, 2.1)
 abbrev pub rd_told : ℕ → ℕ → Option (ℕ × ℕ)
 rd_told rd value = if nat_eq rd 0 then None else Some (rd, value)
 
+-- an instruction that goes on at an address
+abbrev pub went : ℕ → Option (ℕ × ℕ) → ℕ → Change
+went word rd target = record { word = word; outcome = Retired; rd = rd; next_pc = target }
+
 -- an instruction that goes on to the next one
 abbrev pub retired : ℕ → ℕ → Option (ℕ × ℕ) → Change
-retired pc word rd = record { word = word; outcome = Retired; rd = rd; next_pc = (pc + 4) % 2 ^ 32 }
+retired pc word rd = went word rd ((pc + 4) % 2 ^ 32)
+
+-- a jump; a target that is no multiple of 4 would trap (Unprivileged, 2.5)
+abbrev pub jumped : ℕ → Option (ℕ × ℕ) → ℕ → Script Change
+jumped word rd target = if nat_eq (target % 4) 0 then Done (went word rd target) else Outside
+
+-- LUI (Unprivileged, 2.4.1)
+unfoldable pub upper_row : Fixed → ℕ → Instr → Script Change
+upper_row f word i = Done (retired f.pc word (rd_told i.rd i.imm))
+
+-- AUIPC (Unprivileged, 2.4.1)
+unfoldable pub upper_pc_row : Fixed → ℕ → Instr → Script Change
+upper_pc_row f word i = Done (retired f.pc word (rd_told i.rd ((f.pc + i.imm) % 2 ^ 32)))
+
+-- JAL: the address of the next instruction goes to rd (Unprivileged, 2.5.1)
+unfoldable pub jump_row : Fixed → ℕ → Instr → Script Change
+jump_row f word i = jumped word (rd_told i.rd ((f.pc + 4) % 2 ^ 32)) ((f.pc + i.imm) % 2 ^ 32)
+
+-- an address with bit 0 cleared
+abbrev pub even : ℕ → ℕ
+even addr = addr - addr % 2
+
+-- JALR (Unprivileged, 2.5.1)
+unfoldable pub jump_register_row : Fixed → ℕ → Instr → Script Change
+jump_register_row f word i = do
+  a ← register FromRs1 i.rs1
+  jumped word (rd_told i.rd ((f.pc + 4) % 2 ^ 32)) (even ((a + i.imm) % 2 ^ 32))
+
+-- whether a branch goes to its target
+abbrev pub is_taken : Op → ℕ → ℕ → Bool
+is_taken Beq x y = nat_eq x y
+is_taken Bne x y = not (nat_eq x y)
+is_taken Blt x y = int_lt (signed x) (signed y)
+is_taken Bge x y = not (int_lt (signed x) (signed y))
+is_taken Bltu x y = nat_lt x y
+is_taken Bgeu x y = nat_le y x
+is_taken _ x y = false
+
+-- a branch (Unprivileged, 2.5.2)
+unfoldable pub branch_row : Fixed → ℕ → Instr → Script Change
+branch_row f word i = do
+  a ← register FromRs1 i.rs1
+  b ← register FromRs2 i.rs2
+  if is_taken i.op a b then jumped word None ((f.pc + i.imm) % 2 ^ 32) else Done (retired f.pc word None)
+
+-- how many bytes a load reads or a store writes (Unprivileged, 2.6)
+abbrev pub size_of : Op → ℕ
+size_of Lb = 1
+size_of Lbu = 1
+size_of Sb = 1
+size_of Lh = 2
+size_of Lhu = 2
+size_of Sh = 2
+size_of _ = 4
+
+-- what a load writes to rd of the bytes that it reads (Unprivileged, 2.6)
+abbrev pub loaded : Op → ℕ → ℕ
+loaded Lb value = sign_extended 8 value
+loaded Lh value = sign_extended 16 value
+loaded _ value = value
+
+abbrev pub load_from : Fixed → ℕ → Instr → ℕ → Script Change
+load_from f word i addr =
+    if is_accessible f addr (size_of i.op)
+    then (do
+      value ← read DataWord addr (size_of i.op)
+      Done (retired f.pc word (rd_told i.rd (loaded i.op value))))
+    else Outside
+
+-- a load (Unprivileged, 2.6)
+unfoldable pub load_row : Fixed → ℕ → Instr → Script Change
+load_row f word i = do
+  a ← register FromRs1 i.rs1
+  load_from f word i ((a + i.imm) % 2 ^ 32)
+
+abbrev pub store_to : Fixed → ℕ → Instr → ℕ → ℕ → Script Change
+store_to f word i addr value =
+    if is_accessible f addr (size_of i.op)
+    then (do
+      stored ← write addr (size_of i.op) (value % 256 ^ size_of i.op)
+      Done (retired f.pc word None))
+    else Outside
+
+-- a store of the low bytes of rs2 (Unprivileged, 2.6)
+unfoldable pub store_row : Fixed → ℕ → Instr → Script Change
+store_row f word i = do
+  a ← register FromRs1 i.rs1
+  b ← register FromRs2 i.rs2
+  store_to f word i ((a + i.imm) % 2 ^ 32) b
 
 -- an operation on a register and an immediate (Unprivileged, 2.4.1)
 unfoldable pub immediate_row : Fixed → ℕ → Instr → Script Change
@@ -45,19 +153,49 @@ immediate_row f word i = do
   a ← register FromRs1 i.rs1
   Done (retired f.pc word (rd_told i.rd (alu_result i.op a i.imm)))
 
--- what each operation does; the machine of today has no step for the others
-abbrev pub row : Fixed → ℕ → Op → Instr → Script Change
-row f word Addi i = immediate_row f word i
-row f word _ i = Outside
+-- an operation on two registers (Unprivileged, 2.4.2 and M)
+unfoldable pub register_row : Fixed → ℕ → Instr → Script Change
+register_row f word i = do
+  a ← register FromRs1 i.rs1
+  b ← register FromRs2 i.rs2
+  Done (retired f.pc word (rd_told i.rd (alu_result i.op a b)))
+
+-- FENCE: one hart sees its accesses in their order anyway (Unprivileged, 2.7)
+unfoldable pub fence_row : Fixed → ℕ → Instr → Script Change
+fence_row f word i = Done (retired f.pc word None)
+
+-- what an instruction does, by the format and the opcode of its row of the table of encodings; the machine of today has no step for the others
+abbrev pub effect : Row → Fixed → ℕ → Instr → Script Change
+-- LUI and AUIPC
+effect (U opcode) f word i = if nat_eq opcode 0x37 then upper_row f word i else if nat_eq opcode 0x17 then upper_pc_row f word i else Outside
+-- JAL
+effect (J opcode) f word i = if nat_eq opcode 0x6f then jump_row f word i else Outside
+-- BRANCH
+effect (B opcode funct3) f word i = if nat_eq opcode 0x63 then branch_row f word i else Outside
+-- STORE
+effect (S opcode funct3) f word i = if nat_eq opcode 0x23 then store_row f word i else Outside
+-- OP-IMM, LOAD and JALR
+effect (I opcode funct3) f word i =
+    if nat_eq opcode 0x13 then immediate_row f word i
+    else if nat_eq opcode 0x03 then load_row f word i
+    else if nat_eq opcode 0x67 then jump_register_row f word i
+    else Outside
+-- OP-IMM
+effect (Shift opcode funct3 funct7) f word i = if nat_eq opcode 0x13 then immediate_row f word i else Outside
+-- OP
+effect (R opcode funct3 funct7) f word i = if nat_eq opcode 0x33 then register_row f word i else Outside
+-- MISC-MEM
+effect (FenceSets opcode funct3) f word i = if nat_eq opcode 0x0f then fence_row f word i else Outside
+effect _ f word i = Outside
 
 unfoldable pub instruction : Fixed → ℕ → Option Instr → Script Change
 instruction f word None = Outside
-instruction f word (Some i) = row f word i.op i
+instruction f word (Some i) = effect (row_of i.op) f word i
 
 -- one whole instruction: its fetch, and what the fetched word does
 unfoldable pub script : Fixed → Script Change
 script f =
-    if is_bare f.privilege f.satp && f.ram f.pc
+    if is_bare f.privilege f.satp && f.ram (f.pc / 4)
     then (do
       word ← read Fetched f.pc 4
       instruction f word (decoded word))

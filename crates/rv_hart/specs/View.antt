@@ -1,16 +1,16 @@
 -- The code's harts and answers as the machine's.
-use Rattle.std.specs.Prelude.{ℕ, Bool, true, false, nat_eq, List, [], ◌∷◌, Option, Some, None, slice_index_or, position}
+use Rattle.std.specs.Prelude.{ℕ, ◌/◌, nat_eq, List, [], ◌∷◌, Option, Some, None, slice_index_or, position}
+use Rattle.rv_mem.specs.declared.words.Seen.{Seen}
+use Rattle.rv_mem.specs.Seen.{known_word, is_there}
 use Rattle.rv_script.specs.declared.access.Access.{Access}
 use Rattle.rv_script.specs.declared.place.Place.TheVariants.{Reg, Csr, Word}
 use Rattle.rv_script.specs.Folds.{Known, Answer, Answer.Does as DoesSo, Answer.Missing as Lacks, Answer.Nowhere}
 use Rattle.rv_hart.specs.declared.hart.Hart.{Hart}
-use Rattle.rv_hart.specs.declared.memory.Seen.{Seen}
-use Rattle.rv_hart.specs.declared.memory.Seen.TheVariants.{Known as KnownWord, Vacant}
 use Rattle.rv_hart.specs.declared.record.Change.{Change}
 use Rattle.rv_hart.specs.declared.record.Stepped.{Stepped}
 use Rattle.rv_hart.specs.declared.record.Stepped.TheVariants.{Did, Missing, Outside}
-use Rattle.rv_hart.specs.declared.stepping.Looked.{Looked}
-use Rattle.rv_hart.specs.declared.stepping.Looked.TheVariants.{Does, Missing as LooksMissing, Outside as LooksOutside}
+use Rattle.rv_hart.specs.declared.looked.Looked.{Looked}
+use Rattle.rv_hart.specs.declared.looked.Looked.TheVariants.{Does, Missing as LooksMissing, Outside as LooksOutside}
 use Rattle.rv_hart.specs.Registers.{written}
 use Rattle.rv_hart.specs.Machine.{Fixed}
 use Rattle.rv_hart.specs.Whole.{record_of}
@@ -23,19 +23,11 @@ abbrev pub at_position : List (Option ℕ) → Option ℕ → Option ℕ
 at_position values None = None
 at_position values (Some i) = slice_index_or values i None
 
-abbrev pub known_word : Seen → Option ℕ
-known_word (KnownWord w) = Some w
-known_word _ = None
-
-abbrev pub is_there : Seen → Bool
-is_there Vacant = false
-is_there _ = true
-
--- what is known of a hart and of memory
+-- what is known of a hart and of memory, whose words go by their numbers
 abbrev pub known : Hart → (ℕ → Seen) → Known
 known h at (Reg n) = slice_index_or h.regs n None
 known h at (Csr addr) = at_position h.csrs.lazy (position (λ a. nat_eq a addr) lazy_csrs)
-known h at (Word addr) = known_word (at addr)
+known h at (Word addr) = known_word (at (addr / 4))
 
 abbrev pub fixed_of : Hart → (ℕ → Seen) → Fixed
 fixed_of h at = record {
@@ -45,7 +37,7 @@ fixed_of h at = record {
   medeleg = h.csrs.medeleg;
   satp = h.csrs.satp;
   number = h.csrs.hart;
-  ram = λ a. is_there (at a);
+  ram = λ n. is_there (at n);
 }
 
 abbrev pub looked : List Access → Looked → Answer Access Change
@@ -66,3 +58,8 @@ pc_after _ pc = pc
 abbrev pub regs_after : Stepped → List (Option ℕ) → List (Option ℕ)
 regs_after (Did r) regs = written r.rd regs
 regs_after _ regs = regs
+
+abbrev pub accesses_in : Stepped → List Access
+accesses_in (Did r) = r.accesses
+accesses_in (Missing place) = []
+accesses_in Outside = []

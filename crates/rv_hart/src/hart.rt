@@ -2,8 +2,9 @@
 ghost use Rattle.std.specs.Prelude.{◌≡◌, ◌<◌, ◌%◌, slice_get, slice_index_or, Some, None};
 ghost use Rattle.rv_hart.specs.Registers.{no_registers, no_csrs, written};
 ghost use Rattle.rv_hart.specs.Changes.{IsSoundChange};
+ghost use Rattle.rv_hart.specs.Clauses.{change_of};
 
-use crate::{Change, Csrs, Priv};
+use crate::{Csrs, Priv, Record};
 
 /// The state of a hart. A register or lazy CSR is None as long as no value was given to it.
 #[derive(Drop)]
@@ -52,15 +53,15 @@ impl Hart {
     }
 
     /// Goes on to where a step leads, with the register that it wrote.
-    pub(crate) fn take(&mut self, change: &Change)
-        requires { IsSoundChange change.now }
-        ensures pc { self.new.pc ≡ change.now.next_pc }
+    pub(crate) fn take(&mut self, record: &Record)
+        requires { IsSoundChange (change_of record.now) }
+        ensures pc { self.new.pc ≡ record.now.next_pc }
         ensures privilege { self.new.privilege ≡ self.old.privilege }
-        ensures regs { self.new.regs ≡ written change.now.rd self.old.regs }
+        ensures regs { self.new.regs ≡ written record.now.rd self.old.regs }
         ensures csrs { self.new.csrs ≡ self.old.csrs }
     {
-        self.pc = change.next_pc;
-        if let Some((n, value)) = change.rd {
+        self.pc = record.next_pc;
+        if let Some((n, value)) = record.rd {
             self.regs[n as usize] = Some(value);
         }
     }

@@ -3,16 +3,21 @@
 #![tactic(auto)]
 
 mod csrs;
+mod data;
 mod hart;
-mod memory;
+mod laws;
+mod looked;
 mod record;
+mod rows;
 mod stepping;
+mod storing;
 #[cfg(test)]
 mod tests;
 
 pub use csrs::{Csrs, Priv};
 pub use hart::Hart;
-pub use memory::{Seen, Words};
+pub use laws::branch_law;
 pub use record::{Change, Outcome, Record, Stepped};
+pub use rv_mem::{Mem, Seen, Words};
 pub use rv_script::{Access, Accesses, Place, Role};
-pub use stepping::step;
+pub use stepping::{look, step};

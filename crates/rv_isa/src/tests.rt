@@ -171,6 +171,38 @@ fn computes_as_the_manual_says(rt: HostRuntime) {
         ),
         (7, 0, [7, 7, 7, 0, 0, 7, 7, 7, 7, 0]),
         (
+            0x7fff_ffff,
+            0x20,
+            [
+                0x8000_001f,
+                0x7fff_ffdf,
+                0x7fff_ffff,
+                0,
+                0,
+                0x7fff_ffdf,
+                0x7fff_ffff,
+                0x7fff_ffff,
+                0x7fff_ffff,
+                0x20,
+            ],
+        ),
+        (
+            0x8000_0001,
+            0x1f,
+            [
+                0x8000_0020,
+                0x7fff_ffe2,
+                0x8000_0000,
+                1,
+                0,
+                0x8000_001e,
+                1,
+                0xffff_ffff,
+                0x8000_001f,
+                1,
+            ],
+        ),
+        (
             0xffff_ffff,
             0xffff_ffff,
             [

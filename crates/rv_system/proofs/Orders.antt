@@ -16,7 +16,8 @@ use Rattle.rv_hart.specs.declared.record.Record.{Record}
 use Rattle.rv_hart.specs.Machine.{Fixed, script}
 use Rattle.rv_hart.specs.Whole.{WholeHart, csr_key, sight_of, Step, sighted_step_of, step_of, needed_places, hart_after}
 use Rattle.tpl_admit.specs.System.{System, replaced, moved, run_of, of_hart, times}
-use Rattle.tpl_admit.specs.Races.{footprint_of, IsRaceFree}
+use Rattle.foot_map.specs.Races.{IsRaceFree}
+use Rattle.tpl_admit.specs.Races.{footprint_of, footprints_of}
 use Rattle.tpl_admit.specs.Solo.{is_set, knows_also}
 use Rattle.tpl_admit.specs.Validity.{in_turn}
 use Rattle.rv_system.proofs.Steps.{step_local, planned_accesses, entry_access, entry_place}
@@ -160,7 +161,7 @@ pub record Setting : Type 0 where
   pub ends : ℕ → End
 
 pub record Good (w : Setting) : Type 0 where
-  pub race_free : IsRaceFree w.traces
+  pub race_free : IsRaceFree (footprints_of w.traces)
   pub origin : (n : ℕ) → is_some (w.words n) ≡ true → w.first.memory n ≡ w.origin n
 
 abbrev pub FollowsAt : Setting → ℕ → WholeHart → Alone → Type 0
@@ -192,7 +193,7 @@ in_next w s alone i k l r rs e x h =
     (has_right (alone k).did (footprint_of (r ∷ rs)) x (has_left r.accesses (footprint_of rs) x h))
 
 -- accesses of two harts fit
-fit : (traces : ℕ → List Record) → IsRaceFree traces → (j k : ℕ) → j ≢ k → (x y : Access) → HasItem (footprint_of (traces j)) x → HasItem (footprint_of (traces k)) y → Fits x y
+fit : (traces : ℕ → List Record) → IsRaceFree (footprints_of traces) → (j k : ℕ) → j ≢ k → (x y : Access) → HasItem (footprint_of (traces j)) x → HasItem (footprint_of (traces k)) y → Fits x y
 fit traces free j k ne x y hx hy = λ b t u. (free.harts j k ne x y hx hy (b, t, u), free.harts k j (λ e. ne (sym e)) y x hy hx (b, u, t))
 
 -- for what this hart looks at next, the sight is as good as memory

@@ -30,6 +30,6 @@ pub record TakesPrefix (old new : Option (List ℕ)) (before after : Option ℕ)
   pub appended : Appends old new (take count text)
   pub used : RoomFalls before after count
 
--- the whole text was appended; or a front of it, and then one write failed, and nothing was taken after it
+-- the whole text was appended, and no write failed; or a front of it, and then one write failed, and nothing was taken after it
 abbrev pub Tells : Option (List ℕ) → Option (List ℕ) → List ℕ → Option ℕ → ℕ → ℕ → Type 0
-Tells old new text fault_at before now = Appends old new text ⊎ (GrowsByPrefix old new text × EndsAtFault new fault_at before now × Rose before now)
+Tells old new text fault_at before now = (Appends old new text × (now ≡ before)) ⊎ (GrowsByPrefix old new text × EndsAtFault new fault_at before now × Rose before now)

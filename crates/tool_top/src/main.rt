@@ -1,4 +1,4 @@
-//! The program testgen: from a template on standard input to an ELF file on standard output and its report on standard error. `run` is the top call,
+//! The program testgen: from a template on standard input to an ELF file on standard output and its report on standard error, and from a file to the verdict on it. `run` is the top call,
 //! over any source and any sinks, and carries the promise of the whole tool.
 #![tactic(auto)]
 

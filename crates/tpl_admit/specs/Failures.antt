@@ -2,17 +2,19 @@
 --   1, 2 or 3 of a step of a hart that is run alone: the record isn't the machine's; a place that the step needs was neither given nor
 --     written; the machine has no step
 --   4 of the end: a hart, or memory, isn't as printed
---   5 of the accesses: they race
+--   5 of a record's accesses: they race with those of an earlier record, or among themselves
 --   6 of the template: it doesn't admit the trace
-use Rattle.std.specs.Prelude.{◌≡◌, ◌≢◌, ℕ, ◌+◌, ◌/◌, ◌<◌, ◌⊎◌, Bool, true, false, if◌then◌else◌, List, [], ◌∷◌, length, map, Option, Some, None}
+use Rattle.std.specs.Prelude.{◌≡◌, ◌≢◌, ℕ, ◌+◌, ◌/◌, ◌<◌, ◌⊎◌, Bool, true, false, nat_eq, nat_lt, if◌then◌else◌, List, [], ◌∷◌, length, map, take, Option, Some, None}
+use Rattle.rv_script.specs.declared.access.Access.{Access}
 use Rattle.rv_script.specs.declared.place.Place.{Place}
 use Rattle.rv_script.specs.Lists.{HasItem}
 use Rattle.rv_script.specs.Memory.{memory_after}
+use Rattle.foot_map.specs.Races.{IsRaceFree}
 use Rattle.rv_hart.specs.declared.record.Record.{Record}
 use Rattle.rv_hart.specs.Whole.{WholeHart, Step, step_of, needed_places, hart_after}
 use Rattle.tpl_admit.specs.declared.certificate.Cert.{Cert}
 use Rattle.tpl_admit.specs.Starts.{found, start_of, final_of, trace_of, word_of, fixed_in, first_hart, first_memory, is_given}
-use Rattle.tpl_admit.specs.Races.{footprint_of, IsRaceFree}
+use Rattle.tpl_admit.specs.Races.{footprint_of, footprints_of}
 use Rattle.tpl_admit.specs.Solo.{solo_run, is_set, knows_also, knows_after}
 use Rattle.tpl_admit.specs.Validity.{in_turn}
 use Rattle.tpl_admit.specs.Unmet.{IsLeastFailure}
@@ -62,7 +64,7 @@ pub record EndsAsTold (c : Cert) (k : ℕ) : Type 0 where
 
 -- the given words end as is printed
 abbrev pub MemoryEndsAsTold : Cert → Type 0
-MemoryEndsAsTold c = map (λ w. in_turn (length c.start) (λ k. footprint_of (trace_of c k)) (first_memory c) (w.0 / 4)) c.words ≡ c.last
+MemoryEndsAsTold c = map (λ w. in_turn (length c.start) (footprints_of (trace_of c)) (first_memory c) (w.0 / 4)) c.words ≡ c.last
 
 abbrev pub AllAreRight : Cert → Type 0
 AllAreRight c = (k : ℕ) → k < length c.start → HartIsRight c k
@@ -94,17 +96,38 @@ pub record FailsInMemory (c : Cert) (kind hart step : ℕ) : Type 0 where
   pub hart_is : hart ≡ length c.start
   pub step_is : step ≡ 0
 
+-- the accesses of the harts before one, and of so many of its own records
+abbrev pub did_before : Cert → ℕ → ℕ → ℕ → List Access
+did_before c hart count k =
+    if nat_lt k hart then footprint_of (trace_of c k)
+    else (if nat_eq k hart then footprint_of (take count (trace_of c k)) else [])
+
+-- the accesses before a record don't race, and with those of the record they do
+pub record RacesFrom (c : Cert) (hart step : ℕ) : Type 0 where
+  pub there : hart < length c.start
+  pub at : step < length (trace_of c hart)
+  pub before : IsRaceFree (did_before c hart step)
+  pub races : IsRaceFree (did_before c hart (step + 1)) → ⊥
+
+-- all that is right, and the accesses race from this record on, harts in ascending order
+pub record FailsInRace (c : Cert) (kind hart step : ℕ) : Type 0 where
+  pub steps : AllAreRight c
+  pub ends : AllEndAsTold c
+  pub memory : MemoryEndsAsTold c
+  pub kind_is : kind ≡ 5
+  pub from : RacesFrom c hart step
+
 -- all that is right, and the template doesn't admit the trace
 pub record FailsTemplate (c : Cert) (kind hart step : ℕ) : Type 0 where
   pub steps : AllAreRight c
   pub ends : AllEndAsTold c
   pub memory : MemoryEndsAsTold c
-  pub race_free : IsRaceFree (trace_of c)
+  pub race_free : IsRaceFree (footprints_of (trace_of c))
   pub kind_is : kind ≡ 6
   pub atom : ℕ
   pub least : IsLeastFailure c hart step atom
 
--- the first failure. Accesses can't race as long as the machine's steps don't store
+-- the first failure
 abbrev pub IsFirstFailure : Cert → ℕ → ℕ → ℕ → Type 0
 IsFirstFailure c kind hart step =
-    FailsInStep c kind hart step ⊎ (FailsAtEnd c kind hart step ⊎ (FailsInMemory c kind hart step ⊎ FailsTemplate c kind hart step))
+    FailsInStep c kind hart step ⊎ (FailsAtEnd c kind hart step ⊎ (FailsInMemory c kind hart step ⊎ (FailsInRace c kind hart step ⊎ FailsTemplate c kind hart step)))

@@ -61,7 +61,7 @@ fixed_in ram k s = record {
   medeleg = s.medeleg;
   satp = s.satp;
   number = k;
-  ram = is_in ram;
+  ram = λ n. is_in ram (n * 4);
 }
 
 -- a hart has these fixed parts, and the values that are given

@@ -2,9 +2,10 @@
 use Rattle.std.specs.Prelude.{◌≡◌, ℕ, zero, suc, ◌/◌, ◌<◌, if◌then◌else◌, List, length, map, Some, None}
 use Rattle.rv_script.specs.declared.access.Access.{Access}
 use Rattle.rv_script.specs.Memory.{memory_after}
+use Rattle.foot_map.specs.Races.{IsRaceFree}
 use Rattle.tpl_admit.specs.declared.certificate.Cert.{Cert}
 use Rattle.tpl_admit.specs.Starts.{found, ArePlaces, AreStartWords, start_of, final_of, trace_of, fixed_in, first_memory, is_given}
-use Rattle.tpl_admit.specs.Races.{footprint_of, IsRaceFree}
+use Rattle.tpl_admit.specs.Races.{footprints_of}
 use Rattle.tpl_admit.specs.Solo.{solo_run, IsInitialised, knows_after}
 use Rattle.tpl_admit.specs.Admission.{Admits}
 
@@ -29,9 +30,9 @@ pub record IsSound (c : Cert) : Type 0 where
   pub final_places : (k : ℕ) → ArePlaces 0 (final_of c k).places
   pub words : AreStartWords c.template.ram 0 c.words
   pub harts : (k : ℕ) → k < length c.start → IsHartValid c k
-  pub race_free : IsRaceFree (trace_of c)
+  pub race_free : IsRaceFree (footprints_of (trace_of c))
   -- the given words with all stores applied
-  pub last : map (λ w. in_turn (length c.start) (λ k. footprint_of (trace_of c k)) (first_memory c) (w.0 / 4)) c.words ≡ c.last
+  pub last : map (λ w. in_turn (length c.start) (footprints_of (trace_of c)) (first_memory c) (w.0 / 4)) c.words ≡ c.last
 
 -- that, and the template admits the trace
 pub record IsValid (c : Cert) : Type 0 where

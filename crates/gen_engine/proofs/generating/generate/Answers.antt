@@ -1,10 +1,11 @@
-use Rattle.std.proofs.Common.{List, map, sym, ap, subst, ◌∙◌, ◌≤◌, ◌+◌, ◌*◌, length}
+use Rattle.std.proofs.Common.{ℕ, List, map, sym, ap, subst, ◌∙◌, ◌≤◌, ◌+◌, ◌*◌, length}
 use Rattle.tpl_parse.specs.declared.template.Leaf.{Leaf}
 use Rattle.tpl_admit.specs.declared.certificate.Cert.{Cert}
 use Rattle.tpl_admit.specs.Sizes.{certificate_size}
 use Rattle.tpl_admit.specs.Validity.{IsValid}
 use Rattle.tpl_admit.specs.WellFormed.{IsWellFormed}
 use Rattle.gen_engine.specs.Plan.{leaf_word}
+use Rattle.gen_engine.specs.Code.{code_at}
 use Rattle.gen_engine.specs.Given.{GivesCodeAlone}
 use Rattle.rv_system.proofs.Law.{faithful}
 use Rattle.gen_engine.proofs.Files.{planned_well_formed}
@@ -12,9 +13,11 @@ use Rattle.gen_engine.proofs.Validity.{planned_valid, planned_gives, planned_siz
 use Rattle.gen_engine.proofs.generating.generate.Goals as goal
 
 pub records_of-requires : goal.records_of-requires
-records_of-requires c =
-    first_ready c.args.template c.new-hart.result c.in_ok-words.words.items c.as_slice-2.result.now c.requires.allowed c.new-hart.ensures.pc c.new-hart.ensures.privilege c.new-hart.ensures.regs c.as_slice-2.ensures
-    (c.in_ok-words.ensures ∙ ap (λ (ls : List Leaf). map leaf_word ls) (c.as_slice.ensures ∙ sym c.as_slice-2.ensures))
+records_of-requires c = (
+  c.args.template.ram,
+  first_ready c.args.template c.new-hart.result _ c.in_ok-words.words.items c.as_slice-2.result.now c.requires.allowed c.new-hart.ensures.pc c.new-hart.ensures.privilege c.new-hart.ensures.regs c.as_slice-2.ensures
+      (c.in_ok-words.ensures ∙ ap (λ (ls : List Leaf). map leaf_word ls) (c.as_slice.ensures ∙ sym c.as_slice-2.ensures)) (λ n. c.in_ok-memory.ensures n ∙ ap (λ (ws : List ℕ). code_at c.args.template.ram c.args.template.start_pc ws n) c.deref.ensures.value),
+)
 
 pub returns-clause-exact : goal.returns-clause-exact
 returns-clause-exact c =

@@ -1,0 +1,5 @@
+pub mod Orders
+pub mod Members
+pub mod Finding
+pub mod Races
+pub mod Masks

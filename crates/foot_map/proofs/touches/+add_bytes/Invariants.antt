@@ -1,0 +1,4 @@
+use Rattle.foot_map.proofs.touches.+add_bytes.Given as goal
+
+abbrev pub decreases-add_bytes : goal.decreases-add_bytes
+decreases-add_bytes l = l.len

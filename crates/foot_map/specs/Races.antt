@@ -1,0 +1,56 @@
+-- Which accesses race.
+use Rattle.std.specs.Prelude.{◌≡◌, ◌≢◌, ℕ, ◌+◌, ◌<◌, ◌≤◌, ◌⊎◌, Bool, true, false, not, nat_eq, if◌then◌else◌, List, [], ◌∷◌, ◌++◌, ◌↔◌}
+use Rattle.rv_script.specs.declared.access.Access.{Access}
+use Rattle.rv_script.specs.declared.access.Role.{Role}
+use Rattle.rv_script.specs.declared.access.Role.TheVariants.{Fetch, Walk, Load, Store}
+use Rattle.rv_script.specs.Lists.{HasItem}
+use Rattle.rv_script.specs.Bytes.{covers, is_look}
+use Rattle.foot_map.specs.declared.touch.Touch.{Touch}
+use Rattle.foot_map.specs.declared.clash.Clash.{Clash}
+use Rattle.foot_map.specs.Order.{rank}
+use Rattle.foot_map.specs.Touches.{has}
+
+-- two roles on one byte break race-freedom: by one hart (true) or by two (false)
+abbrev pub breaks : Bool → Role → Role → Bool
+breaks same Store Store = not same
+breaks same Store Load = not same
+breaks same Load Store = not same
+breaks same Store _ = true
+breaks same _ Store = true
+breaks same _ _ = false
+
+-- both touch some byte
+abbrev pub Meet : Access → Access → Type 0
+Meet x y = (b : ℕ) × (covers x b ≡ true) × (covers y b ≡ true)
+
+-- the byte is fetched or walked
+abbrev pub is_code : Role → Bool
+is_code Fetch = true
+is_code Walk = true
+is_code _ = false
+
+-- of the accesses that each hart did
+pub record IsRaceFree (did : ℕ → List Access) : Type 0 where
+  -- no byte that one hart stores is in the footprint of another
+  pub harts : (j k : ℕ) → j ≢ k → (x y : Access) → HasItem (did j) x → HasItem (did k) y → Meet x y → is_look x.role ≡ true
+  -- no byte that any hart stores is fetched or walked by any hart
+  pub code : (j k : ℕ) (x y : Access) → HasItem (did j) x → HasItem (did k) y → is_code y.role ≡ true → Meet x y → is_look x.role ≡ true
+
+-- the set is exactly the bytes of these accesses, with their harts and roles
+abbrev pub IsFootprint : List Touch → (ℕ → List Access) → Type 0
+IsFootprint touches did = (b h : ℕ) (r : Role) → (has touches b h r ≡ true) ↔ ((x : Access) × HasItem (did h) x × (x.role ≡ r) × (covers x b ≡ true))
+
+-- one access more of a hart
+abbrev pub with_access : (ℕ → List Access) → ℕ → Access → ℕ → List Access
+with_access did k x j = if nat_eq j k then did k ++ x ∷ [] else did j
+
+-- a triple of the set that breaks with one that an access would add: hart, role, address, length
+pub record IsClash (touches : List Touch) (hart : ℕ) (role : Role) (addr len : ℕ) (c : Clash) : Type 0 where
+  pub held : has touches c.byte c.hart c.role ≡ true
+  pub from : addr ≤ c.byte
+  pub below : c.byte < addr + len
+  pub broken : breaks (nat_eq c.hart hart) c.role role ≡ true
+
+-- in the order of byte, hart and role
+abbrev pub IsNotAfter : Clash → Clash → Type 0
+IsNotAfter c d = (c.byte < d.byte) ⊎ ((c.byte ≡ d.byte) × ((c.hart < d.hart) ⊎ ((c.hart ≡ d.hart) × (rank c.role ≤ rank d.role))))

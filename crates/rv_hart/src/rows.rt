@@ -1,0 +1,237 @@
+// What instructions do, row by row of the table of encodings.
+ghost use Rattle.std.specs.Prelude.{◌≡◌, ◌<◌, All, IsTrue, length};
+ghost use Rattle.rv_script.specs.Folds.{answer_on, prefixed};
+ghost use Rattle.rv_isa.specs.Arithmetic.{is_alu, is_branch};
+ghost use Rattle.rv_isa.specs.Reading.{decoded};
+ghost use Rattle.rv_isa.specs.Table.{row_of};
+ghost use Rattle.rv_isa.specs.Encoding.{IsInRange};
+ghost use Rattle.rv_hart.specs.Machine.{instruction, immediate_row, register_row, upper_row, upper_pc_row, jump_row, jump_register_row, branch_row, load_row, load_from, store_row, store_to, fence_row, is_taken, effect};
+ghost use Rattle.rv_hart.specs.View.{known, fixed_of, looked};
+ghost use Rattle.rv_hart.specs.Effects.{IsInWord};
+ghost use Rattle.rv_hart.specs.Clauses.{IsSound};
+
+use crate::data::{extend, is_direct, low_bytes, part, size_of, word_of};
+use crate::looked::{Looked, jump, rd_of, retire};
+use crate::{Hart, Seen, Words};
+use rv_isa::{Instr, Op, alu, decode, taken};
+use rv_script::{Access, Accesses, Place, Role};
+
+/// An operation on a register and an immediate.
+#[tactic(auto, using(crate::proofs::Prefixes::prefixed_none), unfolding(crate::specs::Machine::immediate_row))]
+fn immediate<M: Words>(h: &Hart, m: &M, word: u32, i: &Instr, log: &Accesses) -> Looked
+    requires alu { IsTrue (is_alu i.now.op) }
+    requires ranges { IsInRange i.now }
+    ensures sound { IsSound result }
+    ensures answer { looked log.now result ≡ prefixed log.now (answer_on (known h.now (M.at m.now)) (immediate_row (fixed_of h.now (M.at m.now)) word i.now)) }
+{
+    match h.register(i.rs1) {
+        None => Looked::Missing(Place::Reg(i.rs1)),
+        Some(a) => Looked::Does(retire(h.pc, word, rd_of(i.rd, alu(i.op, a, i.imm)))),
+    }
+}
+
+/// An operation on two registers.
+#[tactic(auto, using(crate::proofs::Prefixes::prefixed_none), unfolding(crate::specs::Machine::register_row))]
+fn registers<M: Words>(h: &Hart, m: &M, word: u32, i: &Instr, log: &Accesses) -> Looked
+    requires alu { IsTrue (is_alu i.now.op) }
+    requires ranges { IsInRange i.now }
+    ensures sound { IsSound result }
+    ensures answer { looked log.now result ≡ prefixed log.now (answer_on (known h.now (M.at m.now)) (register_row (fixed_of h.now (M.at m.now)) word i.now)) }
+{
+    let Some(a) = h.register(i.rs1) else {
+        return Looked::Missing(Place::Reg(i.rs1));
+    };
+    let Some(b) = h.register(i.rs2) else {
+        return Looked::Missing(Place::Reg(i.rs2));
+    };
+    Looked::Does(retire(h.pc, word, rd_of(i.rd, alu(i.op, a, b))))
+}
+
+/// A jump to a register's value and the immediate.
+#[tactic(auto, using(crate::proofs::Prefixes::prefixed_none), unfolding(crate::specs::Machine::jump_register_row))]
+fn jump_register<M: Words>(h: &Hart, m: &M, word: u32, i: &Instr, log: &Accesses) -> Looked
+    requires { IsInRange i.now }
+    ensures sound { IsSound result }
+    ensures answer { looked log.now result ≡ prefixed log.now (answer_on (known h.now (M.at m.now)) (jump_register_row (fixed_of h.now (M.at m.now)) word i.now)) }
+{
+    match h.register(i.rs1) {
+        None => Looked::Missing(Place::Reg(i.rs1)),
+        Some(a) => {
+            let target = a.wrapping_add(i.imm);
+            jump(word, rd_of(i.rd, h.pc.wrapping_add(4)), target - target % 2)
+        }
+    }
+}
+
+/// Whether a branch goes to its target.
+#[tactic(auto, using(crate::proofs::Branches::decided))]
+fn decide(op: Op, a: u32, b: u32) -> bool
+    requires { IsTrue (is_branch op) }
+    ensures { result ≡ is_taken op a b }
+{
+    taken(op, a, b)
+}
+
+/// A branch.
+#[tactic(auto, using(crate::proofs::Prefixes::prefixed_none), unfolding(crate::specs::Machine::branch_row))]
+fn branch<M: Words>(h: &Hart, m: &M, word: u32, i: &Instr, log: &Accesses) -> Looked
+    requires branch { IsTrue (is_branch i.now.op) }
+    requires ranges { IsInRange i.now }
+    ensures sound { IsSound result }
+    ensures answer { looked log.now result ≡ prefixed log.now (answer_on (known h.now (M.at m.now)) (branch_row (fixed_of h.now (M.at m.now)) word i.now)) }
+{
+    let Some(a) = h.register(i.rs1) else {
+        return Looked::Missing(Place::Reg(i.rs1));
+    };
+    let Some(b) = h.register(i.rs2) else {
+        return Looked::Missing(Place::Reg(i.rs2));
+    };
+    if decide(i.op, a, b) {
+        jump(word, None, h.pc.wrapping_add(i.imm))
+    } else {
+        Looked::Does(retire(h.pc, word, None))
+    }
+}
+
+/// A load from an address.
+fn load_at<M: Words>(h: &Hart, m: &M, word: u32, i: &Instr, addr: u32, log: &mut Accesses) -> Looked
+    requires rd { i.now.rd < 32 }
+    requires room { length log.old < 8 }
+    ensures sound { IsSound result }
+    ensures words { All IsInWord log.old → All IsInWord log.new }
+    ensures answer { looked log.new result ≡ prefixed log.old (answer_on (known h.now (M.at m.now)) (load_from (fixed_of h.now (M.at m.now)) word i.now addr)) }
+{
+    let size = size_of(i.op);
+    if !is_direct(h, m, addr, size) {
+        return Looked::Outside;
+    }
+    match word_of(m, addr) {
+        Seen::Vacant => Looked::Outside,
+        Seen::Untouched => Looked::Missing(Place::Word(addr - addr % 4)),
+        Seen::Known(data) => {
+            let value = part(data, addr, size);
+            log.push(Access {
+                role: Role::Load,
+                addr,
+                size,
+                value,
+            });
+            Looked::Does(retire(h.pc, word, rd_of(i.rd, extend(i.op, value))))
+        }
+    }
+}
+
+/// A load.
+#[tactic(auto, unfolding(crate::specs::Machine::load_row))]
+fn load<M: Words>(h: &Hart, m: &M, word: u32, i: &Instr, log: &mut Accesses) -> Looked
+    requires ranges { IsInRange i.now }
+    requires room { length log.old < 8 }
+    ensures sound { IsSound result }
+    ensures words { All IsInWord log.old → All IsInWord log.new }
+    ensures answer { looked log.new result ≡ prefixed log.old (answer_on (known h.now (M.at m.now)) (load_row (fixed_of h.now (M.at m.now)) word i.now)) }
+{
+    match h.register(i.rs1) {
+        None => Looked::Missing(Place::Reg(i.rs1)),
+        Some(a) => load_at(h, m, word, i, a.wrapping_add(i.imm), log),
+    }
+}
+
+/// A store of a value's low bytes at an address.
+fn store_at<M: Words>(
+    h: &Hart,
+    m: &M,
+    word: u32,
+    i: &Instr,
+    addr: u32,
+    value: u32,
+    log: &mut Accesses,
+) -> Looked
+    requires { length log.old < 8 }
+    ensures sound { IsSound result }
+    ensures words { All IsInWord log.old → All IsInWord log.new }
+    ensures answer { looked log.new result ≡ prefixed log.old (answer_on (known h.now (M.at m.now)) (store_to (fixed_of h.now (M.at m.now)) word i.now addr value)) }
+{
+    let size = size_of(i.op);
+    if !is_direct(h, m, addr, size) {
+        return Looked::Outside;
+    }
+    let seen = word_of(m, addr);
+    match seen {
+        Seen::Vacant => Looked::Outside,
+        Seen::Untouched => Looked::Missing(Place::Word(addr - addr % 4)),
+        Seen::Known(_) => {
+            log.push(Access {
+                role: Role::Store,
+                addr,
+                size,
+                value: low_bytes(value, size),
+            });
+            Looked::Does(retire(h.pc, word, None))
+        }
+    }
+}
+
+/// A store.
+#[tactic(auto, unfolding(crate::specs::Machine::store_row))]
+fn store<M: Words>(h: &Hart, m: &M, word: u32, i: &Instr, log: &mut Accesses) -> Looked
+    requires ranges { IsInRange i.now }
+    requires room { length log.old < 8 }
+    ensures sound { IsSound result }
+    ensures words { All IsInWord log.old → All IsInWord log.new }
+    ensures answer { looked log.new result ≡ prefixed log.old (answer_on (known h.now (M.at m.now)) (store_row (fixed_of h.now (M.at m.now)) word i.now)) }
+{
+    let Some(a) = h.register(i.rs1) else {
+        return Looked::Missing(Place::Reg(i.rs1));
+    };
+    let Some(b) = h.register(i.rs2) else {
+        return Looked::Missing(Place::Reg(i.rs2));
+    };
+    store_at(h, m, word, i, a.wrapping_add(i.imm), b, log)
+}
+
+/// What an instruction does.
+#[tactic(auto, using(crate::proofs::Prefixes::prefixed_none), unfolding(crate::specs::Machine::upper_row, crate::specs::Machine::upper_pc_row, crate::specs::Machine::jump_row, crate::specs::Machine::fence_row))]
+fn perform<M: Words>(h: &Hart, m: &M, word: u32, i: &Instr, log: &mut Accesses) -> Looked
+    requires ranges { IsInRange i.now }
+    requires room { length log.old < 8 }
+    ensures sound { IsSound result }
+    ensures words { All IsInWord log.old → All IsInWord log.new }
+    ensures answer { looked log.new result ≡ prefixed log.old (answer_on (known h.now (M.at m.now)) (effect (row_of i.now.op) (fixed_of h.now (M.at m.now)) word i.now)) }
+{
+    match i.op {
+        Op::Lui => Looked::Does(retire(h.pc, word, rd_of(i.rd, i.imm))),
+        Op::Auipc => Looked::Does(retire(h.pc, word, rd_of(i.rd, h.pc.wrapping_add(i.imm)))),
+        Op::Fence => Looked::Does(retire(h.pc, word, None)),
+        Op::Jal => {
+            let rd = rd_of(i.rd, h.pc.wrapping_add(4));
+            jump(word, rd, h.pc.wrapping_add(i.imm))
+        }
+        Op::Jalr => jump_register(h, m, word, i, log),
+        Op::Beq | Op::Bne | Op::Blt | Op::Bge | Op::Bltu | Op::Bgeu => branch(h, m, word, i, log),
+        Op::Lb | Op::Lh | Op::Lw | Op::Lbu | Op::Lhu => load(h, m, word, i, log),
+        Op::Sb | Op::Sh | Op::Sw => store(h, m, word, i, log),
+        Op::Addi | Op::Slti | Op::Sltiu | Op::Xori | Op::Ori | Op::Andi => immediate(
+            h, m, word, i, log,
+        ),
+        Op::Slli | Op::Srli | Op::Srai => immediate(h, m, word, i, log),
+        Op::Add | Op::Sub | Op::Sll | Op::Slt | Op::Sltu => registers(h, m, word, i, log),
+        Op::Xor | Op::Srl | Op::Sra | Op::Or | Op::And => registers(h, m, word, i, log),
+        Op::Mul | Op::Mulh | Op::Mulhsu | Op::Mulhu => registers(h, m, word, i, log),
+        Op::Div | Op::Divu | Op::Rem | Op::Remu => registers(h, m, word, i, log),
+        _ => Looked::Outside,
+    }
+}
+
+/// What the instruction word does.
+#[tactic(auto, unfolding(crate::specs::Machine::instruction))]
+pub fn execute<M: Words>(h: &Hart, m: &M, word: u32, log: &mut Accesses) -> Looked
+    requires { length log.old < 8 }
+    ensures sound { IsSound result }
+    ensures words { All IsInWord log.old → All IsInWord log.new }
+    ensures answer { looked log.new result ≡ prefixed log.old (answer_on (known h.now (M.at m.now)) (instruction (fixed_of h.now (M.at m.now)) word (decoded word))) }
+{
+    match decode(word) {
+        Some(i) => perform(h, m, word, &i, log),
+        None => Looked::Outside,
+    }
+}

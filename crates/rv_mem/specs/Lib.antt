@@ -1,0 +1,5 @@
+pub mod Ram
+pub mod Seen
+pub mod Bytes
+pub mod Full
+pub mod Part
