@@ -123,11 +123,13 @@ IsLate bytes k = ((k ≡ 5) × ((u : UpToRecords bytes) × LacksTemplate u)) ⊎
 same_err : (j k : ℕ) → j ≡ k → ◌≡◌ {A = Result FrontParts ℕ} (Err k) (Err j)
 same_err j k e = ap (λ (n : ℕ). Err n) (sym e)
 
+-- where there is no head, none is read
+pub no_head : (bytes : List ℕ) → IsBytes bytes → LacksHead bytes → sized_header_at bytes ≡ None
+no_head bytes fits missing = lacks (sized_header_at bytes) (λ x s. missing x.0 x.1 (head_takes bytes x fits s))
+
 wrong_head : (bytes : List ℕ) (k : ℕ) → IsBytes bytes → k ≡ 1 → LacksHead bytes → front_at bytes ≡ Err k
 unfolding front_at
-wrong_head bytes k fits e missing =
-    let none = lacks (sized_header_at bytes) (λ x s. missing x.0 x.1 (head_takes bytes x fits s)) in
-    rw none (same_err k 1 e)
+wrong_head bytes k fits e missing = rw (no_head bytes fits missing) (same_err k 1 e)
 
 wrong_table : (bytes : List ℕ) (k : ℕ) → IsBytes bytes → k ≡ 2 → (u : UpToHead bytes) → LacksTable u → front_at bytes ≡ Err k
 unfolding front_at

@@ -134,7 +134,7 @@ pub length-runs : (words : List (ℕ × ℕ)) → length (runs_of (map address_o
 length-runs [] = refl
 length-runs (w ∷ ws) = length-runs_from ws w.0 1 ∙ ap (λ (n : ℕ). 1 + runs_behind n ws) (omega arith)
 
-length-program_header : (s : Segment) → length (program_header s) ≡ 32
+pub length-program_header : (s : Segment) → length (program_header s) ≡ 32
 unfolding program_header segment_place segment_size word
 length-program_header s = refl
 
@@ -145,7 +145,7 @@ length-load_headers (r ∷ rs) offset =
     length-append (program_header (load_segment offset r)) (load_headers (offset + 4 * r.words) rs)
     ∙ (let h = length-program_header (load_segment offset r) in let k = length-load_headers rs (offset + 4 * r.words) in omega arith)
 
-length-elf_header : (entry phnum : ℕ) → length (elf_header entry phnum) ≡ 52
+pub length-elf_header : (entry phnum : ℕ) → length (elf_header entry phnum) ≡ 52
 unfolding elf_header e_ident elf_kind elf_places elf_counts half word
 length-elf_header entry phnum = refl
 

@@ -3,6 +3,9 @@ use Rattle.std.specs.Prelude.{◌≡◌, ℕ, List, length, Option, Some, None, 
 use Rattle.byte_format.specs.declared.error.PieceError.{PieceError}
 use Rattle.byte_format.specs.declared.error.PieceError.TheVariants as pieces
 use Rattle.byte_format.specs.Readers.{whole}
+use Rattle.tpl_parse.specs.declared.error.ParseError.{ParseError}
+use Rattle.tpl_parse.specs.declared.error.ParseError.TheVariants.{Fault}
+use Rattle.tpl_parse.specs.declared.error.ParseError.TheVariants as templates
 use Rattle.tpl_admit.specs.declared.certificate.Cert.{Cert}
 use Rattle.elf_image.specs.declared.error.ReadError.{ReadError}
 use Rattle.elf_image.specs.declared.error.ReadError.TheVariants.{Malformed, OutOfMemory}
@@ -34,6 +37,11 @@ GivesPart view (Err OutOfMemory) read = Unit {0}
 abbrev pub at_part : ℕ → PieceError → ReadError
 at_part k pieces.Malformed = Malformed k
 at_part k pieces.OutOfMemory = OutOfMemory
+
+-- the error of a text that is no template
+abbrev pub no_template : ParseError → PieceError
+no_template (Fault fault) = pieces.Malformed
+no_template templates.OutOfMemory = pieces.OutOfMemory
 
 abbrev pub after_notes : Head → Table → Notes × List ℕ → Result FrontParts ℕ
 after_notes h t n = part 4 (whole (traces_at (length n.0.start)) n.0.traces) >>- λ traces. Ok (record { entry = h.entry; runs = t.runs; notes = n.0; traces = traces; rest = n.1 })

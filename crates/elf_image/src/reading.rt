@@ -1,14 +1,15 @@
 // The certificate of a file, read part by part.
-ghost use Rattle.std.specs.Prelude.{◌≡◌, ℕ, Err, IfOk, IsTrue, MatchResult};
+ghost use Rattle.std.specs.Prelude.{◌≡◌, ℕ, None, Err, IfOk, IsTrue, MatchResult};
 ghost use Rattle.tpl_admit.specs.declared.certificate.Cert.{Cert as ACert};
 ghost use Rattle.tpl_admit.specs.WellFormed.{IsWellFormed};
 ghost use Rattle.tpl_parse.specs.declared.template.Template.{Template as ATemplate};
 ghost use Rattle.tpl_parse.specs.Form.{Parses};
 ghost use Rattle.elf_image.specs.File.{file_bytes};
-ghost use Rattle.elf_image.specs.Parts.{IsFirstWrong};
+ghost use Rattle.elf_image.specs.Parts.{IsFirstWrong, LacksHead};
 ghost use Rattle.elf_image.specs.Checks.{are_runs};
+ghost use Rattle.elf_image.specs.PartReaders.{sized_header_at};
 ghost use Rattle.elf_image.specs.Views.{front_view};
-ghost use Rattle.elf_image.specs.Whole.{GivesPart, IsRead, at_part, front_at};
+ghost use Rattle.elf_image.specs.Whole.{GivesPart, IsRead, at_part, no_template, front_at};
 
 mod checks;
 mod headers;
@@ -51,6 +52,7 @@ fn at(part: u8, error: PieceError) -> ReadError
 #[tactic(auto, unfolding(crate::specs::Whole::front_at))]
 fn front_of(alloc: Global, bytes: &[u8]) -> Result<Front<'_>, ReadError>
     ensures gives { GivesPart front_view result (front_at bytes.now) }
+    ensures header { sized_header_at bytes.now ≡ None → result ≡ Err (ReadError.Malformed 1) }
     ensures runs { IfOk result (λ front. IsTrue (are_runs 0 front.runs)) }
 {
     let (head, rest) = match sized_header_of(bytes) {
@@ -78,21 +80,28 @@ fn front_of(alloc: Global, bytes: &[u8]) -> Result<Front<'_>, ReadError>
     })
 }
 
+/// The error of a text that isn't a template.
+fn untold(error: ParseError) -> PieceError
+    ensures { result ≡ no_template error }
+{
+    match error {
+        ParseError::Fault(_) => PieceError::Malformed,
+        ParseError::OutOfMemory => PieceError::OutOfMemory,
+    }
+}
+
 /// The template of a text.
 fn template_of(alloc: Global, text: &[u8]) -> Result<Template, PieceError>
     ensures found { IfOk result (λ t. Parses text.now t) }
     ensures none { result ≡ Err PieceError.Malformed → (t : ATemplate) → Parses text.now t → ⊥ }
 {
-    match parse(alloc, text) {
-        Ok(template) => Ok(template),
-        Err(ParseError::Fault(_)) => Err(PieceError::Malformed),
-        Err(ParseError::OutOfMemory) => Err(PieceError::OutOfMemory),
-    }
+    parse(alloc, text).map_err(untold)
 }
 
 /// All six parts.
 fn read_parts(alloc: Global, bytes: &[u8]) -> Result<Cert, ReadError>
-    ensures { IsRead bytes.now result }
+    ensures is { IsRead bytes.now result }
+    ensures header { sized_header_at bytes.now ≡ None → result ≡ Err (ReadError.Malformed 1) }
 {
     let front = match front_of(alloc, bytes) {
         Ok(front) => front,
@@ -135,6 +144,9 @@ pub fn read(alloc: Global, bytes: &[u8]) -> Result<Cert, ReadError>
 
     // Which part is wrong.
     ensures wrong { (k : ℕ) → result ≡ Err (ReadError.Malformed k) → IsFirstWrong bytes.now k }
+
+    // The first part is judged without memory.
+    ensures header { LacksHead bytes.now → result ≡ Err (ReadError.Malformed 1) }
 {
     // The law that a text says one template, for `only`.
     parses_are_unique();

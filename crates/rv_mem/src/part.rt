@@ -28,13 +28,15 @@ impl PartMem {
         })
     }
 
-    /// Gives the word of RAM at an address, a multiple of 4, a value. A refusal changes nothing.
+    /// Gives the word of RAM at an address, a multiple of 4, a value. A refusal changes nothing; a
+    /// word that is known takes no memory.
     pub fn put(&mut self, a: u32, w: u32) -> Result<(), OutOfMemory>
         requires aligned { a % 4 ≡ 0 }
         requires ram { IsTrue (is_there (part_at self.old (a / 4))) }
         ensures known { OnOk result (part_at self.new (a / 4) ≡ Seen.Known w) }
         ensures others { (n : ℕ) → n ≢ a / 4 → part_at self.new n ≡ part_at self.old n }
         ensures refused { OnErr result ((n : ℕ) → part_at self.new n ≡ part_at self.old n) }
+        ensures unknown { OnErr result (part_at self.old (a / 4) ≡ Seen.Untouched) }
     {
         self.words.insert(a / 4, w)?;
         Ok(())

@@ -1,5 +1,5 @@
 -- The words that the program takes.
-use Rattle.std.specs.Prelude.{◌≡◌, ℕ, ◌^◌, ◌<◌, ◌≤◌, List, [], ◌∷◌, length, codes, drop, map, string_bytes, Result, MatchResult, String}
+use Rattle.std.specs.Prelude.{◌≡◌, ℕ, ◌^◌, ◌<◌, ◌≤◌, List, [], ◌∷◌, length, codes, drop, map, string_bytes, String}
 use Rattle.std.specs.Global.{Global}
 use Rattle.std.specs.Vec.Iter.{into_iter_items}
 use Rattle.std.specs.declared.vec.IntoIter.{IntoIter}
@@ -32,6 +32,6 @@ IsCommand words (Gen seed) = AreSeeded words (codes "gen") seed
 IsCommand words (Listing seed) = AreSeeded words (codes "list") seed
 IsCommand words Replay = words ≡ codes "replay" ∷ []
 
--- the words are the arguments behind the first one, which is the program's own name, or none where the arguments can't be told
-abbrev pub AreWordsOf : {E : Type 0} → List (List ℕ) → Result (IntoIter (String Global) Global) E → Type 0
-AreWordsOf words args = MatchResult args (λ it. words ≡ drop 1 (map (λ s. string_bytes s) (into_iter_items it))) (λ _. words ≡ [])
+-- the words are the arguments behind the first one, which is the program's own name
+abbrev pub AreBehindName : List (List ℕ) → IntoIter (String Global) Global → Type 0
+AreBehindName words args = words ≡ drop 1 (map (λ s. string_bytes s) (into_iter_items args))

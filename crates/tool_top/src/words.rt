@@ -1,9 +1,10 @@
 // The words of the command line.
-ghost use Rattle.std.specs.Prelude.{◌≡◌, ℕ, Some, [], ◌∷◌, ◌++◌, drop, map, string_bytes, IfOk, OnOk, OnErr, IfSome, SomeIff};
+ghost use Rattle.std.specs.Prelude.{◌≡◌, ◌≢◌, ℕ, Some, [], ◌∷◌, ◌++◌, drop, map, string_bytes, IfOk, IfErr, OnOk, OnErr, IfSome, SomeIff, MatchResult};
 ghost use Rattle.std.specs.Vec.Iter.{into_iter_items};
+ghost use Rattle.std.specs.IoError.{error_kind};
 ghost use Rattle.std.specs.Str.Parse.{digits_value};
 ghost use Rattle.tool_top.specs.declared.words.Command.{Command as ACommand};
-ghost use Rattle.tool_top.specs.Words.{IsSeed, IsCommand, IsSeeded, AreWordsOf};
+ghost use Rattle.tool_top.specs.Words.{IsSeed, IsCommand, IsSeeded, AreBehindName};
 
 use std::alloc::{AllocError, Global};
 use std::env::Args;
@@ -48,7 +49,7 @@ impl ArgList {
 
     /// The words behind the first one of a program's arguments, its own name.
     pub fn from_args(alloc: Global, args: Args) -> Result<Self, AllocError>
-        ensures { IfOk result (λ a. a ≡ drop 1 (map (λ s. string_bytes s) (into_iter_items args))) }
+        ensures { IfOk result (λ a. AreBehindName a args) }
     {
         let mut texts: Vec<String> = args.collect(alloc)?;
         if !texts.is_empty() {
@@ -98,7 +99,11 @@ fn seeded(name: &str, seed: u64) -> Option<Command>
 /// The words of a program's arguments, or memory ran out. The program takes no word that is not
 /// UTF-8: with such a word among them no word is passed on.
 pub fn words_of(alloc: Global, args: io::Result<Args>) -> Result<ArgList, AllocError>
-    ensures { IfOk result (λ a. AreWordsOf a args) }
+    // The arguments can be told, or one of them is not UTF-8.
+    ensures words { IfOk result (λ a. MatchResult args (λ it. AreBehindName a it) (λ e. (error_kind e ≡ ErrorKind.InvalidData) × (a ≡ []))) }
+
+    // Never for an argument that is not UTF-8.
+    ensures none { IfErr result (λ _. MatchResult args (λ _. Unit) (λ e. error_kind e ≢ ErrorKind.InvalidData)) }
 {
     match args {
         Ok(args) => ArgList::from_args(alloc, args),

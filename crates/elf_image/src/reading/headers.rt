@@ -1,5 +1,5 @@
 // The ELF header and the program headers.
-ghost use Rattle.std.specs.Prelude.{◌≡◌, ◌<◌, ◌≤◌, ◌^◌, ◌-◌, IfOk, IsTrue};
+ghost use Rattle.std.specs.Prelude.{◌≡◌, ◌<◌, ◌≤◌, ◌^◌, ◌-◌, IfOk, IsTrue, IfErr};
 ghost use Rattle.byte_format.specs.Readers.{Gives, skip, chain_at};
 ghost use Rattle.elf_image.specs.Headers.{e_ident};
 ghost use Rattle.elf_image.specs.Runs.{total_words};
@@ -37,7 +37,8 @@ pub struct Table {
 
 #[tactic(auto, unfolding(crate::specs::Headers::e_ident))]
 fn after_ident(bytes: &[u8]) -> Result<&[u8], PieceError>
-    ensures { Gives (λ x. x.now) result (skip e_ident bytes.now) }
+    ensures gives { Gives (λ x. x.now) result (skip e_ident bytes.now) }
+    ensures malformed { IfErr result (λ e. e ≡ PieceError.Malformed) }
 {
     after(bytes, &E_IDENT)
 }
@@ -45,7 +46,8 @@ fn after_ident(bytes: &[u8]) -> Result<&[u8], PieceError>
 /// The entry.
 #[tactic(auto, unfolding(crate::specs::PartReaders::kind_at))]
 fn kind_of(bytes: &[u8]) -> Result<(u32, &[u8]), PieceError>
-    ensures { Gives (λ x. (x.0, x.1.now)) result (kind_at bytes.now) }
+    ensures gives { Gives (λ x. (x.0, x.1.now)) result (kind_at bytes.now) }
+    ensures malformed { IfErr result (λ e. e ≡ PieceError.Malformed) }
 {
     let rest = after_half(bytes, ET_EXEC)?;
     let rest = after_half(rest, EM_RISCV)?;
@@ -56,7 +58,8 @@ fn kind_of(bytes: &[u8]) -> Result<(u32, &[u8]), PieceError>
 /// How many program headers there are.
 #[tactic(auto, unfolding(crate::specs::PartReaders::counts_at))]
 fn counts_of(bytes: &[u8]) -> Result<(u16, &[u8]), PieceError>
-    ensures { Gives (λ x. (x.0, x.1.now)) result (counts_at bytes.now) }
+    ensures gives { Gives (λ x. (x.0, x.1.now)) result (counts_at bytes.now) }
+    ensures malformed { IfErr result (λ e. e ≡ PieceError.Malformed) }
 {
     let (phnum, rest) = half_of(bytes)?;
     let rest = after_half(rest, 0)?;
@@ -67,7 +70,8 @@ fn counts_of(bytes: &[u8]) -> Result<(u16, &[u8]), PieceError>
 
 #[tactic(auto, unfolding(crate::specs::PartReaders::places_at))]
 fn places_of(bytes: &[u8]) -> Result<(u16, &[u8]), PieceError>
-    ensures { Gives (λ x. (x.0, x.1.now)) result (places_at bytes.now) }
+    ensures gives { Gives (λ x. (x.0, x.1.now)) result (places_at bytes.now) }
+    ensures malformed { IfErr result (λ e. e ≡ PieceError.Malformed) }
 {
     let rest = after_word(bytes, u32::from(EHDR_SIZE))?;
     let rest = after_word(rest, 0)?;
@@ -81,6 +85,7 @@ fn places_of(bytes: &[u8]) -> Result<(u16, &[u8]), PieceError>
 fn header_of(bytes: &[u8]) -> Result<(Head, &[u8]), PieceError>
     ensures gives { Gives (λ x. (x.0, x.1.now)) result (header_at bytes.now) }
     ensures some { IfOk result (λ x. 1 ≤ x.0.phnum) }
+    ensures malformed { IfErr result (λ e. e ≡ PieceError.Malformed) }
 {
     let rest = after_ident(bytes)?;
     let (entry, rest) = kind_of(rest)?;
@@ -96,6 +101,7 @@ fn header_of(bytes: &[u8]) -> Result<(Head, &[u8]), PieceError>
 pub fn sized_header_of(bytes: &[u8]) -> Result<(Head, &[u8]), PieceError>
     ensures gives { Gives (λ x. (x.0, x.1.now)) result (sized_header_at bytes.now) }
     ensures some { IfOk result (λ x. 1 ≤ x.0.phnum) }
+    ensures malformed { IfErr result (λ e. e ≡ PieceError.Malformed) }
 {
     if bytes.len() > MAX_FILE {
         return Err(PieceError::Malformed);
@@ -106,7 +112,8 @@ pub fn sized_header_of(bytes: &[u8]) -> Result<(Head, &[u8]), PieceError>
 /// A number that stands twice.
 #[tactic(auto, unfolding(crate::specs::PartReaders::twice_at))]
 fn twice_of(bytes: &[u8]) -> Result<(u32, &[u8]), PieceError>
-    ensures { Gives (λ x. (x.0, x.1.now)) result (twice_at bytes.now) }
+    ensures gives { Gives (λ x. (x.0, x.1.now)) result (twice_at bytes.now) }
+    ensures malformed { IfErr result (λ e. e ≡ PieceError.Malformed) }
 {
     let (n, rest) = word_of(bytes)?;
     let rest = after_word(rest, n)?;
@@ -121,7 +128,8 @@ fn segment_of(
     offset: u32,
     flags: u32,
 ) -> Result<((u32, u32), &[u8]), PieceError>
-    ensures { Gives (λ x. (x.0, x.1.now)) result (segment_at kind offset flags bytes.now) }
+    ensures gives { Gives (λ x. (x.0, x.1.now)) result (segment_at kind offset flags bytes.now) }
+    ensures malformed { IfErr result (λ e. e ≡ PieceError.Malformed) }
 {
     let rest = after_word(bytes, kind)?;
     let rest = after_word(rest, offset)?;
@@ -135,7 +143,8 @@ fn segment_of(
 /// The size of the notes.
 #[tactic(auto, unfolding(crate::specs::PartReaders::note_segment_at))]
 fn note_segment_of(bytes: &[u8], offset: u32) -> Result<(u32, &[u8]), PieceError>
-    ensures { Gives (λ x. (x.0, x.1.now)) result (note_segment_at offset bytes.now) }
+    ensures gives { Gives (λ x. (x.0, x.1.now)) result (note_segment_at offset bytes.now) }
+    ensures malformed { IfErr result (λ e. e ≡ PieceError.Malformed) }
 {
     let (segment, rest) = segment_of(bytes, PT_NOTE, offset, PF_R)?;
     if segment.0 != 0 {
@@ -149,6 +158,7 @@ fn note_segment_of(bytes: &[u8], offset: u32) -> Result<(u32, &[u8]), PieceError
 fn load_of(bytes: &[u8], offset: u64) -> Result<(Run, &[u8]), PieceError>
     ensures gives { Gives (λ x. (x.0, x.1.now)) result (load_at offset bytes.now) }
     ensures small { IfOk result (λ x. x.0.words < 2 ^ 32) }
+    ensures malformed { IfErr result (λ e. e ≡ PieceError.Malformed) }
 {
     let Ok(offset) = u32::try_from(offset) else {
         return Err(PieceError::Malformed);

@@ -1,5 +1,5 @@
 // The states of harts and their records.
-ghost use Rattle.std.specs.Prelude.{◌≡◌, ◌≤◌};
+ghost use Rattle.std.specs.Prelude.{◌≡◌, ◌≤◌, IfErr};
 ghost use Rattle.byte_format.specs.Readers.{Gives, word_at, times, counted_at, few_at, with_front};
 ghost use Rattle.elf_image.specs.ItemReaders.{priv_of, role_of, outcome_of, rd_of, priv_at, pair_at, state_at, access_at, place_at, marks_at, values_at, record_at, trace_at};
 
@@ -16,7 +16,8 @@ use tpl_parse::Items;
 const MAX_ACCESSES: u32 = 8;
 
 fn priv_from(n: u32) -> Result<Priv, PieceError>
-    ensures { Gives (λ x. x) result (priv_of n) }
+    ensures gives { Gives (λ x. x) result (priv_of n) }
+    ensures malformed { IfErr result (λ e. e ≡ PieceError.Malformed) }
 {
     match n {
         0 => Ok(Priv::U),
@@ -28,7 +29,8 @@ fn priv_from(n: u32) -> Result<Priv, PieceError>
 
 #[tactic(auto, unfolding(crate::specs::ItemReaders::priv_at))]
 fn priv_read(bytes: &[u8]) -> Result<(Priv, &[u8]), PieceError>
-    ensures { Gives (λ x. (x.0, x.1.now)) result (priv_at bytes.now) }
+    ensures gives { Gives (λ x. (x.0, x.1.now)) result (priv_at bytes.now) }
+    ensures malformed { IfErr result (λ e. e ≡ PieceError.Malformed) }
 {
     let (n, rest) = word_of(bytes)?;
     Ok((priv_from(n)?, rest))
@@ -36,7 +38,8 @@ fn priv_read(bytes: &[u8]) -> Result<(Priv, &[u8]), PieceError>
 
 #[tactic(auto, unfolding(crate::specs::ItemReaders::pair_at))]
 fn pair_of(bytes: &[u8]) -> Result<((u32, u32), &[u8]), PieceError>
-    ensures { Gives (λ x. (x.0, x.1.now)) result (pair_at bytes.now) }
+    ensures gives { Gives (λ x. (x.0, x.1.now)) result (pair_at bytes.now) }
+    ensures malformed { IfErr result (λ e. e ≡ PieceError.Malformed) }
 {
     let (key, rest) = word_of(bytes)?;
     let (value, rest) = word_of(rest)?;
@@ -141,7 +144,8 @@ pub fn states_of(alloc: Global, bytes: &[u8]) -> Result<(Items<HartState>, &[u8]
 }
 
 fn role_from(n: u8) -> Result<Role, PieceError>
-    ensures { Gives (λ x. x) result (role_of n) }
+    ensures gives { Gives (λ x. x) result (role_of n) }
+    ensures malformed { IfErr result (λ e. e ≡ PieceError.Malformed) }
 {
     match n {
         0 => Ok(Role::Fetch),
@@ -154,7 +158,8 @@ fn role_from(n: u8) -> Result<Role, PieceError>
 
 #[tactic(auto, unfolding(crate::specs::ItemReaders::access_at))]
 fn access_of(bytes: &[u8]) -> Result<(Access, &[u8]), PieceError>
-    ensures { Gives (λ x. (x.0, x.1.now)) result (access_at bytes.now) }
+    ensures gives { Gives (λ x. (x.0, x.1.now)) result (access_at bytes.now) }
+    ensures malformed { IfErr result (λ e. e ≡ PieceError.Malformed) }
 {
     let (addr, rest) = word_of(bytes)?;
     let (value, rest) = word_of(rest)?;
@@ -175,7 +180,8 @@ fn access_of(bytes: &[u8]) -> Result<(Access, &[u8]), PieceError>
 
 fn accesses_in(count: u32, bytes: &[u8]) -> Result<(Accesses, &[u8]), PieceError>
     requires { count ≤ 8 }
-    ensures { Gives (λ x. (x.0, x.1.now)) result (times access_at count bytes.now) }
+    ensures gives { Gives (λ x. (x.0, x.1.now)) result (times access_at count bytes.now) }
+    ensures malformed { IfErr result (λ e. e ≡ PieceError.Malformed) }
 {
     let mut items = Accesses::new();
     let mut rest = bytes;
@@ -189,7 +195,8 @@ fn accesses_in(count: u32, bytes: &[u8]) -> Result<(Accesses, &[u8]), PieceError
 
 #[tactic(auto, unfolding(byte_format::specs::Readers::few_at))]
 fn accesses_of(bytes: &[u8]) -> Result<(Accesses, &[u8]), PieceError>
-    ensures { Gives (λ x. (x.0, x.1.now)) result (few_at 8 access_at bytes.now) }
+    ensures gives { Gives (λ x. (x.0, x.1.now)) result (few_at 8 access_at bytes.now) }
+    ensures malformed { IfErr result (λ e. e ≡ PieceError.Malformed) }
 {
     let (count, rest) = word_of(bytes)?;
     if count > MAX_ACCESSES {
@@ -200,7 +207,8 @@ fn accesses_of(bytes: &[u8]) -> Result<(Accesses, &[u8]), PieceError>
 
 #[tactic(auto, unfolding(crate::specs::ItemReaders::outcome_of))]
 fn outcome_from(cause: u8, taker: u8, value: u32) -> Result<Outcome, PieceError>
-    ensures { Gives (λ x. x) result (outcome_of cause taker value) }
+    ensures gives { Gives (λ x. x) result (outcome_of cause taker value) }
+    ensures malformed { IfErr result (λ e. e ≡ PieceError.Malformed) }
 {
     if cause == 255 {
         if taker == 255 && value == 0 {
@@ -216,7 +224,8 @@ fn outcome_from(cause: u8, taker: u8, value: u32) -> Result<Outcome, PieceError>
 }
 
 fn rd_from(n: u8, value: u32) -> Result<Option<(u8, u32)>, PieceError>
-    ensures { Gives (λ x. x) result (rd_of n value) }
+    ensures gives { Gives (λ x. x) result (rd_of n value) }
+    ensures malformed { IfErr result (λ e. e ≡ PieceError.Malformed) }
 {
     if n == 0 {
         if value == 0 {
@@ -233,7 +242,8 @@ fn rd_from(n: u8, value: u32) -> Result<Option<(u8, u32)>, PieceError>
 /// The pc, the instruction word and the next pc.
 #[tactic(auto, unfolding(crate::specs::ItemReaders::place_at))]
 fn place_of(bytes: &[u8]) -> Result<((u32, u32, u32), &[u8]), PieceError>
-    ensures { Gives (λ x. ((x.0.0, (x.0.1, x.0.2)), x.1.now)) result (place_at bytes.now) }
+    ensures gives { Gives (λ x. ((x.0.0, (x.0.1, x.0.2)), x.1.now)) result (place_at bytes.now) }
+    ensures malformed { IfErr result (λ e. e ≡ PieceError.Malformed) }
 {
     let (pc, rest) = word_of(bytes)?;
     let (word, rest) = word_of(rest)?;
@@ -244,7 +254,8 @@ fn place_of(bytes: &[u8]) -> Result<((u32, u32, u32), &[u8]), PieceError>
 /// The privilege, the outcome, the privilege that takes the trap, and the register.
 #[tactic(auto, unfolding(crate::specs::ItemReaders::marks_at))]
 fn marks_of(bytes: &[u8]) -> Result<((Priv, u8, u8, u8), &[u8]), PieceError>
-    ensures { Gives (λ x. ((x.0.0, (x.0.1, (x.0.2, x.0.3))), x.1.now)) result (marks_at bytes.now) }
+    ensures gives { Gives (λ x. ((x.0.0, (x.0.1, (x.0.2, x.0.3))), x.1.now)) result (marks_at bytes.now) }
+    ensures malformed { IfErr result (λ e. e ≡ PieceError.Malformed) }
 {
     let (level, rest) = byte_of(bytes)?;
     let privilege = priv_from(u32::from(level))?;
@@ -257,7 +268,8 @@ fn marks_of(bytes: &[u8]) -> Result<((Priv, u8, u8, u8), &[u8]), PieceError>
 /// The register's value and the trap value.
 #[tactic(auto, unfolding(crate::specs::ItemReaders::values_at))]
 fn values_of(bytes: &[u8]) -> Result<((u32, u32), &[u8]), PieceError>
-    ensures { Gives (λ x. (x.0, x.1.now)) result (values_at bytes.now) }
+    ensures gives { Gives (λ x. (x.0, x.1.now)) result (values_at bytes.now) }
+    ensures malformed { IfErr result (λ e. e ≡ PieceError.Malformed) }
 {
     let (rd, rest) = word_of(bytes)?;
     let (trap, rest) = word_of(rest)?;
@@ -266,7 +278,8 @@ fn values_of(bytes: &[u8]) -> Result<((u32, u32), &[u8]), PieceError>
 
 #[tactic(auto, unfolding(crate::specs::ItemReaders::record_at))]
 fn record_of(bytes: &[u8]) -> Result<(Record, &[u8]), PieceError>
-    ensures { Gives (λ x. (x.0, x.1.now)) result (record_at bytes.now) }
+    ensures gives { Gives (λ x. (x.0, x.1.now)) result (record_at bytes.now) }
+    ensures malformed { IfErr result (λ e. e ≡ PieceError.Malformed) }
 {
     let (place, rest) = place_of(bytes)?;
     let (marks, rest) = marks_of(rest)?;

@@ -1,5 +1,5 @@
 // The words of memory.
-ghost use Rattle.std.specs.Prelude.{◌≡◌, ◌+◌, ◌*◌, ◌^◌, ◌≤◌, IsTrue};
+ghost use Rattle.std.specs.Prelude.{◌≡◌, ◌+◌, ◌*◌, ◌^◌, ◌≤◌, IsTrue, IfErr};
 ghost use Rattle.byte_format.specs.Readers.{Gives, chain_at, whole, with_front};
 ghost use Rattle.elf_image.specs.Checks.{are_runs};
 ghost use Rattle.elf_image.specs.PartReaders.{placed_at, next_address, words_at, image_at, loaded_at};
@@ -15,7 +15,8 @@ use tpl_parse::{Items, Region};
 /// A word that lies at an address.
 #[tactic(auto, unfolding(crate::specs::PartReaders::placed_at))]
 fn placed_of(addr: u32, bytes: &[u8]) -> Result<((u32, u32), &[u8]), PieceError>
-    ensures { Gives (λ x. (x.0, x.1.now)) result (placed_at addr bytes.now) }
+    ensures gives { Gives (λ x. (x.0, x.1.now)) result (placed_at addr bytes.now) }
+    ensures malformed { IfErr result (λ e. e ≡ PieceError.Malformed) }
 {
     let (value, rest) = word_of(bytes)?;
     Ok(((addr, value), rest))

@@ -1,5 +1,5 @@
 // The notes and the records.
-ghost use Rattle.std.specs.Prelude.{◌≡◌, ◌≤◌, IfOk, length};
+ghost use Rattle.std.specs.Prelude.{◌≡◌, ◌≤◌, IfOk, length, IfErr};
 ghost use Rattle.byte_format.specs.Readers.{Gives, skip, whole};
 ghost use Rattle.elf_image.specs.Runs.{total_words};
 ghost use Rattle.elf_image.specs.Notes.{note_name};
@@ -29,7 +29,8 @@ pub struct NoteDescs<'a> {
 
 #[tactic(auto, unfolding(crate::specs::Notes::note_name))]
 fn after_name(bytes: &[u8]) -> Result<&[u8], PieceError>
-    ensures { Gives (λ x. x.now) result (skip note_name bytes.now) }
+    ensures gives { Gives (λ x. x.now) result (skip note_name bytes.now) }
+    ensures malformed { IfErr result (λ e. e ≡ PieceError.Malformed) }
 {
     after(bytes, &NAME)
 }
@@ -37,7 +38,8 @@ fn after_name(bytes: &[u8]) -> Result<&[u8], PieceError>
 /// The desc of a note of this type.
 #[tactic(auto, unfolding(crate::specs::PartReaders::note_at))]
 fn note_of(bytes: &[u8], kind: u32) -> Result<(&[u8], &[u8]), PieceError>
-    ensures { Gives (λ x. (x.0.now, x.1.now)) result (note_at kind bytes.now) }
+    ensures gives { Gives (λ x. (x.0.now, x.1.now)) result (note_at kind bytes.now) }
+    ensures malformed { IfErr result (λ e. e ≡ PieceError.Malformed) }
 {
     let rest = after_word(bytes, NAME_SIZE)?;
     let (size, rest) = word_of(rest)?;
@@ -81,7 +83,8 @@ fn final_of(
 /// No choices, no names and nothing dropped.
 #[tactic(auto, unfolding(crate::specs::PartReaders::rest_at))]
 fn check_rest(desc: &[u8]) -> Result<(), PieceError>
-    ensures { Gives (λ x. tt) result (whole rest_at desc.now) }
+    ensures gives { Gives (λ x. tt) result (whole rest_at desc.now) }
+    ensures malformed { IfErr result (λ e. e ≡ PieceError.Malformed) }
 {
     let rest = after_word(desc, 0)?;
     let rest = after_word(rest, 0)?;
