@@ -7,8 +7,8 @@ use Rattle.std.proofs.lemmas.Option.{cond_some, same_Some}
 use Rattle.rv_csr.specs.Causes.{is_cause}
 use Rattle.rv_script.specs.declared.access.Role.{Role}
 use Rattle.rv_script.specs.declared.access.Role.TheVariants.{Fetch, Walk, Load, Store}
-use Rattle.rv_hart.specs.declared.csrs.Priv.{Priv}
-use Rattle.rv_hart.specs.declared.csrs.Priv.TheVariants.{U, S, M}
+use Rattle.rv_csr.specs.declared.privilege.Priv.{Priv}
+use Rattle.rv_csr.specs.declared.privilege.Priv.TheVariants.{U, S, M}
 use Rattle.rv_hart.specs.declared.record.Outcome.{Outcome}
 use Rattle.rv_hart.specs.declared.record.Outcome.TheVariants.{Retired, Trap}
 use Rattle.tpl_admit.specs.WellFormed.{IsOutcome, IsWritten}

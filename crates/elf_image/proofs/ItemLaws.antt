@@ -7,7 +7,7 @@ use Rattle.std.proofs.lemmas.Bool.{eqb-true, ltb-true, ltb-false, lt-ltb, le-ltb
 use Rattle.std.proofs.lemmas.Option.{same_Some}
 use Rattle.rv_csr.specs.Table.{is_legal_at}
 use Rattle.rv_script.specs.declared.access.Access.{Access}
-use Rattle.rv_hart.specs.declared.csrs.Priv.{Priv}
+use Rattle.rv_csr.specs.declared.privilege.Priv.{Priv}
 use Rattle.rv_hart.specs.declared.record.Record.{Record}
 use Rattle.rv_hart.specs.declared.record.Outcome.{Outcome}
 use Rattle.tpl_admit.specs.declared.certificate.HartState.{HartState}

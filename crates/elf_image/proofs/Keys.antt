@@ -3,8 +3,7 @@ use Rattle.std.proofs.Common.{◌≡◌, ℕ, ◌<◌, true, ltb, leb, eqb, refl
 use Rattle.std.specs.Prelude.{IsTrue, ◌&&◌}
 use Rattle.std.specs.List.{list_any}
 use Rattle.rv_csr.specs.Causes.{causes, number_of, is_cause}
-use Rattle.rv_hart.specs.View.{lazy_csrs}
-use Rattle.rv_hart.specs.Whole.{csr_key}
+use Rattle.rv_csr.specs.Table.{lazy_csrs, csr_key}
 use Rattle.tpl_admit.specs.Starts.{is_key}
 use Rattle.elf_image.proofs.Booleans.{and_true, or_true, any_below, any_below_of}
 use Rattle.std.proofs.lemmas.Bool.{ltb-true}

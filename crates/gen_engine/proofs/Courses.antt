@@ -9,8 +9,10 @@ use Rattle.rv_script.specs.Memory.{memory_after}
 use Rattle.rv_hart.specs.declared.record.Change.{Change}
 use Rattle.rv_hart.specs.declared.record.Record.{Record}
 use Rattle.rv_hart.specs.Registers.{written}
-use Rattle.rv_hart.specs.Machine.{Fixed, rd_told, retired}
-use Rattle.rv_hart.specs.Whole.{WholeHart, record_of, Step, hart_after}
+use Rattle.rv_hart.specs.Fixed.{Fixed}
+use Rattle.rv_hart.specs.Privileged.{rd_told, retired}
+use Rattle.rv_hart.specs.Whole.{WholeHart, Step, hart_after}
+use Rattle.rv_hart.proofs.Steps.{Takes, takes, step_by}
 use Rattle.tpl_parse.specs.declared.template.Leaf.{Leaf}
 use Rattle.tpl_parse.specs.declared.template.Region.{Region}
 use Rattle.tpl_parse.specs.Form.{AreLeavesFit}
@@ -21,7 +23,7 @@ use Rattle.tpl_admit.specs.Admission.{instr_of}
 use Rattle.gen_engine.specs.Plan.{leaf_word, leaf_value, leaf_write, fetch_of, records_from, regs_from}
 use Rattle.gen_engine.specs.Code.{AreKnown}
 use Rattle.gen_engine.proofs.Leaves.{leaf_answered, leaf_decoded, encoded}
-use Rattle.gen_engine.proofs.Machines.{Takes, takes, looks_leave, Shows, shows_write, written_size, written_zero, known_of, fixed_at, has_known, known_set}
+use Rattle.gen_engine.proofs.Machines.{looks_leave, register_alone, Shows, shows_write, written_size, written_zero, known_of, fixed_at, has_known, known_set}
 
 -- the words of the leaves stand in memory from a pc on, in RAM
 abbrev pub AreThere : Region → (ℕ → Option ℕ) → ℕ → List Leaf → Type 0
@@ -43,6 +45,10 @@ pub record Before (ram : Region) (words : ℕ → Option ℕ) (pc : ℕ) (regs :
 abbrev pub change_of : ℕ → List (Option ℕ) → Leaf → Change
 change_of pc regs l = retired pc (leaf_word l) (leaf_write regs l)
 
+-- its step
+abbrev pub leaf_step : Region → ℕ → List (Option ℕ) → Leaf → Step
+leaf_step ram pc regs l = step_by (fixed_at ram pc) (fetch_of pc (leaf_word l) ∷ []) (change_of pc regs l)
+
 -- the step of the first leaf
 pub one_leaf : (ram : Region) (words : ℕ → Option ℕ) (pc : ℕ) (regs : List (Option ℕ)) (l : Leaf) (ls : List Leaf) (h : WholeHart) (knows : ℕ → Bool) → Before ram words pc regs (l ∷ ls) h knows
     → Takes (fixed_at ram pc) (known_of regs words) h (zero_elsewhere words) (fetch_of pc (leaf_word l) ∷ []) (change_of pc regs l)
@@ -59,12 +65,12 @@ one_leaf ram words pc regs l ls h knows b = go (slice_index_or regs l.rs1 None) 
 
 -- the hart after it stands before the next leaf
 pub next_leaf : (ram : Region) (words : ℕ → Option ℕ) (pc : ℕ) (regs : List (Option ℕ)) (l : Leaf) (ls : List Leaf) (h : WholeHart) (knows : ℕ → Bool) → Before ram words pc regs (l ∷ ls) h knows
-    → Before ram words (pc + 4) (written (leaf_write regs l) regs) ls (hart_after (change_of pc regs l) h) (knows_also (leaf_write regs l) knows)
+    → Before ram words (pc + 4) (written (leaf_write regs l) regs) ls (hart_after (leaf_step ram pc regs l) h) (knows_also (leaf_step ram pc regs l).writes knows)
 next_leaf ram words pc regs l ls h knows b =
     let small : (pc + 4) % 2 ^ 32 ≡ pc + 4 = omega (arith, b.small) in
     record {
-      fixed = ap (λ (f : Fixed). record f { pc = (pc + 4) % 2 ^ 32 }) b.fixed ∙ ap (fixed_at ram) small;
-      shows = shows_write regs knows h.file l.rd (leaf_value regs l) b.shows b.size b.fit.0.rd;
+      fixed = ap (fixed_at ram) small;
+      shows = shows_write regs knows h.file l.rd (leaf_value regs l) (leaf_step ram pc regs l).writes (register_alone (fixed_at ram pc) (change_of pc regs l) refl) b.shows b.size b.fit.0.rd;
       zero_is = written_zero regs l.rd (leaf_value regs l) b.zero_is;
       size = written_size regs l.rd (leaf_value regs l) b.size;
       there = b.there.2;
@@ -93,15 +99,14 @@ course ram words pc regs (l ∷ ls) h knows b =
     let t = one_leaf ram words pc regs l ls h knows b in
     let m : ℕ → ℕ = zero_elsewhere words in
     let xs : List Access = fetch_of pc (leaf_word l) ∷ [] in
-    let c : Change = change_of pc regs l in
-    let s : Step = record { did = record_of (fixed_at ram pc) xs c; change = c } in
-    let rest : Solo = solo (length ls) (hart_after c h) m in
-    let ih = course ram words (pc + 4) (written (leaf_write regs l) regs) ls (hart_after c h) (knows_also (leaf_write regs l) knows) (next_leaf ram words pc regs l ls h knows b) in
+    let s : Step = leaf_step ram pc regs l in
+    let rest : Solo = solo (length ls) (hart_after s h) m in
+    let ih = course ram words (pc + 4) (written (leaf_write regs l) regs) ls (hart_after s h) (knows_also s.writes knows) (next_leaf ram words pc regs l ls h knows b) in
     let same : memory_after xs m ≡ m = looks_leave xs m (λ x at. elim at [ inl here ↦ ap (λ (y : Access). is_look y.role) (sym here) | inr none ↦ absurd none ]) in
     let whole : Solo = record { moments = record { hart = h; memory = m; step = s } ∷ rest.moments; hart = rest.hart } in
     let is : solo (suc (length ls)) h m ≡ whole =
     ap (λ (o : Option Step). solo_on o h m (λ h' m'. solo (length ls) h' m')) t.step
-    ∙ ap (λ (w : ℕ → ℕ). record { moments = record { hart = h; memory = m; step = s } ∷ (solo (length ls) (hart_after c h) w).moments; hart = (solo (length ls) (hart_after c h) w).hart }) same in
+    ∙ ap (λ (w : ℕ → ℕ). record { moments = record { hart = h; memory = m; step = s } ∷ (solo (length ls) (hart_after s h) w).moments; hart = (solo (length ls) (hart_after s h) w).hart }) same in
     let done : Course ram words pc regs (l ∷ ls) knows whole = record {
       records = ap (λ (rs : List Record). s.did ∷ rs) ih.records;
       initialised = (λ place asks. known_set regs words knows h.file b.shows place (t.needs place asks), ih.initialised);

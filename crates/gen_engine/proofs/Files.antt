@@ -7,7 +7,7 @@ use Rattle.std.proofs.lemmas.List.Sums.{sum_by-cons}
 use Rattle.rv_isa.proofs.Codec.{encoded_below}
 use Rattle.rv_hart.specs.declared.record.Record.{Record}
 use Rattle.rv_hart.specs.Registers.{written, no_registers}
-use Rattle.rv_hart.specs.Machine.{rd_told}
+use Rattle.rv_hart.specs.Privileged.{rd_told}
 use Rattle.tpl_parse.specs.declared.template.Leaf.{Leaf}
 use Rattle.tpl_parse.specs.declared.template.Template.{Template}
 use Rattle.tpl_parse.specs.Form.{IsFit, AreLeavesFit, Parses}

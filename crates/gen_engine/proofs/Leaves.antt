@@ -14,15 +14,17 @@ use Rattle.rv_mem.specs.declared.words.Seen.{Seen}
 use Rattle.rv_mem.specs.declared.words.Seen.TheVariants.{Known as KnownWord, Untouched, Vacant}
 use Rattle.rv_mem.specs.Seen.{known_word, is_there}
 use Rattle.rv_hart.specs.Effects.{seen_word_after, seen_after}
-use Rattle.rv_hart.specs.declared.csrs.Priv.{Priv}
+use Rattle.rv_csr.specs.declared.cause.Cause.TheVariants.{FetchAccess}
+use Rattle.rv_csr.specs.declared.privilege.Priv.{Priv}
 use Rattle.rv_hart.specs.declared.hart.Hart.{Hart}
 use Rattle.rv_hart.specs.declared.record.Change.{Change}
 use Rattle.rv_hart.specs.declared.record.Outcome.TheVariants.{Retired}
 use Rattle.rv_hart.specs.declared.record.Record.{Record}
 use Rattle.rv_hart.specs.declared.record.Stepped.TheVariants.{Did}
-use Rattle.rv_hart.specs.Whole.{record_of}
 use Rattle.rv_hart.specs.View.{known, fixed_of, shown}
-use Rattle.rv_hart.specs.Machine.{Fixed, is_bare, rd_told, retired, immediate_row, instruction, script}
+use Rattle.rv_hart.specs.Fixed.{Fixed}
+use Rattle.rv_hart.specs.Privileged.{rd_told, retired, trap}
+use Rattle.rv_hart.specs.Machine.{is_bare, immediate_row, instruction, script}
 use Rattle.tpl_parse.specs.declared.template.Leaf.{Leaf}
 use Rattle.tpl_parse.specs.Form.{IsFit}
 use Rattle.tpl_admit.specs.Admission.{instr_of}
@@ -51,8 +53,8 @@ pub leaf_answered : (f : Fixed) (k : Known) (l : Leaf) (word a : ℕ) → is_bar
     → answer_on k (script f) ≡ Does (fetch_of f.pc word ∷ []) (retired f.pc word (rd_told l.rd ((a + l.imm) % 2 ^ 32)))
 unfolding script instruction
 leaf_answered f k l word a bare there aligned small fetches decodes source =
-    ap (λ b. answer_on k (if b && f.ram (f.pc / 4) then read Fetched f.pc 4 >>= (λ w. instruction f w (decoded w)) else Outside)) bare
-    ∙ ap (λ b. answer_on k (if b then read Fetched f.pc 4 >>= (λ w. instruction f w (decoded w)) else Outside)) there
+    ap (λ b. answer_on k (if b then (if f.ram (f.pc / 4) then read Fetched f.pc 4 >>= (λ w. instruction f w (decoded w)) else trap f 0 FetchAccess f.pc) else Outside)) bare
+    ∙ ap (λ b. answer_on k (if b then read Fetched f.pc 4 >>= (λ w. instruction f w (decoded w)) else trap f 0 FetchAccess f.pc)) there
     ∙ fetched k f.pc word (λ w. instruction f w (decoded w)) aligned small fetches
     ∙ ap (λ o. prefixed (fetch_of f.pc word ∷ []) (answer_on k (instruction f word o))) decodes
     ∙ ap (λ answer. prefixed (fetch_of f.pc word ∷ []) answer) (row_answered f k word l a source)
@@ -75,21 +77,26 @@ encoded l fit = record { fits = fits l fit; word = refl }
 pub leaf_decoded : (l : Leaf) → IsFit l → decoded (leaf_word l) ≡ Some (instr_of l)
 leaf_decoded l fit = read_encoded (leaf_word l) (instr_of l) (encoded l fit)
 
--- the step of a hart that stands before a leaf
-pub step_is : (h : Hart) (see : ℕ → Seen) (l : Leaf) → IsAt h see l
-    → shown (fixed_of h see) (answer_on (known h see) (script (fixed_of h see))) ≡ Did (leaf_record h.pc h.regs l)
-step_is h see l at = go (slice_index_or h.regs l.rs1 None) refl at.known
+-- what a hart that stands before a leaf answers
+pub answer_is : (h : Hart) (see : ℕ → Seen) (l : Leaf) → IsAt h see l
+    → answer_on (known h see) (script (fixed_of h see)) ≡ Does (fetch_of h.pc (leaf_word l) ∷ []) (retired h.pc (leaf_word l) (leaf_write h.regs l))
+answer_is h see l at = go (slice_index_or h.regs l.rs1 None) refl at.known
   where
     go : (o : Option ℕ) → slice_index_or h.regs l.rs1 None ≡ o → IsSome o
-        → shown (fixed_of h see) (answer_on (known h see) (script (fixed_of h see))) ≡ Did (leaf_record h.pc h.regs l)
+        → answer_on (known h see) (script (fixed_of h see)) ≡ Does (fetch_of h.pc (leaf_word l) ∷ []) (retired h.pc (leaf_word l) (leaf_write h.regs l))
     go None e some = absurd (cc some)
     go (Some a) e some =
         let answered = leaf_answered (fixed_of h see) (known h see) l (leaf_word l) a (rw at.privilege refl) (ap is_there at.word) h.aligned
         (encoded_below (leaf_word l) (instr_of l) (encoded l at.fit)) (ap known_word at.word) (leaf_decoded l at.fit) e in
         let value : (a + l.imm) % 2 ^ 32 ≡ leaf_value h.regs l = ap (λ (o : Option ℕ). (unwrap_or o 0 + l.imm) % 2 ^ 32) (sym e) in
-        ap (shown (fixed_of h see)) answered
-        ∙ ap (λ (n : ℕ). Did (record_of (fixed_of h see) (fetch_of h.pc (leaf_word l) ∷ []) (retired h.pc (leaf_word l) (rd_told l.rd n)))) value
-        ∙ ap (λ (p : Priv). Did (record { pc = h.pc; privilege = p; word = leaf_word l; outcome = Retired; rd = leaf_write h.regs l; accesses = fetch_of h.pc (leaf_word l) ∷ []; next_pc = (h.pc + 4) % 2 ^ 32 })) at.privilege
+        answered ∙ ap (λ (n : ℕ). Does (fetch_of h.pc (leaf_word l) ∷ []) (retired h.pc (leaf_word l) (rd_told l.rd n))) value
+
+-- the step of a hart that stands before a leaf
+pub step_is : (h : Hart) (see : ℕ → Seen) (l : Leaf) → IsAt h see l
+    → shown (fixed_of h see) (answer_on (known h see) (script (fixed_of h see))) ≡ Did (leaf_record h.pc h.regs l)
+step_is h see l at =
+    ap (shown (fixed_of h see)) (answer_is h see l at)
+    ∙ ap (λ (p : Priv). Did (record { pc = h.pc; privilege = p; word = leaf_word l; outcome = Retired; rd = leaf_write h.regs l; accesses = fetch_of h.pc (leaf_word l) ∷ []; next_pc = (h.pc + 4) % 2 ^ 32 })) at.privilege
 
 pub did_same : (r s : Record) → Did r ≡ Did s → r ≡ s
 did_same r s e = cc

@@ -6,7 +6,7 @@ use Rattle.rv_mem.specs.declared.words.Seen.{Seen}
 use Rattle.rv_mem.specs.declared.words.Seen.TheVariants.{Known, Untouched, Vacant}
 use Rattle.rv_mem.specs.Seen.{is_there}
 use Rattle.rv_mem.specs.Ram.{in_ram}
-use Rattle.rv_hart.specs.declared.csrs.Priv.TheVariants.{M}
+use Rattle.rv_csr.specs.declared.privilege.Priv.TheVariants.{M}
 use Rattle.rv_hart.specs.declared.hart.Hart.{Hart}
 use Rattle.rv_hart.specs.declared.record.Record.{Record}
 use Rattle.rv_hart.specs.Registers.{written}

@@ -1,5 +1,5 @@
 -- A whole hart over the code does what its leaves say.
-use Rattle.std.proofs.Common.{◌≡◌, ◌≢◌, ℕ, ◌/◌, ◌<◌, Bool, true, false, eqb, List, [], ◌∷◌, length, map, Option, Some, None, refl, sym, ap, ◌∙◌, subst, inl, inr, arith, if◌then◌else◌}
+use Rattle.std.proofs.Common.{◌≡◌, ◌≢◌, ℕ, ◌-◌, ◌/◌, ◌<◌, Bool, true, false, eqb, List, [], ◌∷◌, length, map, Option, Some, None, refl, sym, ap, ◌∙◌, subst, inl, inr, arith, if◌then◌else◌}
 use Rattle.std.specs.Prelude.{slice_index_or}
 use Rattle.std.specs.Option.{unwrap_or, is_some, IsSome}
 use Rattle.std.proofs.Math.ListN.{set}
@@ -16,59 +16,24 @@ use Rattle.rv_script.specs.Bytes.{is_look}
 use Rattle.rv_script.specs.Script.{place_of, access_of}
 use Rattle.rv_script.specs.Folds.{Known, Teller, by_known, Answer.Does, answer_on, Entry, Sight, asked_of, result_of, accesses_of, or_next, first_missing, answer_by}
 use Rattle.rv_script.specs.Memory.{word_after, accessed, memory_after}
-use Rattle.rv_script.proofs.Wholes.{whole}
+use Rattle.rv_csr.specs.declared.table.Register.{Register}
+use Rattle.rv_csr.specs.declared.table.Register.TheVariants.{Sstatus, Satp, Mstatus, Medeleg, Mhartid, Lazy}
+use Rattle.rv_csr.specs.State.{known_in, lazy_value_at}
+use Rattle.rv_csr.specs.Table.{register_at}
+use Rattle.rv_csr.proofs.Places.{none_at_first}
 use Rattle.rv_hart.specs.declared.record.Change.{Change}
-use Rattle.rv_hart.specs.Machine.{Fixed, script}
-use Rattle.rv_hart.specs.Whole.{WholeHart, value_at, sight_of, record_of, planned, step_of, needed_places, sighted_step_of}
+use Rattle.rv_hart.specs.declared.record.Control.{Control}
+use Rattle.rv_hart.specs.declared.record.Control.TheVariants.{Stay}
+use Rattle.rv_hart.specs.Changes.{csrs_after, given_by, writes_of}
+use Rattle.rv_hart.specs.Fixed.{Fixed, fixed_csrs}
+use Rattle.rv_hart.specs.Whole.{WholeHart, value_at, sight_of, record_of, planned, step_of, needed_places, sighted_step_of, file_after}
 use Rattle.rv_hart.specs.Registers.{written}
-use Rattle.rv_hart.specs.Machine.{rd_told}
-use Rattle.rv_hart.specs.Whole.{file_after}
+use Rattle.rv_hart.specs.Privileged.{rd_told}
 use Rattle.rv_hart.specs.Clauses.{Has}
 use Rattle.tpl_parse.specs.declared.template.Region.{Region}
 use Rattle.tpl_admit.specs.Starts.{fixed_in, zero_elsewhere}
 use Rattle.tpl_admit.specs.Solo.{is_set, knows_also}
 use Rattle.gen_engine.specs.Plan.{state_at}
-
--- ---- a step of which the answer is known
-
-does : {A : Type 0} (missing : Option Place) (xs ys : List Access) (o : Option A) (a : A) → Does xs a ≡ answer_by missing ys o → (missing ≡ None) × (ys ≡ xs) × (o ≡ Some a)
-does (Some place) xs ys o a e = absurd cc
-does None xs ys None a e = absurd cc
-does None xs ys (Some b) a e = (refl, cc, cc)
-
-pub record Takes (f : Fixed) (known : Known) (h : WholeHart) (words : ℕ → ℕ) (xs : List Access) (c : Change) : Type 0 where
-  pub step : step_of h words ≡ Some (record { did = record_of f xs c; change = c })
-  pub needs : (place : Place) → HasItem (needed_places h words) place → IsSome (known place)
-
-none_missing : (tell : Teller) (log : List Entry) → first_missing tell log ≡ None → (place : Place) → HasItem (map (λ (e : Entry). place_of e.question) log) place
-    → (e : Entry) × (place_of e.question ≡ place) × IsSome (tell e.question)
-none_missing tell [] none place h = absurd h
-none_missing tell (e ∷ log) none place h = go (tell e.question) refl (none_missing tell log) none
-  where
-    go : (o : Option ℕ) → tell e.question ≡ o
-        → (first_missing tell log ≡ None → (p : Place) → HasItem (map (λ (d : Entry). place_of d.question) log) p → (f : Entry) × (place_of f.question ≡ p) × IsSome (tell f.question))
-        → or_next o (place_of e.question) (first_missing tell log) ≡ None → (f : Entry) × (place_of f.question ≡ place) × IsSome (tell f.question)
-    go None is later none = absurd cc
-    go (Some v) is later none = elim h [
-      | inl here ↦ (e, here, subst IsSome (sym is) refl)
-      | inr there ↦ later none place there
-    ]
-
--- a step that is told on what is known is the step of each whole hart that has it
-pub takes : (f : Fixed) (known : Known) (h : WholeHart) (words : ℕ → ℕ) (xs : List Access) (c : Change) → Has f known h words → answer_on known (script f) ≡ Does xs c → Takes f known h words xs c
-takes f known h words xs c has answered =
-    let see : Sight = sight_of h.file words in
-    let w = whole access_of (script f) (by_known known) see (λ q v t. has.values (place_of q) v t) in
-    let d = does (first_missing (by_known known) (asked_of (script f) see)) xs (accesses_of (script f) see) (result_of (script f) see) c (sym answered ∙ w) in
-    let on_f : sighted_step_of f see ≡ Some (record { did = record_of f xs c; change = c }) =
-    ap (λ (ys : List Access). planned f ys (result_of (script f) see)) d.1 ∙ ap (λ (o : Option Change). planned f xs o) d.2 in
-    record {
-      step = subst (λ (g : Fixed). sighted_step_of g see ≡ Some (record { did = record_of f xs c; change = c })) (sym has.fixed) on_f;
-      needs = λ place asks.
-          let on : HasItem (map (λ (e : Entry). place_of e.question) (asked_of (script f) see)) place = subst (λ (g : Fixed). HasItem (map (λ (e : Entry). place_of e.question) (asked_of (script g) see)) place) has.fixed asks in
-          let n = none_missing (by_known known) (asked_of (script f) see) d.0 place on in
-          subst (λ (p : Place). IsSome (known p)) n.1 n.2;
-    }
 
 -- ---- accesses that only look
 
@@ -99,15 +64,36 @@ regs_known regs key = if eqb key 0 then None else slice_index_or regs key None
 abbrev pub Shows : List (Option ℕ) → (ℕ → Bool) → (ℕ → ℕ) → Type 0
 Shows regs knows file = (key : ℕ) → regs_known regs key ≡ (if knows key then Some (file key) else None)
 
-pub shows_write : (regs : List (Option ℕ)) (knows : ℕ → Bool) (file : ℕ → ℕ) (rd value : ℕ) → Shows regs knows file → length regs ≡ 32 → rd < 32
-    → Shows (written (rd_told rd value) regs) (knows_also (rd_told rd value) knows) (file_after (rd_told rd value) file)
-shows_write regs knows file rd value shows size small key = elim (cases_eq rd 0) [
+-- what a step that writes a register alone writes
+abbrev pub WritesOf : Option (ℕ × ℕ) → (ℕ → Option ℕ) → Type 0
+WritesOf rd writes = (key : ℕ) → writes key ≡ given_by rd None key
+
+none_at : (f : Fixed) (addr : ℕ) → lazy_value_at (fixed_csrs f) addr ≡ None
+none_at f addr = go (register_at addr)
+  where
+    go : (o : Option Register) → known_in (fixed_csrs f) o ≡ None
+    go None = refl
+    go (Some Sstatus) = refl
+    go (Some Satp) = refl
+    go (Some Mstatus) = refl
+    go (Some Medeleg) = refl
+    go (Some Mhartid) = refl
+    go (Some (Lazy register)) = none_at_first f.number f.mstatus f.medeleg f.satp register
+
+pub register_alone : (f : Fixed) (c : Change) → c.control ≡ Stay → WritesOf c.rd (writes_of f c)
+register_alone f c stays key =
+    ap (λ (k : Control). given_by c.rd (lazy_value_at (csrs_after f.privilege f.pc k (fixed_csrs f)) (key - 0x1000)) key) stays
+    ∙ ap (λ (o : Option ℕ). given_by c.rd o key) (none_at f (key - 0x1000))
+
+pub shows_write : (regs : List (Option ℕ)) (knows : ℕ → Bool) (file : ℕ → ℕ) (rd value : ℕ) (writes : ℕ → Option ℕ) → WritesOf (rd_told rd value) writes → Shows regs knows file → length regs ≡ 32 → rd < 32
+    → Shows (written (rd_told rd value) regs) (knows_also writes knows) (file_after writes file)
+shows_write regs knows file rd value writes is shows size small key = rw (is key) (elim (cases_eq rd 0) [
   | inl zero_is ↦ rw (eq-eqb rd 0 zero_is) (shows key)
   | inr some ↦ rw (ne_eqb rd 0 some) (elim (cases_eq rd key) [
     | inl here ↦ rw (eq-eqb rd key here) (subst (λ (k : ℕ). (if eqb k 0 then None else slice_index_or (set regs rd (Some value)) k None) ≡ Some value) here (rw (ne_eqb rd 0 some) (get_or-set_same regs rd (Some value) None (omega (arith, size, small)))))
     | inr other ↦ rw (ne_eqb rd key other) (ap (λ (o : Option ℕ). if eqb key 0 then None else o) (get_or-set_other regs rd key (Some value) None (λ e. other (sym e))) ∙ shows key)
   ])
-]
+])
 
 pub written_size : (regs : List (Option ℕ)) (rd value : ℕ) → length regs ≡ 32 → length (written (rd_told rd value) regs) ≡ 32
 written_size regs rd value size = elim (cases_eq rd 0) [

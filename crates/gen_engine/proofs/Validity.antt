@@ -10,11 +10,11 @@ use Rattle.rv_script.specs.declared.access.Access.{Access}
 use Rattle.rv_script.specs.Lists.{HasItem}
 use Rattle.rv_script.specs.Bytes.{is_look}
 use Rattle.rv_mem.specs.declared.words.Seen.{Seen}
-use Rattle.rv_hart.specs.declared.csrs.Priv.TheVariants.{M}
+use Rattle.rv_csr.specs.declared.privilege.Priv.TheVariants.{M}
 use Rattle.rv_hart.specs.declared.hart.Hart.{Hart}
 use Rattle.rv_hart.specs.declared.record.Record.{Record}
 use Rattle.rv_hart.specs.Registers.{written, no_registers}
-use Rattle.rv_hart.specs.Machine.{rd_told}
+use Rattle.rv_hart.specs.Privileged.{rd_told}
 use Rattle.tpl_parse.specs.declared.template.Leaf.{Leaf}
 use Rattle.tpl_parse.specs.declared.template.Region.{Region}
 use Rattle.tpl_parse.specs.declared.template.Template.{Template}

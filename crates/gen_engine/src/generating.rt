@@ -16,7 +16,7 @@ ghost use Rattle.gen_engine.specs.Code.{IsAt, IsReady};
 use crate::OutOfMemory;
 use crate::assembling::{assemble, known_places};
 use crate::code::{memory_of, words_of};
-use rv_hart::{Hart, Priv, Record, Stepped, step};
+use rv_hart::{Csrs, Hart, Priv, Record, Stepped, step};
 use rv_mem::PartMem;
 use std::alloc::{AllocError, Global};
 use tpl_admit::Cert;
@@ -72,7 +72,7 @@ pub fn generate(alloc: Global, template: Template) -> Result<Cert, OutOfMemory>
     let base = template.start_pc;
     let words = words_of(alloc, template.leaves.as_slice())?;
     let mut memory = memory_of(alloc, template.ram, base, &words)?;
-    let mut hart = Hart::new(0, base, Priv::M);
+    let mut hart = Hart::new(base, Priv::M, Csrs::new(0, 0, 0, 0));
     let records = records_of(alloc, &mut hart, &mut memory, template.leaves.as_slice())?;
     let places = known_places(alloc, &hart.regs)?;
     let end = hart.pc;

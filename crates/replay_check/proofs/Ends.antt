@@ -1,5 +1,5 @@
 -- How harts and memory end.
-use Rattle.std.proofs.Common.{◌≡◌, ℕ, zero, suc, ◌*◌, ◌/◌, ◌%◌, ◌<◌, ◌≤◌, Bool, List, [], ◌∷◌, length, get_or, Option, Some, None, if◌then◌else◌, refl, sym, ap, ◌∙◌, subst, inl, inr, arith}
+use Rattle.std.proofs.Common.{◌≡◌, ℕ, zero, suc, ◌-◌, ◌*◌, ◌/◌, ◌%◌, ◌<◌, ◌≤◌, Bool, List, [], ◌∷◌, length, get_or, Option, Some, None, if◌then◌else◌, refl, sym, ap, ◌∙◌, subst, inl, inr, arith}
 use Rattle.std.specs.Prelude.{◌↔◌, slice_index_or}
 use Rattle.std.specs.Option.{unwrap_or, is_some}
 use Rattle.std.specs.List.{AllByRecursion}
@@ -8,11 +8,16 @@ use Rattle.std.proofs.lemmas.Bool.{cases_lt}
 use Rattle.rv_mem.specs.declared.words.Seen.{Seen}
 use Rattle.rv_mem.specs.declared.words.Seen.TheVariants.{Known}
 use Rattle.rv_script.specs.Memory.{memory_after}
-use Rattle.rv_hart.specs.declared.csrs.Priv.{Priv}
+use Rattle.rv_csr.specs.declared.privilege.Priv.{Priv}
 use Rattle.rv_hart.specs.declared.hart.Hart.{Hart}
-use Rattle.rv_hart.specs.Machine.{Fixed}
-use Rattle.rv_hart.specs.View.{lazy_csrs, at_position}
-use Rattle.rv_hart.specs.Whole.{WholeHart, csr_key}
+use Rattle.rv_hart.specs.Fixed.{Fixed}
+use Rattle.rv_csr.specs.declared.table.LazyRegister.{LazyRegister}
+use Rattle.rv_csr.specs.declared.table.LazyRegister.TheVariants.{Stvec, Sscratch, Sepc, Scause, Stval, Mtvec, Mscratch, Mepc, Mcause, Mtval}
+use Rattle.rv_csr.specs.declared.table.Register.{Register}
+use Rattle.rv_csr.specs.declared.table.Register.TheVariants.{Sstatus, Satp, Mstatus, Medeleg, Mhartid, Lazy}
+use Rattle.rv_csr.specs.State.{CsrValues, known_in, lazy_value_at}
+use Rattle.rv_csr.specs.Table.{address_of, csr_key, register_at, registers}
+use Rattle.rv_hart.specs.Whole.{WholeHart}
 use Rattle.tpl_parse.specs.declared.template.Region.{Region}
 use Rattle.tpl_admit.specs.declared.certificate.Cert.{Cert}
 use Rattle.tpl_admit.specs.declared.certificate.HartState.{HartState}
@@ -22,12 +27,12 @@ use Rattle.tpl_admit.specs.Solo.{Solo, solo, solo_run, knows_after}
 use Rattle.tpl_admit.specs.Validity.{in_turn}
 use Rattle.tpl_admit.specs.WellFormed.{IsState, IsWellFormed}
 use Rattle.tpl_admit.specs.Failures.{AreRight, GoesWrong, HartIsRight, HartGoesWrong, EndsAsTold, MemoryEndsAsTold}
-use Rattle.replay_check.specs.Knowledge.{lazy_place, known_at, known_of, knows_of, fixed_now, whole_of}
+use Rattle.replay_check.specs.Knowledge.{known_at, known_of, knows_of, fixed_now, whole_of}
 use Rattle.replay_check.specs.Memory.{IsStart, ShowsOf}
 use Rattle.replay_check.specs.Replay.{TakesAll, StraysAt, EndsAs, IsFixedTold}
 use Rattle.replay_check.proofs.Keys.{found_no_key}
-use Rattle.replay_check.proofs.Lazy.{lazy_at, lazy_key, lazy_of}
-use Rattle.replay_check.proofs.Knowledge.{wholes, known_zero, known_small, known_large}
+use Rattle.replay_check.proofs.Lazy.{NamesCsr, has_address, address_positive, lazy_of}
+use Rattle.replay_check.proofs.Knowledge.{wholes, known_zero, known_small, known_large, known_csr}
 use Rattle.replay_check.proofs.Shown.{each_told}
 
 -- ---- the lists of a well-formed certificate
@@ -121,36 +126,64 @@ ends_fixed c k h ends told =
 pub ends_places : (c : Cert) (k : ℕ) (h : Hart) → EndsAs c k h → EndsAsTold c k → (key : ℕ) → found (final_of c k).places key ≡ known_of h key
 ends_places c k h ends told key = told.places key ∙ ends_shown c k h ends key
 
--- ---- all keys by registers and lazy CSRs
+-- ---- all keys by registers and CSRs
 
-pub all_told : (regs lazy : List (Option ℕ)) (told : List (ℕ × ℕ)) → ArePlaces 0 told
-    → ((key : ℕ) → 1 ≤ key → key < 32 → found told key ≡ slice_index_or regs key None)
-    → ((i : ℕ) → i < 10 → found told (csr_key (get_or lazy_csrs i 0)) ≡ slice_index_or lazy i None)
-    → (key : ℕ) → found told key ≡ known_at regs lazy key
-all_told regs lazy told are registers csrs key = elim (cases_lt key 32) [
+abbrev CsrsTold : CsrValues → List (ℕ × ℕ) → Type 0
+CsrsTold csrs told = (register : Register) → found told (csr_key (address_of register)) ≡ lazy_value_at csrs (address_of register)
+
+csrs_told : (csrs : CsrValues) (told : List (ℕ × ℕ)) → ArePlaces 0 told → CsrsTold csrs told → (key : ℕ) → 32 ≤ key → found told key ≡ lazy_value_at csrs (key - 0x1000)
+csrs_told csrs told are registers key large = go (register_at (key - 0x1000)) refl
+  where
+    none : (o : Option Register) → register_at (key - 0x1000) ≡ o → ((lazy : LazyRegister) → o ≡ Some (Lazy lazy) → ⊥) → found told key ≡ None
+    none o e other = found_no_key 0 told key are (λ is. let n : NamesCsr key = lazy_of key large is in other n.lazy (sym e ∙ n.at))
+
+    go : (o : Option Register) → register_at (key - 0x1000) ≡ o → found told key ≡ known_in csrs (register_at (key - 0x1000))
+    go None e = rw e (none None e (λ lazy f. absurd (cc f)))
+    go (Some Sstatus) e = rw e (none (Some Sstatus) e (λ lazy f. absurd (cc f)))
+    go (Some Satp) e = rw e (none (Some Satp) e (λ lazy f. absurd (cc f)))
+    go (Some Mstatus) e = rw e (none (Some Mstatus) e (λ lazy f. absurd (cc f)))
+    go (Some Medeleg) e = rw e (none (Some Medeleg) e (λ lazy f. absurd (cc f)))
+    go (Some Mhartid) e = rw e (none (Some Mhartid) e (λ lazy f. absurd (cc f)))
+    go (Some (Lazy lazy)) e =
+        let address : address_of (Lazy lazy) ≡ key - 0x1000 = has_address (key - 0x1000) (Lazy lazy) e in
+        let is : csr_key (address_of (Lazy lazy)) ≡ key = omega (arith, address, address_positive lazy) in
+        ap (found told) (sym is) ∙ registers (Lazy lazy) ∙ ap (λ (a : ℕ). lazy_value_at csrs a) address
+
+pub all_told : (regs : List (Option ℕ)) (csrs : CsrValues) (told : List (ℕ × ℕ)) → ArePlaces 0 told
+    → ((key : ℕ) → 1 ≤ key → key < 32 → found told key ≡ slice_index_or regs key None) → CsrsTold csrs told → (key : ℕ) → found told key ≡ known_at regs csrs key
+all_told regs csrs told are registers of_csrs key = elim (cases_lt key 32) [
   | inl small ↦ of_register key small
-  | inr large ↦ go (lazy_place key) refl large ∙ sym (known_large regs lazy key large)
+  | inr large ↦ csrs_told csrs told are of_csrs key large ∙ sym (known_large regs csrs key large)
 ]
   where
-    of_register : (n : ℕ) → n < 32 → found told n ≡ known_at regs lazy n
-    of_register zero small = found_no_key 0 told 0 are (λ is. absurd (cc is)) ∙ sym (known_zero regs lazy)
-    of_register (suc n) small = registers (suc n) (omega arith) small ∙ sym (known_small regs lazy (suc n) small (λ e. absurd (omega (arith, e))))
+    of_register : (n : ℕ) → n < 32 → found told n ≡ known_at regs csrs n
+    of_register zero small = found_no_key 0 told 0 are (λ is. absurd (cc is)) ∙ sym (known_zero regs csrs)
+    of_register (suc n) small = registers (suc n) (omega arith) small ∙ sym (known_small regs csrs (suc n) small (λ e. absurd (omega (arith, e))))
 
-    go : (o : Option ℕ) → lazy_place key ≡ o → 32 ≤ key → found told key ≡ at_position lazy (lazy_place key)
-    go None e large = rw e (found_no_key 0 told key are (λ is.
-        let k = lazy_of key large is in
-        let some : Some k.0 ≡ None = sym (ap (λ (n : ℕ). lazy_place n) k.2 ∙ lazy_at k.0 k.1) ∙ e in
-        absurd (cc some)))
-    go (Some i) e large = let k = lazy_key key i e in rw e (ap (found told) k.1 ∙ csrs i k.0)
-
-pub register_told : (regs lazy : List (Option ℕ)) (told : List (ℕ × ℕ)) → ((key : ℕ) → found told key ≡ known_at regs lazy key)
+pub register_told : (regs : List (Option ℕ)) (csrs : CsrValues) (told : List (ℕ × ℕ)) → ((key : ℕ) → found told key ≡ known_at regs csrs key)
     → (key : ℕ) → 1 ≤ key → key < 32 → found told key ≡ slice_index_or regs key None
-register_told regs lazy told all key some small = all key ∙ known_small regs lazy key small (λ e. absurd (omega (arith, e, some)))
+register_told regs csrs told all key some small = all key ∙ known_small regs csrs key small (λ e. absurd (omega (arith, e, some)))
 
-pub csr_told : (regs lazy : List (Option ℕ)) (told : List (ℕ × ℕ)) → ((key : ℕ) → found told key ≡ known_at regs lazy key)
-    → (i : ℕ) → i < 10 → found told (csr_key (get_or lazy_csrs i 0)) ≡ slice_index_or lazy i None
-csr_told regs lazy told all i within =
-    all (csr_key (get_or lazy_csrs i 0)) ∙ known_large regs lazy (csr_key (get_or lazy_csrs i 0)) (omega arith) ∙ ap (at_position lazy) (lazy_at i within)
+pub csr_told : (regs : List (Option ℕ)) (csrs : CsrValues) (told : List (ℕ × ℕ)) → ((key : ℕ) → found told key ≡ known_at regs csrs key) → CsrsTold csrs told
+csr_told regs csrs told all register = all (csr_key (address_of register)) ∙ known_csr regs csrs (address_of register)
+
+-- what holds of each of the table holds of each
+pub each_register : (P : Register → Type 0) → ((k : ℕ) → k < 15 → P (get_or registers k Sstatus)) → (register : Register) → P register
+each_register P all Sstatus = all 0 (omega arith)
+each_register P all (Lazy Stvec) = all 1 (omega arith)
+each_register P all (Lazy Sscratch) = all 2 (omega arith)
+each_register P all (Lazy Sepc) = all 3 (omega arith)
+each_register P all (Lazy Scause) = all 4 (omega arith)
+each_register P all (Lazy Stval) = all 5 (omega arith)
+each_register P all Satp = all 6 (omega arith)
+each_register P all Mstatus = all 7 (omega arith)
+each_register P all Medeleg = all 8 (omega arith)
+each_register P all (Lazy Mtvec) = all 9 (omega arith)
+each_register P all (Lazy Mscratch) = all 10 (omega arith)
+each_register P all (Lazy Mepc) = all 11 (omega arith)
+each_register P all (Lazy Mcause) = all 12 (omega arith)
+each_register P all (Lazy Mtval) = all 13 (omega arith)
+each_register P all Mhartid = all 14 (omega arith)
 
 -- ---- memory
 

@@ -1,12 +1,15 @@
 -- Values in pairs whose keys ascend.
 use Rattle.std.proofs.Common.{◌≡◌, ◌≢◌, ℕ, zero, suc, ◌+◌, ◌<◌, ◌≤◌, true, eqb, List, [], ◌∷◌, length, get_or, Option, Some, None, if◌then◌else◌, refl, sym, ap, ◌∙◌, subst, inl, inr, arith}
-use Rattle.std.specs.Prelude.{nat_eq}
+use Rattle.std.specs.Prelude.{◌↔◌, nat_eq, IsTrue}
+use Rattle.std.specs.Option.{option_eq}
+use Rattle.std.specs.List.{AllByRecursion}
 use Rattle.std.specs.declared.cmp.Ordering.TheVariants.{Less, Equal, Greater}
 use Rattle.std.specs.List.Sorted.{IsNonDecreasingBy, IsPartitionPoint}
 use Rattle.std.specs.Ordering.{nat_cmp, ordering_index}
 use Rattle.std.proofs.lemmas.Bool.{cases_Bool, cases_lt, cases_order, eq-eqb, eqb-true, ne_eqb, lt-ltb, le-ltb, le-leb, leb-true, and_parts, and_from}
 use Rattle.tpl_parse.specs.declared.template.Region.{Region}
 use Rattle.tpl_admit.specs.Starts.{found, is_key, is_in, ArePlaces, AreStartWords}
+use Rattle.tpl_admit.specs.WellFormed.{is_legal_place}
 use Rattle.replay_check.specs.Memory.{is_ascending}
 
 pub places_ascend : (from : ℕ) (es : List (ℕ × ℕ)) → ArePlaces from es → is_ascending from es ≡ true
@@ -126,23 +129,47 @@ pub or_nothing : (o p : Option ℕ) → p ≡ None → or_else o p ≡ o
 or_nothing None p e = e
 or_nothing (Some v) p e = refl
 
--- the pairs that are left have keys of places, which ascend
-pub record AreLeft (es : List (ℕ × ℕ)) : Type 0 where
+-- the pairs that are left have keys of places, which ascend, and legal values, and none of the places from the first of them on is known
+pub record AreLeft (known : ℕ → Option ℕ) (es : List (ℕ × ℕ)) : Type 0 where
   pub from : ℕ
   pub places : ArePlaces from es
+  pub legal : AllByRecursion (λ e. is_legal_place e ≡ true) es
+  pub untouched : (key : ℕ) → from ≤ key → known key ≡ None
 
-pub left_all : (es : List (ℕ × ℕ)) → ArePlaces 0 es → AreLeft es
-left_all es are = record { from = 0; places = are }
+pub left_all : (known : ℕ → Option ℕ) (es : List (ℕ × ℕ)) → ArePlaces 0 es → AllByRecursion (λ e. is_legal_place e ≡ true) es → ((key : ℕ) → known key ≡ None) → AreLeft known es
+left_all known es are legal none = record { from = 0; places = are; legal = legal; untouched = λ key from. none key }
 
-pub left_head : (es : List (ℕ × ℕ)) (e : ℕ × ℕ) (rest : List (ℕ × ℕ)) → es ≡ e ∷ rest → AreLeft es → is_key e.0 ≡ true
-left_head es e rest split left = let are : ArePlaces left.from (e ∷ rest) = subst (ArePlaces left.from) split left.places in are.1
+-- the first pair that is left
+pub record IsFirst (known : ℕ → Option ℕ) (e : ℕ × ℕ) : Type 0 where
+  pub key : is_key e.0 ≡ true
+  pub legal : is_legal_place e ≡ true
+  pub untouched : known e.0 ≡ None
 
-pub left_next : (es : List (ℕ × ℕ)) (e : ℕ × ℕ) (rest : List (ℕ × ℕ)) → es ≡ e ∷ rest → AreLeft es → AreLeft rest
-left_next es e rest split left = let are : ArePlaces left.from (e ∷ rest) = subst (ArePlaces left.from) split left.places in record { from = e.0 + 1; places = are.3 }
+pub left_head : (known : ℕ → Option ℕ) (es : List (ℕ × ℕ)) (e : ℕ × ℕ) (rest : List (ℕ × ℕ)) → es ≡ e ∷ rest → AreLeft known es → IsFirst known e
+left_head known es e rest split left =
+    let are : ArePlaces left.from (e ∷ rest) = subst (ArePlaces left.from) split left.places in
+    let legal : AllByRecursion (λ x. is_legal_place x ≡ true) (e ∷ rest) = subst (AllByRecursion (λ x. is_legal_place x ≡ true)) split left.legal in
+    record { key = are.1; legal = legal.0; untouched = left.untouched e.0 are.0 }
 
 -- what is known after one more pair was given
-pub given_next : (es : List (ℕ × ℕ)) (e : ℕ × ℕ) (rest : List (ℕ × ℕ)) (before after : ℕ → Option ℕ) → es ≡ e ∷ rest → AreLeft es
-    → ((k : ℕ) → after k ≡ (if nat_eq e.0 k then Some e.1 else before k)) → (key : ℕ) → or_else (found rest key) (after key) ≡ or_else (found es key) (before key)
+abbrev pub also_given : ℕ × ℕ → (ℕ → Option ℕ) → ℕ → Option ℕ
+also_given e before key = if nat_eq e.0 key then Some e.1 else before key
+
+pub left_next : (es : List (ℕ × ℕ)) (e : ℕ × ℕ) (rest : List (ℕ × ℕ)) (before after : ℕ → Option ℕ) → es ≡ e ∷ rest → AreLeft before es → ((key : ℕ) → after key ≡ also_given e before key) → AreLeft after rest
+left_next es e rest before after split left given =
+    let are : ArePlaces left.from (e ∷ rest) = subst (ArePlaces left.from) split left.places in
+    let legal : AllByRecursion (λ x. is_legal_place x ≡ true) (e ∷ rest) = subst (AllByRecursion (λ x. is_legal_place x ≡ true)) split left.legal in
+    record {
+      from = e.0 + 1;
+      places = are.3;
+      legal = legal.1;
+      untouched = λ key above.
+          let other : e.0 ≢ key = λ same. absurd (omega (arith, same, above)) in
+          given key ∙ rw (ne_eqb e.0 key other) (left.untouched key (omega (arith, are.0, above)));
+    }
+
+pub given_next : (es : List (ℕ × ℕ)) (e : ℕ × ℕ) (rest : List (ℕ × ℕ)) (before after : ℕ → Option ℕ) → es ≡ e ∷ rest → AreLeft before es
+    → ((key : ℕ) → after key ≡ also_given e before key) → (key : ℕ) → or_else (found rest key) (after key) ≡ or_else (found es key) (before key)
 given_next es e rest before after split left given key =
     let are : ArePlaces left.from (e ∷ rest) = subst (ArePlaces left.from) split left.places in
     rw split (elim (cases_Bool (nat_eq e.0 key)) [
@@ -153,3 +180,11 @@ given_next es e rest before after split left given key =
           rw (here, none) is
       | inr other ↦ (let is : after key ≡ before key = rw other at (given key) in rw other (ap (or_else (found rest key)) is))
     ])
+
+-- ---- known values
+
+pub same_values : (a b : Option ℕ) → IsTrue (option_eq eqb a b) ↔ (a ≡ b)
+same_values None None = (λ is. refl, λ e. refl)
+same_values None (Some y) = (λ is. absurd (cc is), λ e. absurd (cc e))
+same_values (Some x) None = (λ is. absurd (cc is), λ e. absurd (cc e))
+same_values (Some x) (Some y) = (λ is. ap (λ (n : ℕ). Some n) (eqb-true x y is), λ e. let same : x ≡ y = cc e in eq-eqb x y same)

@@ -1,128 +1,142 @@
 -- What is known of a hart, by keys.
-use Rattle.std.proofs.Common.{◌≡◌, ◌≢◌, ℕ, zero, suc, ◌+◌, ◌-◌, ◌*◌, ◌<◌, ◌≤◌, Bool, true, false, ◌||◌, List, length, get_or, Option, Some, None, if◌then◌else◌, refl, sym, ap, ◌∙◌, subst, inl, inr, arith}
-use Rattle.std.specs.Prelude.{nat_eq, slice_index_or, slice_set, replicate, position}
-use Rattle.std.specs.Option.{unwrap_or, is_some}
-use Rattle.std.proofs.Math.Path.{fun_ext}
+use Rattle.std.proofs.Common.{◌≡◌, ◌≢◌, ℕ, zero, suc, ◌+◌, ◌-◌, ◌<◌, ◌≤◌, List, length, Option, Some, None, if◌then◌else◌, refl, sym, ap, ◌∙◌, subst, inl, inr, arith}
+use Rattle.std.specs.Prelude.{nat_eq, slice_index_or, slice_set, replicate, IsTrue}
 use Rattle.std.proofs.lemmas.Bool.{cases_eq, cases_lt, eq-eqb, ne_eqb, lt-ltb, le-ltb}
 use Rattle.std.proofs.lemmas.List.{get_or-set_same, get_or-set_other, length-set, length-replicate, get_or-replicate, get_or_past}
-use Rattle.rv_hart.specs.declared.csrs.Csrs.{Csrs}
-use Rattle.rv_hart.specs.declared.csrs.Priv.{Priv}
-use Rattle.rv_hart.specs.declared.hart.Hart.{Hart}
-use Rattle.rv_hart.specs.Machine.{Fixed}
-use Rattle.rv_hart.specs.Registers.{no_registers, written}
-use Rattle.rv_hart.specs.View.{lazy_csrs, at_position}
-use Rattle.rv_hart.specs.Whole.{WholeHart, csr_key, file_after}
-use Rattle.tpl_parse.specs.declared.template.Region.{Region}
-use Rattle.tpl_admit.specs.Starts.{is_in, zero_elsewhere}
-use Rattle.tpl_admit.specs.Solo.{knows_also}
-use Rattle.tpl_admit.specs.WellFormed.{IsWritten}
-use Rattle.replay_check.specs.Knowledge.{lazy_place, known_at, known_of, fixed_now, whole_of}
-use Rattle.replay_check.proofs.Lazy.{lazy_key, lazy_large}
+use Rattle.rv_csr.specs.declared.table.LazyRegister.{LazyRegister}
+use Rattle.rv_csr.specs.declared.table.Register.{Register}
+use Rattle.rv_csr.specs.declared.table.Register.TheVariants.{Sstatus, Satp, Mstatus, Medeleg, Mhartid, Lazy}
+use Rattle.rv_csr.specs.State.{CsrValues, first_values, is_untouched, known_in, lazy_value, lazy_value_at, slot_of, started, with_first, with_lazy}
+use Rattle.rv_csr.specs.Table.{address_of, csr_key, register_at}
+use Rattle.rv_csr.proofs.LegalValues.{slots_apart}
+use Rattle.rv_csr.proofs.Places.{lazy_after, none_at_first}
+use Rattle.rv_hart.specs.Fixed.{Fixed}
+use Rattle.rv_hart.specs.Registers.{no_registers}
+use Rattle.rv_hart.specs.Whole.{WholeHart}
+use Rattle.replay_check.specs.Knowledge.{known_at}
+use Rattle.replay_check.proofs.Lazy.{NamesCsr, has_address, address_positive}
 
-pub known_zero : (regs lazy : List (Option ℕ)) → known_at regs lazy 0 ≡ None
+pub known_zero : (regs : List (Option ℕ)) (csrs : CsrValues) → known_at regs csrs 0 ≡ None
 unfolding known_at
-known_zero regs lazy = refl
+known_zero regs csrs = refl
 
-pub known_small : (regs lazy : List (Option ℕ)) (key : ℕ) → key < 32 → key ≢ 0 → known_at regs lazy key ≡ slice_index_or regs key None
+pub known_small : (regs : List (Option ℕ)) (csrs : CsrValues) (key : ℕ) → key < 32 → key ≢ 0 → known_at regs csrs key ≡ slice_index_or regs key None
 unfolding known_at
-known_small regs lazy key small some = rw (lt-ltb key 32 small, ne_eqb key 0 some) refl
+known_small regs csrs key small some = rw (lt-ltb key 32 small, ne_eqb key 0 some) refl
 
-pub known_large : (regs lazy : List (Option ℕ)) (key : ℕ) → 32 ≤ key → known_at regs lazy key ≡ at_position lazy (lazy_place key)
+pub known_large : (regs : List (Option ℕ)) (csrs : CsrValues) (key : ℕ) → 32 ≤ key → known_at regs csrs key ≡ lazy_value_at csrs (key - 0x1000)
 unfolding known_at
-known_large regs lazy key large = rw (le-ltb key 32 large) refl
+known_large regs csrs key large = rw (le-ltb key 32 large) refl
 
--- where the CSR of an address stands
-place_of_csr : (addr : ℕ) → lazy_place (csr_key addr) ≡ position (λ (a : ℕ). nat_eq a addr) lazy_csrs
-unfolding lazy_place
-place_of_csr addr =
-    let back : 0x1000 + addr - 0x1000 ≡ addr = omega arith in
-    ap (λ (n : ℕ). position (λ (a : ℕ). nat_eq a n) lazy_csrs) back
+pub known_csr : (regs : List (Option ℕ)) (csrs : CsrValues) (addr : ℕ) → known_at regs csrs (csr_key addr) ≡ lazy_value_at csrs addr
+known_csr regs csrs addr =
+    let back : csr_key addr - 0x1000 ≡ addr = omega arith in
+    known_large regs csrs (csr_key addr) (omega arith) ∙ ap (λ (a : ℕ). lazy_value_at csrs a) back
 
-pub known_csr : (regs lazy : List (Option ℕ)) (addr : ℕ) → known_at regs lazy (csr_key addr) ≡ at_position lazy (position (λ (a : ℕ). nat_eq a addr) lazy_csrs)
-known_csr regs lazy addr = known_large regs lazy (csr_key addr) (omega arith) ∙ ap (at_position lazy) (place_of_csr addr)
+-- between the registers and the CSRs there is no place
+pub known_between : (regs : List (Option ℕ)) (csrs : CsrValues) (key : ℕ) → 32 ≤ key → key < 0x1000 → known_at regs csrs key ≡ None
+known_between regs csrs key large small =
+    let none : key - 0x1000 ≡ 0 = omega (arith, small) in
+    known_large regs csrs key large ∙ ap (λ (a : ℕ). lazy_value_at csrs a) none
 
--- ---- after a write
+-- ---- after a value is given
 
-pub known_reg_set : (regs lazy : List (Option ℕ)) (n v key : ℕ) → length regs ≡ 32 → 1 ≤ n → n < 32
-    → known_at (slice_set regs n (Some v)) lazy key ≡ (if nat_eq n key then Some v else known_at regs lazy key)
-known_reg_set regs lazy n v key size some small = elim (cases_lt key 32) [
+pub known_reg_set : (regs : List (Option ℕ)) (csrs : CsrValues) (n v key : ℕ) → length regs ≡ 32 → 1 ≤ n → n < 32
+    → known_at (slice_set regs n (Some v)) csrs key ≡ (if nat_eq n key then Some v else known_at regs csrs key)
+known_reg_set regs csrs n v key size some small = elim (cases_lt key 32) [
   | inl below ↦ elim (cases_eq key 0) [
     | inl none ↦
         let other : n ≢ key = λ same. absurd (omega (arith, same, none, some)) in
-        rw (ne_eqb n key other) (subst (λ (k : ℕ). known_at (slice_set regs n (Some v)) lazy k ≡ known_at regs lazy k) (sym none) (known_zero (slice_set regs n (Some v)) lazy ∙ sym (known_zero regs lazy)))
-    | inr one ↦ known_small (slice_set regs n (Some v)) lazy key below one ∙ elim (cases_eq n key) [
+        rw (ne_eqb n key other) (subst (λ (k : ℕ). known_at (slice_set regs n (Some v)) csrs k ≡ known_at regs csrs k) (sym none) (known_zero (slice_set regs n (Some v)) csrs ∙ sym (known_zero regs csrs)))
+    | inr one ↦ known_small (slice_set regs n (Some v)) csrs key below one ∙ elim (cases_eq n key) [
       | inl same ↦ rw (eq-eqb n key same) (subst (λ (k : ℕ). slice_index_or (slice_set regs n (Some v)) k None ≡ Some v) same (get_or-set_same regs n (Some v) None (omega (arith, size, small))))
-      | inr other ↦ rw (ne_eqb n key other) (get_or-set_other regs n key (Some v) None (λ e. other (sym e)) ∙ sym (known_small regs lazy key below one))
+      | inr other ↦ rw (ne_eqb n key other) (get_or-set_other regs n key (Some v) None (λ e. other (sym e)) ∙ sym (known_small regs csrs key below one))
     ]
   ]
   | inr above ↦
       let other : n ≢ key = λ same. absurd (omega (arith, same, small, above)) in
-      rw (ne_eqb n key other) (known_large (slice_set regs n (Some v)) lazy key above ∙ sym (known_large regs lazy key above))
+      rw (ne_eqb n key other) (known_large (slice_set regs n (Some v)) csrs key above ∙ sym (known_large regs csrs key above))
 ]
 
-pub known_lazy_set : (regs lazy : List (Option ℕ)) (key i v k : ℕ) → length lazy ≡ 10 → lazy_place key ≡ Some i
-    → known_at regs (slice_set lazy i (Some v)) k ≡ (if nat_eq key k then Some v else known_at regs lazy k)
-known_lazy_set regs lazy key i v k size place = elim (cases_lt k 32) [
-  | inl below ↦
-      let large = lazy_large key i place in
-      let other : key ≢ k = λ same. absurd (omega (arith, same, large, below)) in
-      rw (ne_eqb key k other) (elim (cases_eq k 0) [
-        | inl none ↦ subst (λ (n : ℕ). known_at regs (slice_set lazy i (Some v)) n ≡ known_at regs lazy n) (sym none) (known_zero regs (slice_set lazy i (Some v)) ∙ sym (known_zero regs lazy))
-        | inr some ↦ known_small regs (slice_set lazy i (Some v)) k below some ∙ sym (known_small regs lazy k below some)
-      ])
-  | inr above ↦ known_large regs (slice_set lazy i (Some v)) k above ∙ go (lazy_place k) refl (known_large regs lazy k above)
-]
+pub started_named : (csrs : CsrValues) (key v : ℕ) (named : NamesCsr key) → started (key - 0x1000) v csrs ≡ with_lazy named.lazy v csrs
+started_named csrs key v named = ap (λ (o : Option Register). with_first o v csrs) named.at
+
+lazy_set : (csrs : CsrValues) (key v k : ℕ) (named : NamesCsr key) → length csrs.lazy ≡ 10
+    → lazy_value_at (with_lazy named.lazy v csrs) (k - 0x1000) ≡ (if nat_eq key k then Some v else lazy_value_at csrs (k - 0x1000))
+lazy_set csrs key v k named size = go (register_at (k - 0x1000)) refl
   where
-    go : (o : Option ℕ) → lazy_place k ≡ o → known_at regs lazy k ≡ at_position lazy (lazy_place k) → at_position (slice_set lazy i (Some v)) (lazy_place k) ≡ (if nat_eq key k then Some v else known_at regs lazy k)
-    go None e was =
-        let other : key ≢ k = λ same. (let some : Some i ≡ lazy_place k = sym place ∙ ap (λ (n : ℕ). lazy_place n) same in let f : Some i ≡ None = some ∙ e in absurd (cc f)) in
-        rw (ne_eqb key k other, e) (sym (was ∙ ap (at_position lazy) e))
-    go (Some j) e was = elim (cases_eq key k) [
+    here : key ≡ k → register_at (k - 0x1000) ≡ Some (Lazy named.lazy)
+    here same = subst (λ (i : ℕ). register_at (i - 0x1000) ≡ Some (Lazy named.lazy)) same named.at
+
+    apart : (o : Option Register) → register_at (k - 0x1000) ≡ o → (Some (Lazy named.lazy) ≡ o → ⊥) → key ≢ k
+    apart o e differ same = differ (sym (here same) ∙ e)
+
+    go : (o : Option Register) → register_at (k - 0x1000) ≡ o → known_in (with_lazy named.lazy v csrs) o ≡ (if nat_eq key k then Some v else known_in csrs o)
+    go None e = rw (ne_eqb key k (apart None e (λ f. cc))) refl
+    go (Some Sstatus) e = rw (ne_eqb key k (apart (Some Sstatus) e (λ f. cc))) refl
+    go (Some Satp) e = rw (ne_eqb key k (apart (Some Satp) e (λ f. cc))) refl
+    go (Some Mstatus) e = rw (ne_eqb key k (apart (Some Mstatus) e (λ f. cc))) refl
+    go (Some Medeleg) e = rw (ne_eqb key k (apart (Some Medeleg) e (λ f. cc))) refl
+    go (Some Mhartid) e = rw (ne_eqb key k (apart (Some Mhartid) e (λ f. cc))) refl
+    go (Some (Lazy other)) e = lazy_after csrs named.lazy other v size ∙ elim (cases_eq key k) [
       | inl same ↦
-          let both : Some i ≡ Some j = sym place ∙ ap (λ (n : ℕ). lazy_place n) same ∙ e in
-          let at : i ≡ j = cc both in
-          let within = (lazy_key key i place).0 in
-          rw (eq-eqb key k same, e) (subst (λ (n : ℕ). slice_index_or (slice_set lazy i (Some v)) n None ≡ Some v) at (get_or-set_same lazy i (Some v) None (omega (arith, size, within))))
-      | inr other ↦
-          let apart : j ≢ i = λ same. other ((lazy_key key i place).1 ∙ ap (λ (n : ℕ). csr_key (get_or lazy_csrs n 0)) (sym same) ∙ sym (lazy_key k j e).1) in
-          rw (ne_eqb key k other, e) (get_or-set_other lazy i j (Some v) None apart ∙ sym (was ∙ ap (at_position lazy) e))
+          let both : Some (Lazy named.lazy) ≡ Some (Lazy other) = sym (here same) ∙ e in
+          let one : named.lazy ≡ other = cc both in
+          rw (eq-eqb key k same, eq-eqb (slot_of named.lazy) (slot_of other) (ap (λ (r : LazyRegister). slot_of r) one)) refl
+      | inr differ ↦
+          let slots : slot_of named.lazy ≢ slot_of other = λ slot. differ (keys (slots_apart named.lazy other slot) e) in
+          rw (ne_eqb key k differ, ne_eqb (slot_of named.lazy) (slot_of other) slots) refl
     ]
+      where
+        keys : named.lazy ≡ other → register_at (k - 0x1000) ≡ Some (Lazy other) → key ≡ k
+        keys one e =
+            let address : address_of (Lazy other) ≡ k - 0x1000 = has_address (k - 0x1000) (Lazy other) e in
+            let same : address_of (Lazy named.lazy) ≡ address_of (Lazy other) = ap (λ (r : LazyRegister). address_of (Lazy r)) one in
+            let sum : key ≡ 0x1000 + address_of (Lazy named.lazy) = named.is in
+            omega (arith, sum, same, address, address_positive other)
 
-pub known_write : (regs lazy : List (Option ℕ)) (rd : Option (ℕ × ℕ)) → length regs ≡ 32 → IsWritten rd
-    → (zero_elsewhere (known_at (written rd regs) lazy) ≡ file_after rd (zero_elsewhere (known_at regs lazy)))
-    × ((λ (key : ℕ). is_some (known_at (written rd regs) lazy key)) ≡ knows_also rd (λ (key : ℕ). is_some (known_at regs lazy key)))
-known_write regs lazy None size is = (fun_ext (λ key. refl), fun_ext (λ key. refl))
-known_write regs lazy (Some w) size is = (
-  fun_ext (λ key. ap (λ (o : Option ℕ). unwrap_or o 0) (known_reg_set regs lazy w.0 w.1 key size is.0 is.1) ∙ pick (nat_eq w.0 key) (known_at regs lazy key)),
-  fun_ext (λ key. ap (λ (o : Option ℕ). is_some o) (known_reg_set regs lazy w.0 w.1 key size is.0 is.1) ∙ also (nat_eq w.0 key) (known_at regs lazy key)),
-)
-  where
-    pick : (b : Bool) (o : Option ℕ) → unwrap_or (if b then Some w.1 else o) 0 ≡ (if b then w.1 else unwrap_or o 0)
-    pick true o = refl
-    pick false o = refl
+-- as many lazy CSRs as there are after a value is given
+size_before : (csrs : CsrValues) (key v : ℕ) (named : NamesCsr key) → length (started (key - 0x1000) v csrs).lazy ≡ 10 → length csrs.lazy ≡ 10
+size_before csrs key v named size =
+    sym (length-set csrs.lazy (slot_of named.lazy) (Some v)) ∙ ap (λ (cs : CsrValues). length cs.lazy) (sym (started_named csrs key v named)) ∙ size
 
-    also : (b : Bool) (o : Option ℕ) → is_some (if b then Some w.1 else o) ≡ (b || is_some o)
-    also true o = refl
-    also false o = refl
+pub untouched_named : (regs : List (Option ℕ)) (csrs : CsrValues) (key : ℕ) → NamesCsr key → known_at regs csrs key ≡ None → IsTrue (is_untouched csrs (key - 0x1000))
+untouched_named regs csrs key named none =
+    let unknown : lazy_value csrs named.lazy ≡ None = sym (ap (λ (o : Option Register). known_in csrs o) named.at) ∙ sym (known_large regs csrs key (omega (arith, named.from))) ∙ none in
+    rw (named.at, unknown) refl
 
-pub written_length : (regs : List (Option ℕ)) (rd : Option (ℕ × ℕ)) → length (written rd regs) ≡ length regs
-written_length regs None = refl
-written_length regs (Some w) = length-set regs w.0 (Some w.1)
+pub known_csr_set : (regs : List (Option ℕ)) (csrs : CsrValues) (key v k : ℕ) → length (started (key - 0x1000) v csrs).lazy ≡ 10 → NamesCsr key
+    → known_at regs (started (key - 0x1000) v csrs) k ≡ (if nat_eq key k then Some v else known_at regs csrs k)
+known_csr_set regs csrs key v k after named = ap (λ (cs : CsrValues). known_at regs cs k) (started_named csrs key v named) ∙ elim (cases_lt k 32) [
+  | inl below ↦
+      let other : key ≢ k = λ same. absurd (omega (arith, same, named.from, below)) in
+      rw (ne_eqb key k other) (elim (cases_eq k 0) [
+        | inl none ↦
+            subst (λ (n : ℕ). known_at regs (with_lazy named.lazy v csrs) n ≡ known_at regs csrs n) (sym none) (known_zero regs (with_lazy named.lazy v csrs) ∙ sym (known_zero regs csrs))
+        | inr some ↦ known_small regs (with_lazy named.lazy v csrs) k below some ∙ sym (known_small regs csrs k below some)
+      ])
+  | inr above ↦
+      known_large regs (with_lazy named.lazy v csrs) k above ∙ lazy_set csrs key v k named (size_before csrs key v named after)
+      ∙ sym (ap (λ (o : Option ℕ). if nat_eq key k then Some v else o) (known_large regs csrs k above))
+]
 
 -- ---- at first
 
 abbrev nothing_known : Option ℕ
 nothing_known = None
 
-pub known_new : (key : ℕ) → known_at no_registers (replicate 10 None) key ≡ None
-known_new key = elim (cases_lt key 32) [
+pub known_new : (hart mstatus medeleg satp key : ℕ) → known_at no_registers (first_values hart mstatus medeleg satp) key ≡ None
+known_new hart mstatus medeleg satp key = elim (cases_lt key 32) [
   | inl below ↦ elim (cases_eq key 0) [
-    | inl none ↦ subst (λ (n : ℕ). known_at no_registers (replicate 10 None) n ≡ None) (sym none) (known_zero no_registers (replicate 10 None))
-    | inr some ↦ known_small no_registers (replicate 10 None) key below some ∙ unknown key some
+    | inl none ↦ subst (λ (n : ℕ). known_at no_registers first n ≡ None) (sym none) (known_zero no_registers first)
+    | inr some ↦ known_small no_registers first key below some ∙ unknown key some
   ]
-  | inr above ↦ known_large no_registers (replicate 10 None) key above ∙ go (lazy_place key)
+  | inr above ↦ known_large no_registers first key above ∙ go (register_at (key - 0x1000))
 ]
   where
+    first : CsrValues
+    first = first_values hart mstatus medeleg satp
+
     same : (n i : ℕ) → slice_index_or (replicate n nothing_known) i nothing_known ≡ nothing_known
     same n i = elim (cases_lt i n) [
       | inl within ↦ get_or-replicate n i nothing_known nothing_known within
@@ -133,26 +147,19 @@ known_new key = elim (cases_lt key 32) [
     unknown zero some = absurd (some refl)
     unknown (suc k) some = same 31 k
 
-    go : (o : Option ℕ) → at_position (replicate 10 None) o ≡ None
+    go : (o : Option Register) → known_in first o ≡ None
     go None = refl
-    go (Some i) = same 10 i
+    go (Some Sstatus) = refl
+    go (Some Satp) = refl
+    go (Some Mstatus) = refl
+    go (Some Medeleg) = refl
+    go (Some Mhartid) = refl
+    go (Some (Lazy lazy)) = none_at_first hart mstatus medeleg satp lazy
 
 -- ---- whole harts
-
-abbrev fixed_from : Region → ℕ → Priv → Csrs → Fixed
-fixed_from ram pc privilege csrs = record { pc = pc; privilege = privilege; mstatus = csrs.mstatus; medeleg = csrs.medeleg; satp = csrs.satp; number = csrs.hart; ram = λ n. is_in ram (n * 4) }
 
 abbrev pub whole : Fixed → (ℕ → ℕ) → WholeHart
 whole f a = record { fixed = f; file = a }
 
 pub wholes : (f g : Fixed) (a b : ℕ → ℕ) → f ≡ g → a ≡ b → whole f a ≡ whole g b
 wholes f g a b fixed file = ap (λ (x : Fixed). whole x a) fixed ∙ ap (λ (x : ℕ → ℕ). whole g x) file
-
--- a hart that took a step is the whole hart after it
-pub whole_next : (ram : Region) (h new : Hart) (next_pc : ℕ) (rd : Option (ℕ × ℕ)) → new.pc ≡ next_pc → new.privilege ≡ h.privilege → new.csrs ≡ h.csrs
-    → zero_elsewhere (known_of new) ≡ file_after rd (zero_elsewhere (known_of h))
-    → whole_of ram new ≡ record { fixed = record (fixed_now ram h) { pc = next_pc }; file = file_after rd (zero_elsewhere (known_of h)) }
-whole_next ram h new next_pc rd pc privilege csrs file =
-    let fixed : fixed_now ram new ≡ record (fixed_now ram h) { pc = next_pc } =
-    ap (λ (n : ℕ). fixed_from ram n new.privilege new.csrs) pc ∙ ap (λ (p : Priv). fixed_from ram next_pc p new.csrs) privilege ∙ ap (λ (c : Csrs). fixed_from ram next_pc h.privilege c) csrs in
-    wholes (fixed_now ram new) (record (fixed_now ram h) { pc = next_pc }) (zero_elsewhere (known_of new)) (file_after rd (zero_elsewhere (known_of h))) fixed file

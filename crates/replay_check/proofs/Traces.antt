@@ -15,7 +15,6 @@ use Rattle.tpl_admit.specs.Failures.{IsRight, IsWrong, AreRight, GoesWrong}
 use Rattle.replay_check.specs.Knowledge.{knows_of, whole_of}
 use Rattle.replay_check.specs.Memory.{Shows, AreInWords}
 use Rattle.replay_check.specs.Replay.{Takes, Strays, TakesAll, StraysAt}
-use Rattle.replay_check.proofs.Questions.{step_in_words}
 use Rattle.replay_check.proofs.Shown.{shown_same, shown_after, after_both}
 
 pub split_at : {A : Type 0} (xs : List A) (i : ℕ) (x : A) → i < length xs → x ≡ get_or xs i x → drop i xs ≡ x ∷ drop (i + 1) xs
@@ -37,11 +36,11 @@ pub up_to_none : (ram : Region) (given : ℕ → Option ℕ) (m : ℕ → ℕ) (
 up_to_none ram given m h at rs s = record { memory = m; shows = s; after = refl; words = λ a. a; right = λ a. a; wrong = λ kind step g. g; hart = refl; knows = refl }
 
 -- the course of a hart whose first step is this
-solo_next : (n : ℕ) (h h' : WholeHart) (m m' : ℕ → ℕ) (s : Step) → step_of h m ≡ Some s → hart_after s.change h ≡ h' → memory_after s.did.accesses m ≡ m'
+solo_next : (n : ℕ) (h h' : WholeHart) (m m' : ℕ → ℕ) (s : Step) → step_of h m ≡ Some s → hart_after s h ≡ h' → memory_after s.did.accesses m ≡ m'
     → solo (suc n) h m ≡ record { moments = record { hart = h; memory = m; step = s } ∷ (solo n h' m').moments; hart = (solo n h' m').hart }
 solo_next n h h' m m' s is after stored =
     ap (λ (o : Option Step). solo_on o h m (λ h' m'. solo n h' m')) is
-    ∙ ap (λ (w : ℕ → ℕ). let r : Solo = record { moments = record { hart = h; memory = m; step = s } ∷ (solo n (hart_after s.change h) w).moments; hart = (solo n (hart_after s.change h) w).hart } in r) stored
+    ∙ ap (λ (w : ℕ → ℕ). let r : Solo = record { moments = record { hart = h; memory = m; step = s } ∷ (solo n (hart_after s h) w).moments; hart = (solo n (hart_after s h) w).hart } in r) stored
     ∙ ap (λ (g : WholeHart). let r : Solo = record { moments = record { hart = h; memory = m; step = s } ∷ (solo n g m').moments; hart = (solo n g m').hart } in r) after
 
 -- what the step stores is what its record says
@@ -54,8 +53,8 @@ right_next : (ram : Region) (given : ℕ → Option ℕ) (m : ℕ → ℕ) (h ne
 right_next ram given m h new r rest t right = (
   t.step,
   t.right,
-  subst (λ (w : ℕ → ℕ). AreRight given (knows_also t.step.change.rd (knows_of h)) (hart_after t.step.change (whole_of ram h)) w rest) (sym (stored given (knows_of h) (whole_of ram h) m r t.step t.right))
-      (subst (λ (g : WholeHart). AreRight given (knows_also t.step.change.rd (knows_of h)) g (memory_after r.accesses m) rest) t.hart
+  subst (λ (w : ℕ → ℕ). AreRight given (knows_also t.step.writes (knows_of h)) (hart_after t.step (whole_of ram h)) w rest) (sym (stored given (knows_of h) (whole_of ram h) m r t.step t.right))
+      (subst (λ (g : WholeHart). AreRight given (knows_also t.step.writes (knows_of h)) g (memory_after r.accesses m) rest) t.hart
       (subst (λ (k : ℕ → Bool). AreRight given k (whole_of ram new) (memory_after r.accesses m) rest) t.knows right)),
 )
 
@@ -66,19 +65,15 @@ wrong_next ram given m h new r rest i kind step t wrong =
     inr (
       t.step,
       t.right,
-      subst (λ (w : ℕ → ℕ). GoesWrong given (knows_also t.step.change.rd (knows_of h)) (hart_after t.step.change (whole_of ram h)) w rest (i + 1) kind step) (sym (stored given (knows_of h) (whole_of ram h) m r t.step t.right))
-          (subst (λ (g : WholeHart). GoesWrong given (knows_also t.step.change.rd (knows_of h)) g (memory_after r.accesses m) rest (i + 1) kind step) t.hart
+      subst (λ (w : ℕ → ℕ). GoesWrong given (knows_also t.step.writes (knows_of h)) (hart_after t.step (whole_of ram h)) w rest (i + 1) kind step) (sym (stored given (knows_of h) (whole_of ram h) m r t.step t.right))
+          (subst (λ (g : WholeHart). GoesWrong given (knows_also t.step.writes (knows_of h)) g (memory_after r.accesses m) rest (i + 1) kind step) t.hart
           (subst (λ (k : ℕ → Bool). GoesWrong given k (whole_of ram new) (memory_after r.accesses m) rest (i + 1) kind step) t.knows wrong)),
     )
 
--- the accesses of a step that was taken keep to words
-in_words : (ram : Region) (given : ℕ → Option ℕ) (m : ℕ → ℕ) (h new : Hart) (r : Record) → Takes ram given m h new r → All IsInWord r.accesses
-in_words ram given m h new r t = subst (λ (q : Record). All IsInWord q.accesses) t.right.did (step_in_words (whole_of ram h) m t.step h.aligned t.right.step)
-
 pub up_to_next : (ram : Region) (given : ℕ → Option ℕ) (origin : ℕ → ℕ) (first now new : Hart) (at seen : ℕ → Seen) (rs : List Record) (i : ℕ) (r : Record) → drop i rs ≡ r ∷ drop (i + 1) rs
-    → (u : IsUpTo ram given origin first now at rs i) → Takes ram given u.memory now new r → ((n : ℕ) → seen n ≡ seen_after r.accesses at n)
+    → (u : IsUpTo ram given origin first now at rs i) → Takes ram given u.memory now new r → ((n : ℕ) → seen n ≡ seen_after r.accesses at n) → All IsInWord r.accesses
     → IsUpTo ram given origin first new seen rs (i + 1)
-up_to_next ram given origin first now new at seen rs i r split u t same =
+up_to_next ram given origin first now new at seen rs i r split u t same words =
     let rest : List Record = drop (i + 1) rs in
     let m : ℕ → ℕ = u.memory in
     let m' : ℕ → ℕ = memory_after r.accesses m in
@@ -89,7 +84,7 @@ up_to_next ram given origin first now new at seen rs i r split u t same =
       memory = m';
       shows = shown_same ram given m' (seen_after r.accesses at) seen same (shown_after ram given m at r.accesses u.shows);
       after = u.after ∙ ap (λ (l : List Record). memory_after (footprint_of l) m) split ∙ after_both r.accesses (footprint_of rest) m;
-      words = λ a. u.words (rw split (in_words ram given m now new r t, a));
+      words = λ a. u.words (rw split (words, a));
       right = λ a. u.right (rw split (right_next ram given m now new r rest t a));
       wrong = λ kind step g. u.wrong kind step (rw split (wrong_next ram given m now new r rest i kind step t g));
       hart = u.hart ∙ ap (λ (s : Solo). s.hart) course;
@@ -129,9 +124,9 @@ pub course : (words : ℕ → Option ℕ) (knows : ℕ → Bool) (h : WholeHart)
 course words knows h m [] right = record { records = refl; initialised = tt }
 course words knows h m (r ∷ rs) right =
     let s : Step = right.0 in
-    let h' : WholeHart = hart_after s.change h in
+    let h' : WholeHart = hart_after s h in
     let m' : ℕ → ℕ = memory_after s.did.accesses m in
-    let ih = course words (knows_also s.change.rd knows) h' m' rs right.2 in
+    let ih = course words (knows_also s.writes knows) h' m' rs right.2 in
     let whole : Solo = record { moments = record { hart = h; memory = m; step = s } ∷ (solo (length rs) h' m').moments; hart = (solo (length rs) h' m').hart } in
     let is : solo (suc (length rs)) h m ≡ whole = ap (λ (o : Option Step). solo_on o h m (λ h' m'. solo (length rs) h' m')) right.1.step in
     let done : IsCourse words knows (r ∷ rs) whole = record {
@@ -152,11 +147,11 @@ right_course words knows h m (r ∷ rs) records initialised = go (step_of h m) r
         → AreRight words knows h m (r ∷ rs)
     go None e ih records initialised = absurd (cc records)
     go (Some s) e ih records initialised =
-        let h' : WholeHart = hart_after s.change h in
+        let h' : WholeHart = hart_after s h in
         let m' : ℕ → ℕ = memory_after s.did.accesses m in
         let head : s.did ≡ r = cc records in
         let tail : map (λ (x : Moment). x.step.did) (solo (length rs) h' m').moments ≡ rs = cc records in
-        (s, record { set = initialised.0; step = e; did = head }, ih (knows_also s.change.rd knows) h' m' tail initialised.1)
+        (s, record { set = initialised.0; step = e; did = head }, ih (knows_also s.writes knows) h' m' tail initialised.1)
 
 -- ---- one failure at most
 
@@ -194,8 +189,8 @@ right_never words knows h m (r ∷ rs) n kind step right wrong = go (λ k h' m' 
     go ih (inr later) =
         let s : Step = right.0 in
         let same = same_step (step_of h m) later.0 s later.1.step right.1.step in
-        ih (knows_also s.change.rd knows) (hart_after s.change h) (memory_after s.did.accesses m) right.2
-        (subst (λ (t : Step). GoesWrong words (knows_also t.change.rd knows) (hart_after t.change h) (memory_after t.did.accesses m) rs (n + 1) kind step) same later.2)
+        ih (knows_also s.writes knows) (hart_after s h) (memory_after s.did.accesses m) right.2
+        (subst (λ (t : Step). GoesWrong words (knows_also t.writes knows) (hart_after t h) (memory_after t.did.accesses m) rs (n + 1) kind step) same later.2)
 
 pub goes_once : (words : ℕ → Option ℕ) (knows : ℕ → Bool) (h : WholeHart) (m : ℕ → ℕ) (rs : List Record) (n kind step kind' step' : ℕ) → GoesWrong words knows h m rs n kind step → GoesWrong words knows h m rs n kind' step'
     → (kind ≡ kind') × (step ≡ step')
@@ -210,5 +205,5 @@ goes_once words knows h m (r ∷ rs) n kind step kind' step' wrong also = go (λ
     go ih (inr later) (inr after) =
         let s : Step = after.0 in
         let same = same_step (step_of h m) later.0 s later.1.step after.1.step in
-        ih (knows_also s.change.rd knows) (hart_after s.change h) (memory_after s.did.accesses m)
-        (subst (λ (t : Step). GoesWrong words (knows_also t.change.rd knows) (hart_after t.change h) (memory_after t.did.accesses m) rs (n + 1) kind step) same later.2) after.2
+        ih (knows_also s.writes knows) (hart_after s h) (memory_after s.did.accesses m)
+        (subst (λ (t : Step). GoesWrong words (knows_also t.writes knows) (hart_after t h) (memory_after t.did.accesses m) rs (n + 1) kind step) same later.2) after.2

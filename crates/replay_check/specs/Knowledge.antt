@@ -1,26 +1,22 @@
 -- What is known of a hart, by the keys of its places, and the whole hart that has zero elsewhere.
-use Rattle.std.specs.Prelude.{◌≡◌, ℕ, ◌-◌, ◌*◌, Bool, nat_eq, nat_lt, if◌then◌else◌, List, length, Option, None, slice_index_or, position}
+use Rattle.std.specs.Prelude.{ℕ, ◌-◌, ◌*◌, Bool, nat_eq, nat_lt, if◌then◌else◌, List, Option, None, slice_index_or}
 use Rattle.std.specs.Option.{is_some}
+use Rattle.rv_csr.specs.State.{CsrValues, lazy_value_at}
 use Rattle.rv_hart.specs.declared.hart.Hart.{Hart}
-use Rattle.rv_hart.specs.Machine.{Fixed}
+use Rattle.rv_hart.specs.Fixed.{Fixed}
 use Rattle.rv_hart.specs.Whole.{WholeHart}
-use Rattle.rv_hart.specs.View.{lazy_csrs, at_position}
 use Rattle.tpl_parse.specs.declared.template.Region.{Region}
 use Rattle.tpl_admit.specs.Starts.{is_in, zero_elsewhere}
 
--- where the lazy CSR of a key stands
-unfoldable pub lazy_place : ℕ → Option ℕ
-lazy_place key = position (λ a. nat_eq a (key - 0x1000)) lazy_csrs
-
 -- the value of the place of a key, where it is known; x0 has no key
-unfoldable pub known_at : List (Option ℕ) → List (Option ℕ) → ℕ → Option ℕ
-known_at regs lazy key =
+unfoldable pub known_at : List (Option ℕ) → CsrValues → ℕ → Option ℕ
+known_at regs csrs key =
     if nat_lt key 32
     then (if nat_eq key 0 then None else slice_index_or regs key None)
-    else at_position lazy (lazy_place key)
+    else lazy_value_at csrs (key - 0x1000)
 
 abbrev pub known_of : Hart → ℕ → Option ℕ
-known_of h = known_at h.regs h.csrs.lazy
+known_of h = known_at h.regs h.csrs
 
 abbrev pub knows_of : Hart → ℕ → Bool
 knows_of h key = is_some (known_of h key)
@@ -39,8 +35,3 @@ fixed_now ram h = record {
 -- the hart with zero wherever nothing is known
 abbrev pub whole_of : Region → Hart → WholeHart
 whole_of ram h = record { fixed = fixed_now ram h; file = zero_elsewhere (known_of h) }
-
--- as many registers and lazy CSRs as a hart has
-pub record IsShaped (h : Hart) : Type 0 where
-  pub regs : length h.regs ≡ 32
-  pub lazy : length h.csrs.lazy ≡ 10

@@ -1,5 +1,5 @@
 -- From which record on the accesses race.
-use Rattle.std.specs.Prelude.{◌≡◌, ℕ, ◌+◌, ◌<◌, nat_eq, if◌then◌else◌, List, ◌++◌, length, take}
+use Rattle.std.specs.Prelude.{ℕ, ◌+◌, ◌<◌, nat_eq, if◌then◌else◌, List, ◌++◌, length, take}
 use Rattle.rv_script.specs.declared.access.Access.{Access}
 use Rattle.rv_hart.specs.declared.record.Record.{Record}
 use Rattle.foot_map.specs.Races.{IsRaceFree}

@@ -29,8 +29,8 @@ pub record IsSameRecord (a b : Record) : Type 0 where
 pub record Takes (ram : Region) (given : ℕ → Option ℕ) (memory : ℕ → ℕ) (h new : Hart) (r : Record) : Type 0 where
   pub step : Step
   pub right : IsRight given (knows_of h) (whole_of ram h) memory r step
-  pub hart : whole_of ram new ≡ hart_after step.change (whole_of ram h)
-  pub knows : knows_of new ≡ knows_also step.change.rd (knows_of h)
+  pub hart : whole_of ram new ≡ hart_after step (whole_of ram h)
+  pub knows : knows_of new ≡ knows_also step.writes (knows_of h)
 
 -- the hart's step isn't that of a record
 abbrev pub Strays : Region → (ℕ → Option ℕ) → (ℕ → ℕ) → Hart → Record → ℕ → Type 0

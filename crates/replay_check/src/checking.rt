@@ -1,12 +1,11 @@
 // The whole check of a certificate.
 ghost use Rattle.std.specs.Prelude.{◌≡◌, ◌↔◌, ℕ, ◌≤◌, ◌<◌, IsTrue, IfOk, IfErr, IfSome, OnOk, length};
-ghost use Rattle.std.specs.List.{AllByRecursion};
 ghost use Rattle.rv_mem.specs.Part.{part_at};
 ghost use Rattle.rv_script.specs.Memory.{memory_after};
 ghost use Rattle.tpl_admit.specs.declared.certificate.Cert.{Cert as ACert};
 ghost use Rattle.tpl_admit.specs.Starts.{start_of, final_of, trace_of, first_memory};
 ghost use Rattle.tpl_admit.specs.Races.{footprint_of, footprints_of};
-ghost use Rattle.tpl_admit.specs.WellFormed.{IsWellFormed, IsState, IsRecord};
+ghost use Rattle.tpl_admit.specs.WellFormed.{IsWellFormed, IsState};
 ghost use Rattle.tpl_admit.specs.Validity.{in_turn, IsValid};
 ghost use Rattle.tpl_admit.specs.Faithfulness.{IsFaithful};
 ghost use Rattle.tpl_admit.specs.Failures.{HartIsRight, HartGoesWrong, EndsAsTold, MemoryEndsAsTold, IsFirstFailure};
@@ -51,7 +50,6 @@ fn trace(cert: &Cert, k: u8) -> &[Record]
     requires well_formed { IsWellFormed cert.now }
     requires there { k < length cert.now.start }
     ensures records { result.now ≡ trace_of cert.now k }
-    ensures sound { AllByRecursion IsRecord result.now }
     ensures count { length result.now ≤ 8192 }
 {
     cert.traces.as_slice()[usize::from(k)].as_slice()
@@ -89,10 +87,10 @@ fn is_fixed_told(told: &HartState, k: u8, hart: &Hart) -> bool
 {
     told.pc == hart.pc
         && told.privilege == hart.privilege
-        && told.mstatus == hart.csrs.mstatus
-        && told.medeleg == hart.csrs.medeleg
-        && told.satp == hart.csrs.satp
-        && hart.csrs.hart == u32::from(k)
+        && told.mstatus == hart.csrs.mstatus()
+        && told.medeleg == hart.csrs.medeleg()
+        && told.satp == hart.csrs.satp()
+        && hart.csrs.hart() == u32::from(k)
 }
 
 /// Whether hart k ends as printed, where this is what it knows in the end.

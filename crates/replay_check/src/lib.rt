@@ -15,6 +15,8 @@ mod stepping;
 mod store_tests;
 #[cfg(test)]
 mod tests;
+#[cfg(test)]
+mod trap_tests;
 mod verdict;
 
 pub use checking::{check, one_verdict};

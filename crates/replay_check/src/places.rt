@@ -1,13 +1,14 @@
 // Whether just the places that are known of a hart are told, with their values.
-ghost use Rattle.std.specs.Prelude.{◌≡◌, ◌↔◌, ℕ, ◌≤◌, ◌<◌, IsTrue, true, slice_index, slice_index_or};
-ghost use Rattle.rv_hart.specs.Whole.{csr_key};
-ghost use Rattle.rv_hart.specs.View.{lazy_csrs};
+ghost use Rattle.std.specs.Prelude.{◌≡◌, ◌↔◌, ℕ, ◌≤◌, ◌<◌, IsTrue, true, slice_index_or};
+ghost use Rattle.rv_csr.specs.declared.table.Register.{Register as ARegister};
+ghost use Rattle.rv_csr.specs.State.{lazy_value_at};
+ghost use Rattle.rv_csr.specs.Table.{address_of, csr_key};
 ghost use Rattle.tpl_admit.specs.Starts.{found, ArePlaces};
 ghost use Rattle.replay_check.specs.Knowledge.{known_of};
 ghost use Rattle.replay_check.specs.Memory.{is_ascending};
 
 use crate::lookup::value_of;
-use crate::start::{CSR_KEY, LAZY_CSRS};
+use rv_csr::{REGISTERS, Register, row_of};
 use rv_hart::Hart;
 
 /// Whether the registers are as told.
@@ -23,13 +24,22 @@ fn are_registers_told(hart: &Hart, told: &[(u32, u32)]) -> bool
     true
 }
 
-/// Whether the lazy CSRs are as told.
+/// Whether a lazy CSR is as told, or nothing is told of another one.
+fn is_csr_told(hart: &Hart, told: &[(u32, u32)], register: Register) -> bool
+    requires { is_ascending 0 told.now ≡ true }
+    ensures { IsTrue result ↔ (found told.now (csr_key (address_of register)) ≡ lazy_value_at hart.now.csrs (address_of register)) }
+{
+    let row = row_of(register);
+    value_of(told, row.key()) == hart.csrs.lazy_at(row.address())
+}
+
+/// Whether the lazy CSRs are as told, and nothing is told of the others.
 fn are_csrs_told(hart: &Hart, told: &[(u32, u32)]) -> bool
     requires { is_ascending 0 told.now ≡ true }
-    ensures { IsTrue result ↔ ((i : ℕ) → i < 10 → found told.now (csr_key (slice_index lazy_csrs i)) ≡ slice_index_or hart.now.csrs.lazy i None) }
+    ensures { IsTrue result ↔ ((register : ARegister) → found told.now (csr_key (address_of register)) ≡ lazy_value_at hart.now.csrs (address_of register)) }
 {
-    for i in 0..10usize {
-        if value_of(told, CSR_KEY + LAZY_CSRS[i]) != hart.csrs.lazy[i] {
+    for register in REGISTERS {
+        if !is_csr_told(hart, told, register) {
             return false;
         }
     }

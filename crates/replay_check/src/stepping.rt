@@ -1,12 +1,9 @@
 // The steps of a hart against printed records.
-ghost use Rattle.std.specs.Prelude.{◌≡◌, ◌↔◌, ℕ, ◌≤◌, IsTrue, IfSome, length};
-ghost use Rattle.std.specs.List.{AllByRecursion};
+ghost use Rattle.std.specs.Prelude.{◌≡◌, ◌↔◌, ℕ, ◌≤◌, All, IsTrue, IfSome, length};
 ghost use Rattle.rv_mem.specs.Part.{part_at};
 ghost use Rattle.rv_script.specs.Memory.{memory_after};
-ghost use Rattle.rv_hart.specs.Effects.{seen_after};
+ghost use Rattle.rv_hart.specs.Effects.{IsInWord, seen_after};
 ghost use Rattle.tpl_admit.specs.Races.{footprint_of};
-ghost use Rattle.tpl_admit.specs.WellFormed.{IsRecord};
-ghost use Rattle.replay_check.specs.Knowledge.{IsShaped};
 ghost use Rattle.replay_check.specs.Memory.{Shows, WhereShown, AreInWords};
 ghost use Rattle.replay_check.specs.Replay.{IsSameChange, IsSameRecord, Takes, Strays, TakesAll, StraysAt};
 
@@ -46,15 +43,21 @@ fn is_same(one: &Record, other: &Record) -> bool
         && has_same_accesses(one, other)
 }
 
+/// Does nothing. Its contract says how many registers a hart has.
+fn count_registers(hart: &Hart)
+    ensures { length hart.now.regs ≡ 32 }
+{
+    let _: &[Option<u32>] = &hart.regs;
+}
+
 /// Takes the hart's next step, and says of which kind the failure is where it is not that of the record.
 fn take(hart: &mut Hart, memory: &mut PartMem, done: &Record) -> Option<u8>
-    requires shape { IsShaped hart.old }
-    requires done { IsRecord done.now }
     ensures right { WhereShown (part_at memory.old) (λ ram given m. result ≡ None → Takes ram given m hart.old hart.new done.now) }
     ensures wrong { WhereShown (part_at memory.old) (λ ram given m. (kind : ℕ) → result ≡ Some kind → Strays ram given m hart.old done.now kind) }
     ensures memory { result ≡ None → (n : ℕ) → part_at memory.new n ≡ seen_after done.now.accesses (part_at memory.old) n }
-    ensures shape { IsShaped hart.new }
+    ensures words { result ≡ None → All IsInWord done.now.accesses }
 {
+    count_registers(hart);
     match step(hart, memory) {
         Stepped::Did(did) => {
             if is_same(&did, done) {
@@ -70,8 +73,6 @@ fn take(hart: &mut Hart, memory: &mut PartMem, done: &Record) -> Option<u8>
 
 /// Takes the hart's steps, and says where they first are not those of the records.
 pub fn take_all(hart: &mut Hart, memory: &mut PartMem, records: &[Record]) -> Option<Wrong>
-    requires shape { IsShaped hart.old }
-    requires records { AllByRecursion IsRecord records.now }
     requires count { length records.now ≤ 8192 }
     ensures right { WhereShown (part_at memory.old) (λ ram given m. result ≡ None → TakesAll ram given m hart.old hart.new records.now) }
     ensures wrong { WhereShown (part_at memory.old) (λ ram given m. IfSome result (λ w. StraysAt ram given m hart.old records.now w.kind w.step)) }

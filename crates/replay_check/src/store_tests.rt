@@ -289,13 +289,13 @@ fn stores_are_replayed(rt: HostRuntime) -> Result<(), Fail> {
             ..RIGHT
         },
         Row {
-            name: "a store beyond RAM",
+            name: "a store beyond RAM, whose trap needs mtvec",
             pointer: 4,
             target: 0,
             last_word: STORE_WORD,
             last_next: 0,
             last_data: 0x4433_2211,
-            want: no(3, 0, 0),
+            want: no(2, 0, 0),
             ..RIGHT
         },
         Row {

@@ -199,8 +199,8 @@ fn the_first_failure_is_told(rt: HostRuntime) -> Result<(), Fail> {
         },
         Row {
             name: "an instruction that the machine does not have",
-            word: 0x0000_0073,
-            last: 0x0000_0073,
+            word: 0x1050_0073,
+            last: 0x1050_0073,
             want: no(3, 0, 0),
             unmet: unmet(0, 0),
             ..RIGHT

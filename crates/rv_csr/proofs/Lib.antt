@@ -3,3 +3,4 @@ pub mod LegalStatus
 pub mod LegalValues
 pub mod FlagLemmas
 pub mod WriteLemmas
+pub mod Places

@@ -1,6 +1,6 @@
 //! The values of a hart's registers.
 
-ghost use Rattle.std.specs.Prelude.{◌≡◌, ◌<◌, IsTrue, Some, true, slice_index_or, slice_set};
+ghost use Rattle.std.specs.Prelude.{◌≡◌, ◌<◌, IsTrue, IfSome, Some, true, slice_index_or, slice_set};
 ghost use Rattle.rv_csr.specs.declared.table.Register.TheVariants.{Lazy as LazyOne};
 ghost use Rattle.rv_csr.specs.Table.{is_legal, is_legal_at};
 ghost use Rattle.rv_csr.specs.Status.{effective_privilege, is_set, mpp_of};
@@ -96,7 +96,7 @@ impl Csrs {
     }
 
     /// The value of a register, where it is known.
-    pub(crate) fn value_of(&self, register: Register) -> Option<u32>
+    pub fn value_of(&self, register: Register) -> Option<u32>
         ensures { result ≡ value_of self.now register }
     {
         match register {
@@ -109,8 +109,8 @@ impl Csrs {
         }
     }
 
-    /// Gives a register a legal value.
-    pub(crate) fn set(&mut self, register: Register, value: u32)
+    /// Gives a register a legal value, whatever the privilege.
+    pub fn set(&mut self, register: Register, value: u32)
         requires { is_legal register value ≡ true }
         ensures after { self.new ≡ with_value register value self.old }
         ensures legal { IsLegal self.new }
@@ -162,7 +162,8 @@ impl Csrs {
 
     /// The value of a lazy register, where it is known.
     pub fn lazy(&self, register: LazyRegister) -> Option<u32>
-        ensures { result ≡ lazy_value self.now register }
+        ensures value { result ≡ lazy_value self.now register }
+        ensures legal { IfSome result (λ n. is_legal (LazyOne register) n ≡ true) }
     {
         self.lazy[slot(register)]
     }

@@ -76,7 +76,7 @@ impl Flag {
         if on { self.mask() } else { 0 }
     }
 
-    pub(crate) fn is_set(self, status: u32) -> bool
+    pub fn is_set(self, status: u32) -> bool
         ensures { result ≡ is_set self status }
     {
         (status >> self.bit()) & 1 == 1

@@ -1,6 +1,6 @@
 //! Traps and the returns from them.
 
-ghost use Rattle.std.specs.Prelude.{◌≡◌, ◌%◌, IsTrue, IsSome, Some, true};
+ghost use Rattle.std.specs.Prelude.{◌≡◌, ◌%◌, IsTrue, IsSome, IfSome, Some, true};
 ghost use Rattle.rv_csr.specs.declared.table.Register.TheVariants.{Lazy as LazyOne};
 ghost use Rattle.rv_csr.specs.Causes.{is_cause};
 ghost use Rattle.rv_csr.specs.Table.{is_legal};
@@ -43,6 +43,7 @@ impl Csrs {
         requires { IsTrue (is_cause cause) }
         ensures privilege { result.0 ≡ takes_trap self.now.medeleg from cause }
         ensures vector { result.1 ≡ lazy_value self.now (vector_register result.0) }
+        ensures aligned { IfSome result.1 (λ n. n % 4 ≡ 0) }
     {
         let to = takes_trap(self.medeleg, from, cause);
         (to, self.lazy(vector_register(to)))

@@ -1,32 +1,34 @@
 -- What is known after a step.
-use Rattle.std.proofs.Common.{◌≡◌, ◌≢◌, ℕ, ◌*◌, ◌/◌, ◌<◌, Bool, true, false, ◌||◌, List, [], ◌∷◌, length, Option, Some, None, if◌then◌else◌, refl, sym, ap, ◌∙◌, subst, inl, inr, arith}
-use Rattle.std.specs.Prelude.{nat_eq, slice_index_or, slice_set, position}
-use Rattle.std.specs.Option.{is_some}
+use Rattle.std.proofs.Common.{◌≡◌, ◌≢◌, ℕ, ◌-◌, ◌*◌, ◌/◌, ◌<◌, ◌≤◌, Bool, true, false, ◌||◌, List, [], ◌∷◌, length, Option, Some, None, if◌then◌else◌, refl, sym, ap, ◌∙◌, subst, inl, inr, arith}
+use Rattle.std.specs.Prelude.{nat_eq, slice_index_or, slice_set}
+use Rattle.std.specs.Option.{is_some, unwrap_or}
 use Rattle.std.proofs.Math.Path.{fun_ext}
-use Rattle.std.proofs.lemmas.Bool.{cases_eq, eq-eqb, ne_eqb}
-use Rattle.std.proofs.lemmas.List.{get_or-set_same, get_or-set_other}
+use Rattle.std.proofs.lemmas.Bool.{cases_eq, cases_lt, eq-eqb, ne_eqb, lt-ltb, le-ltb}
+use Rattle.std.proofs.lemmas.List.{get_or-set_same, get_or-set_other, get_or_past, length-set}
+use Rattle.std.proofs.lemmas.Option.{get_or_from_slice_get}
 use Rattle.rv_mem.specs.declared.words.Seen.{Seen}
 use Rattle.rv_mem.specs.declared.words.Seen.TheVariants.{Known as KnownWord, Untouched, Vacant}
 use Rattle.rv_mem.specs.Seen.{known_word, is_there}
+use Rattle.rv_csr.specs.declared.privilege.Priv.{Priv}
+use Rattle.rv_csr.specs.State.{CsrValues, lazy_value_at}
+use Rattle.rv_csr.specs.Table.{csr_key}
 use Rattle.rv_script.specs.declared.access.Access.{Access}
 use Rattle.rv_script.specs.declared.place.Place.{Place}
 use Rattle.rv_script.specs.declared.place.Place.TheVariants.{Reg, Csr, Word}
-use Rattle.rv_script.specs.Folds.{Known}
+use Rattle.rv_script.specs.Folds.{Known, Answer, Answer.Does, Answer.Missing as Lacks, Answer.Nowhere, answer_on}
 use Rattle.rv_script.specs.Memory.{word_after, accessed, memory_after}
-use Rattle.rv_hart.specs.declared.csrs.Csrs.{Csrs}
-use Rattle.rv_hart.specs.declared.csrs.Priv.{Priv}
 use Rattle.rv_hart.specs.declared.hart.Hart.{Hart}
 use Rattle.rv_hart.specs.declared.record.Change.{Change}
-use Rattle.rv_hart.specs.declared.record.Record.{Record}
-use Rattle.rv_hart.specs.declared.record.Stepped.{Stepped}
-use Rattle.rv_hart.specs.declared.record.Stepped.TheVariants.{Did}
-use Rattle.rv_hart.specs.Changes.{IsSoundWrite}
-use Rattle.rv_hart.specs.Clauses.{stepped_by, IsMachineStep, IsSoundRecord, IsSoundStep, is_written, IsDone, IsAfter}
+use Rattle.rv_hart.specs.Changes.{IsSoundWrite, csrs_after, fixed_after, given_by, privilege_after, writes_of}
+use Rattle.rv_hart.specs.Clauses.{is_written, IsDone}
 use Rattle.rv_hart.specs.Effects.{seen_word_after, seen_accessed, seen_after}
-use Rattle.rv_hart.specs.Machine.{Fixed}
+use Rattle.rv_hart.specs.Fixed.{Fixed, fixed_csrs}
+use Rattle.rv_hart.specs.Machine.{script}
 use Rattle.rv_hart.specs.Registers.{written}
-use Rattle.rv_hart.specs.View.{lazy_csrs, at_position, known, fixed_of}
-use Rattle.rv_hart.specs.Whole.{csr_key, value_at, Step, planned, file_after}
+use Rattle.rv_hart.specs.View.{known, fixed_of, change_in}
+use Rattle.rv_hart.specs.Whole.{value_at, record_of, file_after}
+use Rattle.rv_hart.proofs.Overlays.{or_old, over_control, over_at}
+use Rattle.rv_hart.proofs.Steps.{step_by, takes}
 
 -- ---- words
 
@@ -77,33 +79,82 @@ reg_set regs w n size small = elim (cases_eq w.0 n) [
   | inr other ↦ rw (ne_eqb w.0 n other) (get_or-set_other regs w.0 n (Some w.1) None (λ e. other (sym e)))
 ]
 
+-- ---- what a step writes
+
+-- to a register but x0
+write_at_register : (rd : Option (ℕ × ℕ)) (csrs : CsrValues) (n : ℕ) → n < 32 → given_by rd (lazy_value_at csrs (n - 0x1000)) n ≡ given_by rd None n
+write_at_register rd csrs n small =
+    let none : n - 0x1000 ≡ 0 = omega (arith, small) in
+    ap (λ (k : ℕ). given_by rd (lazy_value_at csrs k) n) none
+
+-- to a CSR
+write_at_csr : (rd : Option (ℕ × ℕ)) (other : ℕ → Option ℕ) (addr : ℕ) → IsSoundWrite rd → given_by rd (other (csr_key addr - 0x1000)) (csr_key addr) ≡ other addr
+write_at_csr None other addr sound = let back : csr_key addr - 0x1000 ≡ addr = omega arith in ap other back
+write_at_csr (Some w) other addr sound =
+    let apart : w.0 ≢ csr_key addr = λ same. absurd (omega (arith, same, (sound w refl).1)) in
+    let back : csr_key addr - 0x1000 ≡ addr = omega arith in
+    rw (ne_eqb w.0 (csr_key addr) apart) (ap other back)
+
+-- the registers after a write
+regs_written : (rd : Option (ℕ × ℕ)) (regs : List (Option ℕ)) (n : ℕ) → IsSoundWrite rd → length regs ≡ 32 → slice_index_or (written rd regs) n None ≡ or_old (given_by rd None n) (slice_index_or regs n None)
+regs_written None regs n sound size = refl
+regs_written (Some w) regs n sound size = reg_set regs w n size (sound w refl).1 ∙ pick (nat_eq w.0 n) (slice_index_or regs n None)
+  where
+    pick : (b : Bool) (o : Option ℕ) → (if b then Some w.1 else o) ≡ or_old (if b then Some w.1 else None) o
+    pick true o = refl
+    pick false o = refl
+
+written_length : (rd : Option (ℕ × ℕ)) (regs : List (Option ℕ)) → length regs ≡ 32 → length (written rd regs) ≡ 32
+written_length None regs size = size
+written_length (Some w) regs size = length-set regs w.0 (Some w.1) ∙ size
+
 -- ---- places
 
--- what is known after a write and accesses
-abbrev known_after : Option (ℕ × ℕ) → List Access → Hart → (ℕ → Seen) → Known
-known_after rd xs h at (Reg n) = slice_index_or (written rd h.regs) n None
-known_after rd xs h at (Csr addr) = known h at (Csr addr)
-known_after rd xs h at (Word addr) = known_word (seen_after xs at (addr / 4))
+-- a step's hart and memory after it
+pub record Went (h new : Hart) (at new_at : ℕ → Seen) (xs : List Access) (c : Change) : Type 0 where
+  pub pc : new.pc ≡ c.next_pc
+  pub privilege : new.privilege ≡ privilege_after h.privilege h.csrs.mstatus h.csrs.medeleg c.control
+  pub regs : new.regs ≡ written c.rd h.regs
+  pub csrs : new.csrs ≡ csrs_after h.privilege h.pc c.control h.csrs
+  pub memory : (n : ℕ) → new_at n ≡ seen_after xs at n
+  pub rd : IsSoundWrite c.rd
+  pub regs_size : length h.regs ≡ 32
+  pub csrs_size : length h.csrs.lazy ≡ 10
 
-known_now : (h new : Hart) (at new_at : ℕ → Seen) (rd : Option (ℕ × ℕ)) (xs : List Access) → new.regs ≡ written rd h.regs → new.csrs ≡ h.csrs
-    → ((n : ℕ) → new_at n ≡ seen_after xs at n) → (place : Place) → known new new_at place ≡ known_after rd xs h at place
-known_now h new at new_at rd xs regs csrs memory (Reg n) = ap (λ (rs : List (Option ℕ)). slice_index_or rs n None) regs
-known_now h new at new_at rd xs regs csrs memory (Csr addr) = ap (λ (c : Csrs). at_position c.lazy (position (λ (a : ℕ). nat_eq a addr) lazy_csrs)) csrs
-known_now h new at new_at rd xs regs csrs memory (Word addr) = ap (λ (s : Seen). known_word s) (memory (addr / 4))
+-- what is known of a register or CSR is what was written, or else what was known
+known_now : (h new : Hart) (at new_at : ℕ → Seen) (xs : List Access) (c : Change) → Went h new at new_at xs c → (n : ℕ) → n < 32
+    → known new new_at (Reg n) ≡ or_old (writes_of (fixed_of h at) c n) (known h at (Reg n))
+known_now h new at new_at xs c w n small =
+    ap (λ (rs : List (Option ℕ)). slice_index_or rs n None) w.regs ∙ regs_written c.rd h.regs n w.rd w.regs_size
+    ∙ sym (ap (λ (o : Option ℕ). or_old o (known h at (Reg n))) (write_at_register c.rd (csrs_after h.privilege h.pc c.control (fixed_csrs (fixed_of h at))) n small))
+
+csr_now : (h new : Hart) (at new_at : ℕ → Seen) (xs : List Access) (c : Change) → Went h new at new_at xs c → (addr : ℕ)
+    → known new new_at (Csr addr) ≡ or_old (writes_of (fixed_of h at) c (csr_key addr)) (known h at (Csr addr))
+csr_now h new at new_at xs c w addr =
+    let given : CsrValues = csrs_after h.privilege h.pc c.control (fixed_csrs (fixed_of h at)) in
+    ap (λ (csrs : CsrValues). lazy_value_at csrs addr) w.csrs
+    ∙ over_at (csrs_after h.privilege h.pc c.control h.csrs) given h.csrs addr (over_control h.privilege h.pc c.control h.csrs w.csrs_size)
+    ∙ sym (ap (λ (o : Option ℕ). or_old o (known h at (Csr addr))) (write_at_csr c.rd (λ a. lazy_value_at given a) addr w.rd))
+
+-- a register that there isn't
+none_past : (h new : Hart) (at new_at : ℕ → Seen) (xs : List Access) (c : Change) → Went h new at new_at xs c → (n : ℕ) → 32 ≤ n → known new new_at (Reg n) ≡ None
+none_past h new at new_at xs c w n large = ap (λ (rs : List (Option ℕ)). slice_index_or rs n None) w.regs ∙ get_or_past (written c.rd h.regs) n None (omega (arith, large, written_length c.rd h.regs w.regs_size))
+
+or_some : (o old : Option ℕ) → is_some (or_old o old) ≡ (is_some o || is_some old)
+or_some None old = refl
+or_some (Some v) old = refl
 
 -- which places are known after
-places_after : (h : Hart) (at : ℕ → Seen) (rd : Option (ℕ × ℕ)) (xs : List Access) → IsSoundWrite rd → length h.regs ≡ 32
-    → (place : Place) → is_some (known_after rd xs h at place) ≡ (is_written rd place || is_some (known h at place))
-places_after h at None xs sound size (Reg n) = refl
-places_after h at (Some w) xs sound size (Reg n) = ap (λ (o : Option ℕ). is_some o) (reg_set h.regs w n size (sound w refl).1) ∙ go (nat_eq w.0 n) (slice_index_or h.regs n None)
-  where
-    go : (b : Bool) (o : Option ℕ) → is_some (if b then Some w.1 else o) ≡ (b || is_some o)
-    go true o = refl
-    go false o = refl
-places_after h at None xs sound size (Csr addr) = refl
-places_after h at (Some w) xs sound size (Csr addr) = refl
-places_after h at None xs sound size (Word addr) = known_words_after xs at (addr / 4)
-places_after h at (Some w) xs sound size (Word addr) = known_words_after xs at (addr / 4)
+places_after : (h new : Hart) (at new_at : ℕ → Seen) (xs : List Access) (c : Change) → Went h new at new_at xs c → (place : Place)
+    → is_some (known new new_at place) ≡ (is_written (writes_of (fixed_of h at) c) place || is_some (known h at place))
+places_after h new at new_at xs c w (Reg n) = elim (cases_lt n 32) [
+  | inl small ↦ rw (lt-ltb n 32 small) (ap (λ (o : Option ℕ). is_some o) (known_now h new at new_at xs c w n small) ∙ or_some (writes_of (fixed_of h at) c n) (known h at (Reg n)))
+  | inr large ↦
+      rw (le-ltb n 32 large)
+      (ap (λ (o : Option ℕ). is_some o) (none_past h new at new_at xs c w n large) ∙ sym (ap (λ (o : Option ℕ). is_some o) (get_or_past h.regs n None (omega (arith, large, w.regs_size)))))
+]
+places_after h new at new_at xs c w (Csr addr) = ap (λ (o : Option ℕ). is_some o) (csr_now h new at new_at xs c w addr) ∙ or_some (writes_of (fixed_of h at) c (csr_key addr)) (known h at (Csr addr))
+places_after h new at new_at xs c w (Word addr) = ap (λ (s : Seen). is_some (known_word s)) (w.memory (addr / 4)) ∙ known_words_after xs at (addr / 4)
 
 -- what is known before is so in a whole hart and memory
 abbrev HasPlaces : Known → (ℕ → ℕ) → (ℕ → ℕ) → Type 0
@@ -114,83 +165,83 @@ has_words h at file words has n v e =
     let number : n * 4 / 4 ≡ n = omega arith in
     ap words (sym number) ∙ has (Word (n * 4)) v (ap (λ (k : ℕ). known_word (at k)) number ∙ e)
 
-values_after : (h : Hart) (at : ℕ → Seen) (rd : Option (ℕ × ℕ)) (xs : List Access) (file words : ℕ → ℕ) → IsSoundWrite rd → length h.regs ≡ 32
-    → HasPlaces (known h at) file words → HasPlaces (known_after rd xs h at) (file_after rd file) (memory_after xs words)
-values_after h at None xs file words sound size has (Reg n) v e = has (Reg n) v e
-values_after h at (Some w) xs file words sound size has (Reg n) v e = elim (cases_eq w.0 n) [
-  | inl same ↦
-      let some : n ≢ 0 = λ none. absurd (omega (arith, same, none, (sound w refl).0)) in
-      let here : slice_index_or (written (Some w) h.regs) n None ≡ Some w.1 = reg_set h.regs w n size (sound w refl).1 ∙ rw (eq-eqb w.0 n same) refl in
-      let both : Some w.1 ≡ Some v = sym here ∙ e in
-      rw (ne_eqb n 0 some, eq-eqb w.0 n same) (let value : w.1 ≡ v = cc both in value)
-  | inr other ↦
-      let here : slice_index_or (written (Some w) h.regs) n None ≡ slice_index_or h.regs n None = reg_set h.regs w n size (sound w refl).1 ∙ rw (ne_eqb w.0 n other) refl in
-      rw (ne_eqb w.0 n other) (has (Reg n) v (sym here ∙ e))
+-- a value that was written, or else one that was known
+either : (o old : Option ℕ) (value v : ℕ) → or_old o old ≡ Some v → (old ≡ Some v → value ≡ v) → unwrap_or o value ≡ v
+either None old value v e f = f e
+either (Some u) old value v e f = cc e
+
+values_after : (h new : Hart) (at new_at : ℕ → Seen) (xs : List Access) (c : Change) → Went h new at new_at xs c → (file words : ℕ → ℕ)
+    → HasPlaces (known h at) file words → HasPlaces (known new new_at) (file_after (writes_of (fixed_of h at) c) file) (memory_after xs words)
+values_after h new at new_at xs c w file words has (Reg n) v e = elim (cases_lt n 32) [
+  | inl small ↦ elim (cases_eq n 0) [
+    | inl none ↦ rw (eq-eqb n 0 none) (zero_known n v none e)
+    | inr some ↦
+        rw (ne_eqb n 0 some) (either (writes_of (fixed_of h at) c n) (known h at (Reg n)) (file n) v (sym (known_now h new at new_at xs c w n small) ∙ e)
+        (λ old. sym (value_is n some) ∙ has (Reg n) v old))
+  ]
+  | inr large ↦ (let none : None ≡ Some v = sym (none_past h new at new_at xs c w n large) ∙ e in absurd (cc none))
 ]
-values_after h at None xs file words sound size has (Csr addr) v e = has (Csr addr) v e
-values_after h at (Some w) xs file words sound size has (Csr addr) v e =
-    let other : w.0 ≢ csr_key addr = λ same. absurd (omega (arith, same, (sound w refl).1)) in
-    rw (ne_eqb w.0 (csr_key addr) other) (has (Csr addr) v e)
-values_after h at rd xs file words sound size has (Word addr) v e = words_after xs at words (has_words h at file words has) (addr / 4) v e
+  where
+    value_is : (k : ℕ) → k ≢ 0 → value_at file words (Reg k) ≡ file k
+    value_is k some = rw (ne_eqb k 0 some) refl
+
+    zero_known : (k u : ℕ) → k ≡ 0 → slice_index_or new.regs k None ≡ Some u → 0 ≡ u
+    zero_known k u none is =
+        let here : slice_index_or new.regs 0 None ≡ Some u = subst (λ (i : ℕ). slice_index_or new.regs i None ≡ Some u) none is in
+        let zero_is : slice_index_or new.regs 0 None ≡ Some 0 = get_or_from_slice_get new.regs 0 (Some 0) None new.zero in
+        let both : Some 0 ≡ Some u = sym zero_is ∙ here in
+        cc both
+values_after h new at new_at xs c w file words has (Csr addr) v e =
+    either (writes_of (fixed_of h at) c (csr_key addr)) (known h at (Csr addr)) (file (csr_key addr)) v (sym (csr_now h new at new_at xs c w addr) ∙ e) (λ old. has (Csr addr) v old)
+values_after h new at new_at xs c w file words has (Word addr) v e =
+    words_after xs at words (has_words h at file words has) (addr / 4) v (sym (ap (λ (s : Seen). known_word s) (w.memory (addr / 4))) ∙ e)
 
 -- ---- fixed parts
 
-abbrev fixed_from : ℕ → Priv → Csrs → (ℕ → Bool) → Fixed
-fixed_from pc privilege csrs ram = record { pc = pc; privilege = privilege; mstatus = csrs.mstatus; medeleg = csrs.medeleg; satp = csrs.satp; number = csrs.hart; ram = ram }
+abbrev fixed_from : ℕ → Priv → ℕ → ℕ → ℕ → ℕ → (ℕ → Bool) → Fixed
+fixed_from pc privilege mstatus medeleg satp number ram = record { pc = pc; privilege = privilege; mstatus = mstatus; medeleg = medeleg; satp = satp; number = number; ram = ram }
 
-fixed_now : (h new : Hart) (at new_at : ℕ → Seen) (next_pc : ℕ) (xs : List Access) → new.pc ≡ next_pc → new.privilege ≡ h.privilege → new.csrs ≡ h.csrs
-    → ((n : ℕ) → new_at n ≡ seen_after xs at n) → fixed_of new new_at ≡ record (fixed_of h at) { pc = next_pc }
-fixed_now h new at new_at next_pc xs pc privilege csrs memory =
-    let ram : (λ (n : ℕ). is_there (new_at n)) ≡ (λ (n : ℕ). is_there (at n)) = fun_ext (λ n. ap (λ (s : Seen). is_there s) (memory n) ∙ there_after xs at n) in
-    ap (λ (n : ℕ). fixed_from n new.privilege new.csrs (λ k. is_there (new_at k))) pc
-    ∙ ap (λ (p : Priv). fixed_from next_pc p new.csrs (λ k. is_there (new_at k))) privilege
-    ∙ ap (λ (c : Csrs). fixed_from next_pc h.privilege c (λ k. is_there (new_at k))) csrs
-    ∙ ap (λ (there : ℕ → Bool). fixed_from next_pc h.privilege h.csrs there) ram
+fixed_now : (h new : Hart) (at new_at : ℕ → Seen) (xs : List Access) (c : Change) → Went h new at new_at xs c → fixed_after (fixed_of h at) c ≡ fixed_of new new_at
+fixed_now h new at new_at xs c w =
+    let over = over_control h.privilege h.pc c.control h.csrs w.csrs_size in
+    let ram : (λ (n : ℕ). is_there (new_at n)) ≡ (λ (n : ℕ). is_there (at n)) = fun_ext (λ n. ap (λ (s : Seen). is_there s) (w.memory n) ∙ there_after xs at n) in
+    let csrs : CsrValues = csrs_after h.privilege h.pc c.control (fixed_csrs (fixed_of h at)) in
+    let real : CsrValues = csrs_after h.privilege h.pc c.control h.csrs in
+    sym (
+    ap (λ (n : ℕ). fixed_from n new.privilege new.csrs.mstatus new.csrs.medeleg new.csrs.satp new.csrs.hart (λ k. is_there (new_at k))) w.pc
+    ∙ ap (λ (p : Priv). fixed_from c.next_pc p new.csrs.mstatus new.csrs.medeleg new.csrs.satp new.csrs.hart (λ k. is_there (new_at k))) w.privilege
+    ∙ ap (λ (v : CsrValues). fixed_from c.next_pc (privilege_after h.privilege h.csrs.mstatus h.csrs.medeleg c.control) v.mstatus v.medeleg v.satp v.hart (λ k. is_there (new_at k))) w.csrs
+    ∙ ap (λ (n : ℕ). fixed_from c.next_pc (privilege_after h.privilege h.csrs.mstatus h.csrs.medeleg c.control) n real.medeleg real.satp real.hart (λ k. is_there (new_at k))) over.mstatus
+    ∙ ap (λ (n : ℕ). fixed_from c.next_pc (privilege_after h.privilege h.csrs.mstatus h.csrs.medeleg c.control) csrs.mstatus n real.satp real.hart (λ k. is_there (new_at k))) over.medeleg
+    ∙ ap (λ (n : ℕ). fixed_from c.next_pc (privilege_after h.privilege h.csrs.mstatus h.csrs.medeleg c.control) csrs.mstatus csrs.medeleg n real.hart (λ k. is_there (new_at k))) over.satp
+    ∙ ap (λ (n : ℕ). fixed_from c.next_pc (privilege_after h.privilege h.csrs.mstatus h.csrs.medeleg c.control) csrs.mstatus csrs.medeleg csrs.satp n (λ k. is_there (new_at k))) over.hart
+    ∙ ap (λ (there : ℕ → Bool). fixed_from c.next_pc (privilege_after h.privilege h.csrs.mstatus h.csrs.medeleg c.control) csrs.mstatus csrs.medeleg csrs.satp h.csrs.hart there) ram
+    )
 
 -- ---- the step
 
-stepped_did : (missing : Option Place) (o : Option Step) (r : Record) → Did r ≡ stepped_by missing o → (s : Step) × (o ≡ Some s) × (s.did ≡ r)
-stepped_did (Some place) o r e = absurd (cc e)
-stepped_did None None r e = absurd (cc e)
-stepped_did None (Some s) r e = let same : r ≡ s.did = cc e in (s, refl, sym same)
-
--- what a step records and what it does to its hart are the same
-planned_same : (f : Fixed) (xs : List Access) (o : Option Change) (s : Step) → planned f xs o ≡ Some s → (s.did.rd ≡ s.change.rd) × (s.did.next_pc ≡ s.change.next_pc)
-planned_same f xs None s e = absurd (cc e)
-planned_same f xs (Some c) s e = let same = some_step e in (ap (λ (t : Step). t.did.rd) (sym same) ∙ ap (λ (t : Step). t.change.rd) same, ap (λ (t : Step). t.did.next_pc) (sym same) ∙ ap (λ (t : Step). t.change.next_pc) same)
-  where
-    some_step : {t : Step} → Some t ≡ Some s → t ≡ s
-    some_step e = cc
-
-done : (h new : Hart) (at new_at : ℕ → Seen) (r : Record) → IsMachineStep (fixed_of h at) (known h at) (Did r) → IsSoundRecord r → length h.regs ≡ 32
-    → new.pc ≡ r.next_pc → new.privilege ≡ h.privilege → new.regs ≡ written r.rd h.regs → new.csrs ≡ h.csrs → ((n : ℕ) → new_at n ≡ seen_after r.accesses at n)
-    → IsDone (fixed_of h at) (known h at) r (fixed_of new new_at) (known new new_at)
-done h new at new_at r machine sound size pc privilege regs csrs memory = record {
-  wholes = λ x words has.
-      let d = stepped_did _ _ r (machine x words has) in
-      let s : Step = d.0 in
-      let change = planned_same x.fixed _ _ s d.1 in
-      let rd : s.change.rd ≡ r.rd = sym change.0 ∙ ap (λ (q : Record). q.rd) d.2 in
-      let next_pc : s.change.next_pc ≡ r.next_pc = sym change.1 ∙ ap (λ (q : Record). q.next_pc) d.2 in
-      let fixed : record x.fixed { pc = s.change.next_pc } ≡ record (fixed_of h at) { pc = r.next_pc } =
-      ap (λ (f : Fixed). let g : Fixed = record f { pc = s.change.next_pc } in g) has.fixed ∙ ap (λ (n : ℕ). let g : Fixed = record (fixed_of h at) { pc = n } in g) next_pc in (
-        s,
-        d.1,
-        d.2,
-        record {
-          fixed = fixed ∙ sym (fixed_now h new at new_at r.next_pc r.accesses pc privilege csrs memory);
-          values = λ place v e.
-              ap (λ (w : Option (ℕ × ℕ)). value_at (file_after w x.file) (memory_after s.did.accesses words) place) rd
-              ∙ ap (λ (q : Record). value_at (file_after r.rd x.file) (memory_after q.accesses words) place) d.2
-              ∙ values_after h at r.rd r.accesses x.file words sound.change.rd size has.values place v (sym (known_now h new at new_at r.rd r.accesses regs csrs memory place) ∙ e);
-        },
-      );
-  places = λ place. ap (λ (o : Option ℕ). is_some o) (known_now h new at new_at r.rd r.accesses regs csrs memory place) ∙ places_after h at r.rd r.accesses sound.change.rd size place;
+pub done : (h new : Hart) (at new_at : ℕ → Seen) (xs : List Access) (c : Change) → answer_on (known h at) (script (fixed_of h at)) ≡ Does xs c → Went h new at new_at xs c
+    → IsDone (fixed_of h at) (known h at) (record_of (fixed_of h at) xs c) (fixed_of new new_at) (known new new_at)
+done h new at new_at xs c answered w = record {
+  step = step_by (fixed_of h at) xs c;
+  did = refl;
+  wholes = λ x words has. (
+    (takes (fixed_of h at) (known h at) x words xs c has answered).step,
+    record {
+      fixed = fixed_now h new at new_at xs c w;
+      values = values_after h new at new_at xs c w x.file words has.values;
+    },
+  );
+  fixed = fixed_now h new at new_at xs c w;
+  places = places_after h new at new_at xs c w;
 }
 
-pub after : (h new : Hart) (at new_at : ℕ → Seen) (r : Record) (result : Stepped) → result ≡ Did r → IsMachineStep (fixed_of h at) (known h at) result → IsSoundStep result → length h.regs ≡ 32
-    → new.pc ≡ r.next_pc → new.privilege ≡ h.privilege → new.regs ≡ written r.rd h.regs → new.csrs ≡ h.csrs → ((n : ℕ) → new_at n ≡ seen_after r.accesses at n)
-    → IsAfter (fixed_of h at) (known h at) result (fixed_of new new_at) (known new new_at)
-after h new at new_at r result is machine sound size pc privilege regs csrs memory =
-    subst (λ (q : Stepped). IsAfter (fixed_of h at) (known h at) q (fixed_of new new_at) (known new new_at)) (sym is)
-    (done h new at new_at r (subst (λ (q : Stepped). IsMachineStep (fixed_of h at) (known h at) q) is machine) (subst IsSoundStep is sound) size pc privilege regs csrs memory)
+-- a change comes with its accesses
+pub record Comes (a : Answer Access Change) (c : Change) : Type 0 where
+  pub accesses : List Access
+  pub is : a ≡ Does accesses c
+
+pub comes : (a : Answer Access Change) (c : Change) → Some c ≡ change_in a → Comes a c
+comes (Does xs d) c e = let same : d ≡ c = cc e in record { accesses = xs; is = ap (λ (b : Change). Does xs b) same }
+comes (Lacks place) c e = absurd (cc e)
+comes Nowhere c e = absurd (cc e)

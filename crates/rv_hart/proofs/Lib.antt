@@ -3,4 +3,6 @@ pub mod Branches
 pub mod Prefixes
 pub mod Steps
 pub mod Stores
+pub mod CsrPlaces
+pub mod Overlays
 pub mod Afters

@@ -1,24 +1,27 @@
 -- What a step on known places says of whole harts and memories.
-use Rattle.std.specs.Prelude.{◌≡◌, ◌↔◌, ℕ, Bool, false, ◌||◌, nat_eq, All, IsTrue, Option, Some, None}
+use Rattle.std.specs.Prelude.{◌≡◌, ◌↔◌, ℕ, ◌%◌, Bool, false, ◌&&◌, ◌||◌, nat_lt, All, IsTrue, Option, Some, None}
 use Rattle.std.specs.Option.{unwrap_or, is_some}
 use Rattle.rv_isa.specs.declared.operation.Op.{Op}
 use Rattle.rv_isa.specs.Arithmetic.{IsTaken}
+use Rattle.rv_csr.specs.declared.privilege.Priv.{Priv}
+use Rattle.rv_csr.specs.State.{CsrValues}
+use Rattle.rv_csr.specs.Table.{csr_key}
 use Rattle.rv_script.specs.declared.place.Place.{Place}
-use Rattle.rv_script.specs.declared.place.Place.TheVariants.{Reg}
+use Rattle.rv_script.specs.declared.place.Place.TheVariants.{Reg, Csr, Word}
 use Rattle.rv_script.specs.Lists.{HasItem}
 use Rattle.rv_script.specs.Script.{place_of}
 use Rattle.rv_script.specs.Folds.{Known, by_known, Sight, Entry, asked_of, first_missing}
 use Rattle.rv_script.specs.Laws.{IsSeenAlike}
 use Rattle.rv_script.specs.Memory.{memory_after}
-use Rattle.rv_hart.specs.declared.record.Change.{Change}
 use Rattle.rv_hart.specs.declared.record.Record.{Record}
 use Rattle.rv_hart.specs.declared.record.Stepped.{Stepped}
 use Rattle.rv_hart.specs.declared.record.Stepped.TheVariants.{Did, Missing, Outside}
 use Rattle.rv_hart.specs.declared.looked.Looked.{Looked}
 use Rattle.rv_hart.specs.declared.looked.Looked.TheVariants.{Does, Missing as LooksMissing, Outside as LooksOutside}
-use Rattle.rv_hart.specs.Changes.{IsSoundChange}
+use Rattle.rv_hart.specs.Changes.{IsSoundChange, IsSoundWrite}
 use Rattle.rv_hart.specs.Effects.{IsInWord}
-use Rattle.rv_hart.specs.Machine.{Fixed, script, is_taken}
+use Rattle.rv_hart.specs.Fixed.{Fixed}
+use Rattle.rv_hart.specs.Machine.{script, is_taken}
 use Rattle.rv_hart.specs.Whole.{WholeHart, value_at, sight_of, Step, step_of, hart_after}
 
 -- a whole hart and memory have these fixed parts and all that is known
@@ -43,35 +46,35 @@ IsMachineStep f known result = (h : WholeHart) (words : ℕ → ℕ) → Has f k
 abbrev pub zero_filled : Known → Sight
 zero_filled known q = unwrap_or (known (place_of q)) 0
 
--- what a record says of its hart
-abbrev pub change_of : Record → Change
-change_of r = record { word = r.word; outcome = r.outcome; rd = r.rd; next_pc = r.next_pc }
-
--- each whole hart with these fixed parts that has the registers and CSRs that the step asked for, over each memory that has the bytes
--- that it looked at, makes this step, with the same changes
+-- there is one step with this record that each whole hart makes which has these fixed parts and the registers and CSRs that the step asked
+-- for, over each memory that has the bytes that it looked at
 abbrev pub IsLocal : Fixed → Known → Record → Type 0
 IsLocal f known r =
-    (h : WholeHart) (words : ℕ → ℕ) → h.fixed ≡ f
+    (s : Step) × (s.did ≡ r)
+    × ((h : WholeHart) (words : ℕ → ℕ) → h.fixed ≡ f
     → ((e : Entry) → HasItem (asked_of (script f) (zero_filled known)) e → IsSeenAlike e.question e.value (sight_of h.file words e.question))
-    → (s : Step) × (step_of h words ≡ Some s) × (s.did ≡ r) × (s.change ≡ change_of r)
+    → step_of h words ≡ Some s)
 
 abbrev pub IsLocalStep : Fixed → Known → Stepped → Type 0
 IsLocalStep f known (Did r) = IsLocal f known r
 IsLocalStep f known (Missing place) = Unit {0}
 IsLocalStep f known Outside = Unit {0}
 
--- the write is one to this place
-abbrev pub is_written : Option (ℕ × ℕ) → Place → Bool
-is_written (Some w) (Reg n) = nat_eq w.0 n
-is_written _ place = false
+-- a register or lazy CSR is written
+abbrev pub is_written : (ℕ → Option ℕ) → Place → Bool
+is_written writes (Reg n) = nat_lt n 32 && is_some (writes n)
+is_written writes (Csr addr) = is_some (writes (csr_key addr))
+is_written writes (Word addr) = false
 
 -- from what was known to what is known, by a step
 pub record IsDone (f : Fixed) (known : Known) (r : Record) (new_f : Fixed) (new_known : Known) : Type 0 where
+  pub step : Step
+  pub did : step.did ≡ r
   -- each whole hart and memory that have what was known make this step, and with its changes they have what is known
-  pub wholes : (h : WholeHart) (words : ℕ → ℕ) → Has f known h words
-      → (s : Step) × (step_of h words ≡ Some s) × (s.did ≡ r) × Has new_f new_known (hart_after s.change h) (memory_after s.did.accesses words)
-  -- known are the places that were known, and the register that was written
-  pub places : (place : Place) → is_some (new_known place) ≡ (is_written r.rd place || is_some (known place))
+  pub wholes : (h : WholeHart) (words : ℕ → ℕ) → Has f known h words → (step_of h words ≡ Some step) × Has new_f new_known (hart_after step h) (memory_after r.accesses words)
+  pub fixed : step.fixed ≡ new_f
+  -- known are the places that were known, and those that were written
+  pub places : (place : Place) → is_some (new_known place) ≡ (is_written step.writes place || is_some (known place))
 
 -- from what was known to what is known, where nothing was done
 pub record IsKept (f : Fixed) (known : Known) (new_f : Fixed) (new_known : Known) : Type 0 where
@@ -83,15 +86,16 @@ IsAfter f known (Did r) new_f new_known = IsDone f known r new_f new_known
 IsAfter f known (Missing place) new_f new_known = IsKept f known new_f new_known
 IsAfter f known Outside new_f new_known = IsKept f known new_f new_known
 
--- what would be done leaves a hart as it must be
-abbrev pub IsSound : Looked → Type 0
-IsSound (Does c) = IsSoundChange c
-IsSound (LooksMissing place) = Unit {0}
-IsSound LooksOutside = Unit {0}
+-- what would be done can be done, and leaves a hart as it must be
+abbrev pub IsSound : Priv → CsrValues → Looked → Type 0
+IsSound from csrs (Does c) = IsSoundChange from csrs c
+IsSound from csrs (LooksMissing place) = Unit {0}
+IsSound from csrs LooksOutside = Unit {0}
 
--- a record of such a change, whose accesses keep to words
+-- the pc stays a multiple of 4, x0 is never written, and accesses keep to words
 pub record IsSoundRecord (r : Record) : Type 0 where
-  pub change : IsSoundChange (change_of r)
+  pub pc : r.next_pc % 4 ≡ 0
+  pub rd : IsSoundWrite r.rd
   pub accesses : All IsInWord r.accesses
 
 abbrev pub IsSoundStep : Stepped → Type 0

@@ -1,5 +1,7 @@
 pub mod Registers
+pub mod Fixed
 pub mod Changes
+pub mod Privileged
 pub mod Machine
 pub mod Whole
 pub mod View

@@ -1,67 +1,36 @@
 -- The machine: what one instruction asks and does.
-use Rattle.std.specs.Prelude.{ℕ, ◌+◌, ◌-◌, ◌/◌, ◌%◌, ◌^◌, Bool, true, false, ◌&&◌, ◌||◌, not, nat_eq, nat_le, nat_lt, int_lt, if◌then◌else◌, Option, Some, None}
+use Rattle.std.specs.Prelude.{ℕ, ◌+◌, ◌-◌, ◌/◌, ◌%◌, ◌^◌, Bool, false, ◌||◌, not, nat_eq, nat_le, nat_lt, int_lt, if◌then◌else◌, Option, Some, None}
 use Rattle.rv_isa.specs.declared.instruction.Instr.{Instr}
 use Rattle.rv_isa.specs.declared.operation.Op.{Op}
 use Rattle.rv_isa.specs.declared.operation.Op.TheVariants.{Beq, Bne, Blt, Bge, Bltu, Bgeu, Lb, Lh, Lbu, Lhu, Sb, Sh}
 use Rattle.rv_isa.specs.declared.table.Row.{Row}
-use Rattle.rv_isa.specs.declared.table.Row.TheVariants.{R, I, Shift, S, B, U, J, FenceSets}
+use Rattle.rv_isa.specs.declared.table.Row.TheVariants.{R, I, Shift, S, B, U, J, Csr, CsrImmediate, FenceSets, AddressFence, Fixed as Whole, DefinedIllegal}
 use Rattle.rv_isa.specs.Arithmetic.{alu_result, signed}
 use Rattle.rv_isa.specs.Encoding.{sign_extended}
 use Rattle.rv_isa.specs.Reading.{decoded}
 use Rattle.rv_isa.specs.Table.{row_of}
+use Rattle.rv_csr.specs.declared.cause.Cause.{Cause}
+use Rattle.rv_csr.specs.declared.cause.Cause.TheVariants.{FetchMisaligned, FetchAccess, LoadMisaligned, LoadAccess, StoreMisaligned, StoreAccess}
+use Rattle.rv_csr.specs.declared.privilege.Priv.{Priv}
+use Rattle.rv_csr.specs.Privilege.{is_machine}
+use Rattle.rv_csr.specs.Status.{effective_privilege}
 use Rattle.rv_script.specs.Script.{Label.FromRs1, Label.FromRs2, Label.Fetched, Label.DataWord, Script, Script.Outside, Script.Done, ◌>>=◌, register, read, write}
-use Rattle.rv_hart.specs.declared.csrs.Priv.{Priv}
-use Rattle.rv_hart.specs.declared.csrs.Priv.TheVariants.{M}
 use Rattle.rv_hart.specs.declared.record.Change.{Change}
-use Rattle.rv_hart.specs.declared.record.Outcome.TheVariants.{Retired}
-
--- what a step is given before it asks for anything
-pub record Fixed : Type 0 where
-  pub pc : ℕ
-  pub privilege : Priv
-  pub mstatus : ℕ
-  pub medeleg : ℕ
-  pub satp : ℕ
-  -- mhartid
-  pub number : ℕ
-  -- whether the word of memory with this number, its address divided by 4, is there
-  pub ram : ℕ → Bool
-
-abbrev pub is_machine : Priv → Bool
-is_machine M = true
-is_machine _ = false
+use Rattle.rv_hart.specs.declared.record.Control.TheVariants.{Stay}
+use Rattle.rv_hart.specs.Fixed.{Fixed}
+use Rattle.rv_hart.specs.Privileged.{rd_told, following, went, retired, trap, refused, call_row, break_row, csr_row, csr_immediate_row, mret_row, sret_row, address_fence_row}
 
 -- addresses are not translated: in M, or where satp's MODE, its bit 31, is 0 (Privileged, 4.1.11)
 abbrev pub is_bare : Priv → ℕ → Bool
 is_bare privilege satp = is_machine privilege || nat_lt satp 0x80000000
 
--- loads and stores are made as in M: where mstatus has MPRV, its bit 17, if MPP, its bits 12 and 11, is M, and else in M (Privileged, 3.1.6.3)
-abbrev pub is_data_machine : Fixed → Bool
-is_data_machine f = if nat_eq (f.mstatus / 2 ^ 17 % 2) 1 then nat_eq (f.mstatus / 2 ^ 11 % 4) 3 else is_machine f.privilege
-
--- their addresses are not translated
+-- the addresses of loads and stores are not translated: they have the privilege MPP where MPRV is 1 (Privileged, 3.1.6.3)
 abbrev pub is_data_bare : Fixed → Bool
-is_data_bare f = is_data_machine f || nat_lt f.satp 0x80000000
+is_data_bare f = is_bare (effective_privilege f.mstatus f.privilege) f.satp
 
--- bytes can be loaded or stored there: the address is a multiple of their number, isn't translated and is in RAM (Unprivileged, 2.6)
-abbrev pub is_accessible : Fixed → ℕ → ℕ → Bool
-is_accessible f addr size = nat_eq (addr % size) 0 && (is_data_bare f && f.ram (addr / 4))
-
--- a write to x0 vanishes (Unprivileged, 2.1)
-abbrev pub rd_told : ℕ → ℕ → Option (ℕ × ℕ)
-rd_told rd value = if nat_eq rd 0 then None else Some (rd, value)
-
--- an instruction that goes on at an address
-abbrev pub went : ℕ → Option (ℕ × ℕ) → ℕ → Change
-went word rd target = record { word = word; outcome = Retired; rd = rd; next_pc = target }
-
--- an instruction that goes on to the next one
-abbrev pub retired : ℕ → ℕ → Option (ℕ × ℕ) → Change
-retired pc word rd = went word rd ((pc + 4) % 2 ^ 32)
-
--- a jump; a target that is no multiple of 4 would trap (Unprivileged, 2.5)
-abbrev pub jumped : ℕ → Option (ℕ × ℕ) → ℕ → Script Change
-jumped word rd target = if nat_eq (target % 4) 0 then Done (went word rd target) else Outside
+-- a jump; one to a target that is no multiple of 4 traps, and rd is not written (Unprivileged, 2.5)
+abbrev pub jumped : Fixed → ℕ → Option (ℕ × ℕ) → ℕ → Script Change
+jumped f word rd target = if nat_eq (target % 4) 0 then Done (went word rd Stay target) else trap f word FetchMisaligned target
 
 -- LUI (Unprivileged, 2.4.1)
 unfoldable pub upper_row : Fixed → ℕ → Instr → Script Change
@@ -73,7 +42,7 @@ upper_pc_row f word i = Done (retired f.pc word (rd_told i.rd ((f.pc + i.imm) % 
 
 -- JAL: the address of the next instruction goes to rd (Unprivileged, 2.5.1)
 unfoldable pub jump_row : Fixed → ℕ → Instr → Script Change
-jump_row f word i = jumped word (rd_told i.rd ((f.pc + 4) % 2 ^ 32)) ((f.pc + i.imm) % 2 ^ 32)
+jump_row f word i = jumped f word (rd_told i.rd (following f.pc)) ((f.pc + i.imm) % 2 ^ 32)
 
 -- an address with bit 0 cleared
 abbrev pub even : ℕ → ℕ
@@ -83,7 +52,7 @@ even addr = addr - addr % 2
 unfoldable pub jump_register_row : Fixed → ℕ → Instr → Script Change
 jump_register_row f word i = do
   a ← register FromRs1 i.rs1
-  jumped word (rd_told i.rd ((f.pc + 4) % 2 ^ 32)) (even ((a + i.imm) % 2 ^ 32))
+  jumped f word (rd_told i.rd (following f.pc)) (even ((a + i.imm) % 2 ^ 32))
 
 -- whether a branch goes to its target
 abbrev pub is_taken : Op → ℕ → ℕ → Bool
@@ -100,7 +69,7 @@ unfoldable pub branch_row : Fixed → ℕ → Instr → Script Change
 branch_row f word i = do
   a ← register FromRs1 i.rs1
   b ← register FromRs2 i.rs2
-  if is_taken i.op a b then jumped word None ((f.pc + i.imm) % 2 ^ 32) else Done (retired f.pc word None)
+  if is_taken i.op a b then jumped f word None ((f.pc + i.imm) % 2 ^ 32) else Done (retired f.pc word None)
 
 -- how many bytes a load reads or a store writes (Unprivileged, 2.6)
 abbrev pub size_of : Op → ℕ
@@ -118,13 +87,18 @@ loaded Lb value = sign_extended 8 value
 loaded Lh value = sign_extended 16 value
 loaded _ value = value
 
+-- so many bytes at an address are accessed as it stands: an address that is no multiple of their number traps before it is looked at, and
+-- one outside RAM traps (Unprivileged, 2.6; Privileged, 3.6)
+abbrev pub reached : Fixed → ℕ → ℕ → ℕ → Cause → Cause → Script Change → Script Change
+reached f word addr size misaligned outside access =
+    if nat_eq (addr % size) 0
+    then (if is_data_bare f then (if f.ram (addr / 4) then access else trap f word outside addr) else Outside)
+    else trap f word misaligned addr
+
 abbrev pub load_from : Fixed → ℕ → Instr → ℕ → Script Change
-load_from f word i addr =
-    if is_accessible f addr (size_of i.op)
-    then (do
-      value ← read DataWord addr (size_of i.op)
-      Done (retired f.pc word (rd_told i.rd (loaded i.op value))))
-    else Outside
+load_from f word i addr = reached f word addr (size_of i.op) LoadMisaligned LoadAccess (do
+  value ← read DataWord addr (size_of i.op)
+  Done (retired f.pc word (rd_told i.rd (loaded i.op value))))
 
 -- a load (Unprivileged, 2.6)
 unfoldable pub load_row : Fixed → ℕ → Instr → Script Change
@@ -133,12 +107,9 @@ load_row f word i = do
   load_from f word i ((a + i.imm) % 2 ^ 32)
 
 abbrev pub store_to : Fixed → ℕ → Instr → ℕ → ℕ → Script Change
-store_to f word i addr value =
-    if is_accessible f addr (size_of i.op)
-    then (do
-      stored ← write addr (size_of i.op) (value % 256 ^ size_of i.op)
-      Done (retired f.pc word None))
-    else Outside
+store_to f word i addr value = reached f word addr (size_of i.op) StoreMisaligned StoreAccess (do
+  stored ← write addr (size_of i.op) (value % 256 ^ size_of i.op)
+  Done (retired f.pc word None))
 
 -- a store of the low bytes of rs2 (Unprivileged, 2.6)
 unfoldable pub store_row : Fixed → ℕ → Instr → Script Change
@@ -164,7 +135,7 @@ register_row f word i = do
 unfoldable pub fence_row : Fixed → ℕ → Instr → Script Change
 fence_row f word i = Done (retired f.pc word None)
 
--- what an instruction does, by the format and the opcode of its row of the table of encodings; the machine of today has no step for the others
+-- what an instruction does, by the format and the opcode of its row of the table of encodings; the table has no other rows
 abbrev pub effect : Row → Fixed → ℕ → Instr → Script Change
 -- LUI and AUIPC
 effect (U opcode) f word i = if nat_eq opcode 0x37 then upper_row f word i else if nat_eq opcode 0x17 then upper_pc_row f word i else Outside
@@ -186,17 +157,31 @@ effect (Shift opcode funct3 funct7) f word i = if nat_eq opcode 0x13 then immedi
 effect (R opcode funct3 funct7) f word i = if nat_eq opcode 0x33 then register_row f word i else Outside
 -- MISC-MEM
 effect (FenceSets opcode funct3) f word i = if nat_eq opcode 0x0f then fence_row f word i else Outside
-effect _ f word i = Outside
+-- SYSTEM
+effect (Csr opcode funct3) f word i = if nat_eq opcode 0x73 then csr_row f word i else Outside
+effect (CsrImmediate opcode funct3) f word i = if nat_eq opcode 0x73 then csr_immediate_row f word i else Outside
+effect (AddressFence opcode funct3 funct7) f word i = if nat_eq opcode 0x73 then address_fence_row f word else Outside
+-- ECALL, EBREAK, MRET and SRET
+effect (Whole bits) f word i =
+    if nat_eq bits 0x0000_0073 then call_row f word
+    else if nat_eq bits 0x0010_0073 then break_row f word
+    else if nat_eq bits 0x3020_0073 then mret_row f word
+    else if nat_eq bits 0x1020_0073 then sret_row f word
+    else Outside
+-- all zeros and all ones (Unprivileged, 1.5)
+effect DefinedIllegal f word i = refused f word
 
 unfoldable pub instruction : Fixed → ℕ → Option Instr → Script Change
 instruction f word None = Outside
 instruction f word (Some i) = effect (row_of i.op) f word i
 
--- one whole instruction: its fetch, and what the fetched word does
+-- one whole instruction: its fetch, and what the fetched word does; a fetch outside RAM traps (Privileged, 3.6)
 unfoldable pub script : Fixed → Script Change
 script f =
-    if is_bare f.privilege f.satp && f.ram (f.pc / 4)
+    if is_bare f.privilege f.satp
+    then (if f.ram (f.pc / 4)
     then (do
       word ← read Fetched f.pc 4
       instruction f word (decoded word))
+    else trap f 0 FetchAccess f.pc)
     else Outside

@@ -1,14 +1,9 @@
 -- The registers of a hart of which some are known.
 use Rattle.std.specs.Prelude.{ℕ, List, ◌∷◌, replicate, slice_set, Option, Some, None}
-use Rattle.rv_hart.specs.declared.csrs.Csrs.{Csrs}
 
 -- none but x0 is known
 abbrev pub no_registers : List (Option ℕ)
 no_registers = Some 0 ∷ replicate 31 None
-
--- no lazy CSR is known, and the others but mhartid are 0
-abbrev pub no_csrs : ℕ → Csrs
-no_csrs number = record { mstatus = 0; medeleg = 0; satp = 0; hart = number; lazy = replicate 10 None }
 
 -- the registers after a write
 abbrev pub written : Option (ℕ × ℕ) → List (Option ℕ) → List (Option ℕ)

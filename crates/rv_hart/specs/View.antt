@@ -1,5 +1,6 @@
 -- The code's harts and answers as the machine's.
-use Rattle.std.specs.Prelude.{ℕ, ◌/◌, nat_eq, List, [], ◌∷◌, Option, Some, None, slice_index_or, position}
+use Rattle.std.specs.Prelude.{ℕ, ◌/◌, List, [], Option, Some, None, slice_index_or}
+use Rattle.rv_csr.specs.State.{lazy_value_at}
 use Rattle.rv_mem.specs.declared.words.Seen.{Seen}
 use Rattle.rv_mem.specs.Seen.{known_word, is_there}
 use Rattle.rv_script.specs.declared.access.Access.{Access}
@@ -7,26 +8,20 @@ use Rattle.rv_script.specs.declared.place.Place.TheVariants.{Reg, Csr, Word}
 use Rattle.rv_script.specs.Folds.{Known, Answer, Answer.Does as DoesSo, Answer.Missing as Lacks, Answer.Nowhere}
 use Rattle.rv_hart.specs.declared.hart.Hart.{Hart}
 use Rattle.rv_hart.specs.declared.record.Change.{Change}
+use Rattle.rv_hart.specs.declared.record.Control.{Control}
+use Rattle.rv_hart.specs.declared.record.Control.TheVariants.{Stay}
 use Rattle.rv_hart.specs.declared.record.Stepped.{Stepped}
 use Rattle.rv_hart.specs.declared.record.Stepped.TheVariants.{Did, Missing, Outside}
 use Rattle.rv_hart.specs.declared.looked.Looked.{Looked}
 use Rattle.rv_hart.specs.declared.looked.Looked.TheVariants.{Does, Missing as LooksMissing, Outside as LooksOutside}
 use Rattle.rv_hart.specs.Registers.{written}
-use Rattle.rv_hart.specs.Machine.{Fixed}
+use Rattle.rv_hart.specs.Fixed.{Fixed}
 use Rattle.rv_hart.specs.Whole.{record_of}
-
--- the addresses of the lazy CSRs, in the order of the field: stvec, sscratch, sepc, scause, stval, mtvec, mscratch, mepc, mcause, mtval
-abbrev pub lazy_csrs : List ℕ
-lazy_csrs = 0x105 ∷ 0x140 ∷ 0x141 ∷ 0x142 ∷ 0x143 ∷ 0x305 ∷ 0x340 ∷ 0x341 ∷ 0x342 ∷ 0x343 ∷ []
-
-abbrev pub at_position : List (Option ℕ) → Option ℕ → Option ℕ
-at_position values None = None
-at_position values (Some i) = slice_index_or values i None
 
 -- what is known of a hart and of memory, whose words go by their numbers
 abbrev pub known : Hart → (ℕ → Seen) → Known
 known h at (Reg n) = slice_index_or h.regs n None
-known h at (Csr addr) = at_position h.csrs.lazy (position (λ a. nat_eq a addr) lazy_csrs)
+known h at (Csr addr) = lazy_value_at h.csrs addr
 known h at (Word addr) = known_word (at (addr / 4))
 
 abbrev pub fixed_of : Hart → (ℕ → Seen) → Fixed
@@ -58,6 +53,20 @@ pc_after _ pc = pc
 abbrev pub regs_after : Stepped → List (Option ℕ) → List (Option ℕ)
 regs_after (Did r) regs = written r.rd regs
 regs_after _ regs = regs
+
+-- what is done to the hart, where something is
+abbrev pub change_in : Answer Access Change → Option Change
+change_in (DoesSo accesses c) = Some c
+change_in (Lacks place) = None
+change_in Nowhere = None
+
+abbrev pub control_of : Option Change → Control
+control_of None = Stay
+control_of (Some c) = c.control
+
+-- what is done to privilege and CSRs
+abbrev pub control_in : Answer Access Change → Control
+control_in answer = control_of (change_in answer)
 
 abbrev pub accesses_in : Stepped → List Access
 accesses_in (Did r) = r.accesses

@@ -1,5 +1,7 @@
 -- The step of a whole hart on a whole memory.
-use Rattle.std.specs.Prelude.{ℕ, ◌+◌, ◌/◌, nat_eq, if◌then◌else◌, List, Option, Some, None}
+use Rattle.std.specs.Prelude.{ℕ, ◌/◌, nat_eq, if◌then◌else◌, List, Option, Some, None}
+use Rattle.std.specs.Option.{unwrap_or}
+use Rattle.rv_csr.specs.Table.{csr_key}
 use Rattle.rv_script.specs.declared.access.Access.{Access}
 use Rattle.rv_script.specs.declared.place.Place.{Place}
 use Rattle.rv_script.specs.declared.place.Place.TheVariants.{Reg, Csr, Word}
@@ -7,13 +9,11 @@ use Rattle.rv_script.specs.Script.{place_of}
 use Rattle.rv_script.specs.Folds.{Sight, result_of, accesses_of, needs_of}
 use Rattle.rv_hart.specs.declared.record.Change.{Change}
 use Rattle.rv_hart.specs.declared.record.Record.{Record}
-use Rattle.rv_hart.specs.Machine.{Fixed, script}
+use Rattle.rv_hart.specs.Changes.{fixed_after, outcome_of, writes_of}
+use Rattle.rv_hart.specs.Fixed.{Fixed}
+use Rattle.rv_hart.specs.Machine.{script}
 
--- the key of a lazy place of a hart: a register's number, or 0x1000 and a CSR's address
-abbrev pub csr_key : ℕ → ℕ
-csr_key addr = 0x1000 + addr
-
--- a hart of which all is known: registers and lazy CSRs by their keys
+-- a hart of which all is known: registers and lazy CSRs by the keys of their places, a register's number, or 0x1000 and a CSR's address
 pub record WholeHart : Type 0 where
   pub fixed : Fixed
   pub file : ℕ → ℕ
@@ -33,20 +33,22 @@ record_of f accesses c = record {
   pc = f.pc;
   privilege = f.privilege;
   word = c.word;
-  outcome = c.outcome;
+  outcome = outcome_of f c.control;
   rd = c.rd;
   accesses = accesses;
   next_pc = c.next_pc;
 }
 
--- what a step records, and what it does to its hart; what it does to memory is what its accesses do
+-- what a step records, and what it does to its hart: the fixed parts after it, and the values that it gives to registers and lazy CSRs, by
+-- their keys; what it does to memory is what its accesses do
 pub record Step : Type 0 where
   pub did : Record
-  pub change : Change
+  pub fixed : Fixed
+  pub writes : ℕ → Option ℕ
 
 abbrev pub planned : Fixed → List Access → Option Change → Option Step
 planned f accesses None = None
-planned f accesses (Some c) = Some (record { did = record_of f accesses c; change = c })
+planned f accesses (Some c) = Some (record { did = record_of f accesses c; fixed = fixed_after f c; writes = writes_of f c })
 
 -- the step where the words that each question sees are those of a sight
 abbrev pub sighted_step_of : Fixed → Sight → Option Step
@@ -60,10 +62,9 @@ step_of h words = sighted_step_of h.fixed (sight_of h.file words)
 abbrev pub needed_places : WholeHart → (ℕ → ℕ) → List Place
 needed_places h words = needs_of (script h.fixed) (sight_of h.file words)
 
--- the registers after a write
-abbrev pub file_after : Option (ℕ × ℕ) → (ℕ → ℕ) → ℕ → ℕ
-file_after None file key = file key
-file_after (Some w) file key = if nat_eq w.0 key then w.1 else file key
+-- the values after these were written
+abbrev pub file_after : (ℕ → Option ℕ) → (ℕ → ℕ) → ℕ → ℕ
+file_after writes file key = unwrap_or (writes key) (file key)
 
-abbrev pub hart_after : Change → WholeHart → WholeHart
-hart_after c h = record { fixed = record h.fixed { pc = c.next_pc }; file = file_after c.rd h.file }
+abbrev pub hart_after : Step → WholeHart → WholeHart
+hart_after s h = record { fixed = s.fixed; file = file_after s.writes h.file }

@@ -1,5 +1,5 @@
 // The data of loads and stores.
-ghost use Rattle.std.specs.Prelude.{◌≡◌, ◌+◌, ◌-◌, ◌/◌, ◌%◌, ◌^◌, ◌<◌, ◌⊎◌, ◌&&◌, nat_eq};
+ghost use Rattle.std.specs.Prelude.{◌≡◌, ◌+◌, ◌-◌, ◌/◌, ◌%◌, ◌^◌, ◌<◌, ◌⊎◌};
 ghost use Rattle.rv_script.specs.Bytes.{part_of, word_address};
 ghost use Rattle.rv_hart.specs.Machine.{size_of, loaded, is_data_bare};
 ghost use Rattle.rv_hart.specs.View.{fixed_of};
@@ -62,22 +62,9 @@ pub fn word_of<M: Words>(m: &M, addr: u32) -> Seen
 }
 
 /// Whether loads and stores take their addresses for physical ones.
-fn is_untranslated<M: Words>(h: &Hart, m: &M) -> bool
+pub fn is_untranslated<M: Words>(h: &Hart, m: &M) -> bool
     ensures { result ≡ is_data_bare (fixed_of h.now (M.at m.now)) }
 {
-    let machine = if h.csrs.mstatus / 0x2_0000 % 2 == 1 {
-        h.csrs.mstatus / 0x800 % 4 == 3
-    } else {
-        matches!(h.privilege, Priv::M)
-    };
-    machine || h.csrs.satp < 0x8000_0000
-}
-
-/// Whether so many bytes at an address are reached as it stands: it is a multiple of their number, and
-/// isn't translated.
-pub fn is_direct<M: Words>(h: &Hart, m: &M, addr: u32, size: u8) -> bool
-    requires { 0 < size }
-    ensures { result ≡ (nat_eq (addr % size) 0 && is_data_bare (fixed_of h.now (M.at m.now))) }
-{
-    addr % u32::from(size) == 0 && is_untranslated(h, m)
+    let privilege = h.csrs.effective_privilege(h.privilege);
+    matches!(privilege, Priv::M) || h.csrs.satp() < 0x8000_0000
 }

@@ -2,22 +2,28 @@
 //! `step` plays it on what is known, and its contract says what that tells of every whole hart and memory.
 #![tactic(auto)]
 
-mod csrs;
+#[cfg(test)]
+mod csr_tests;
 mod data;
+#[cfg(test)]
+mod fixtures;
 mod hart;
 mod laws;
 mod looked;
+mod privileged;
 mod record;
 mod rows;
 mod stepping;
 mod storing;
 #[cfg(test)]
 mod tests;
+#[cfg(test)]
+mod trap_tests;
 
-pub use csrs::{Csrs, Priv};
 pub use hart::Hart;
 pub use laws::branch_law;
-pub use record::{Change, Outcome, Record, Stepped};
+pub use record::{Change, Control, Outcome, Record, Stepped};
+pub use rv_csr::{Csrs, Priv};
 pub use rv_mem::{Mem, Seen, Words};
 pub use rv_script::{Access, Accesses, Place, Role};
 pub use stepping::{look, step};

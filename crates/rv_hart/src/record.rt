@@ -1,4 +1,4 @@
-use crate::Priv;
+use rv_csr::{Priv, Register};
 use rv_script::{Accesses, Place};
 
 /// How a step ended.
@@ -26,13 +26,30 @@ pub struct Record {
     pub next_pc: u32,
 }
 
+/// What a step does to the privilege and the CSRs of its hart.
+#[derive(Clone, Copy, Debug, PartialEq, Eq)]
+pub enum Control {
+    /// Nothing.
+    Stay,
+    /// It writes a legal value to a CSR.
+    Write(Register, u32),
+    /// It takes a trap with this cause and trap value.
+    Trap { cause: u8, value: u32 },
+    /// It returns from a trap to M.
+    Mret,
+    /// It returns from a trap to S.
+    Sret,
+}
+
 /// What a step does to its hart, and what its record says beside the accesses.
 #[derive(Clone, Copy, Debug, PartialEq, Eq)]
 pub struct Change {
+    /// The instruction word, 0 where the fetch failed.
     pub word: u32,
-    pub outcome: Outcome,
+    /// The register that is written, with its value; None where none but x0 is.
     pub rd: Option<(u8, u32)>,
     pub next_pc: u32,
+    pub control: Control,
 }
 
 /// What a step on a state of which a part is known answers.

@@ -1,18 +1,24 @@
 // What instructions do, row by row of the table of encodings.
-ghost use Rattle.std.specs.Prelude.{◌≡◌, ◌<◌, All, IsTrue, length};
+ghost use Rattle.std.specs.Prelude.{◌≡◌, ◌<◌, ◌%◌, All, IsTrue, length, true};
 ghost use Rattle.rv_script.specs.Folds.{answer_on, prefixed};
 ghost use Rattle.rv_isa.specs.Arithmetic.{is_alu, is_branch};
 ghost use Rattle.rv_isa.specs.Reading.{decoded};
 ghost use Rattle.rv_isa.specs.Table.{row_of};
 ghost use Rattle.rv_isa.specs.Encoding.{IsInRange};
-ghost use Rattle.rv_hart.specs.Machine.{instruction, immediate_row, register_row, upper_row, upper_pc_row, jump_row, jump_register_row, branch_row, load_row, load_from, store_row, store_to, fence_row, is_taken, effect};
+ghost use Rattle.rv_hart.specs.Machine.{instruction, immediate_row, register_row, upper_row, upper_pc_row, jump_row, jump_register_row, branch_row, load_row, load_from, store_row, store_to, fence_row, is_taken, jumped, size_of, is_data_bare, effect};
+ghost use Rattle.rv_hart.specs.Changes.{IsSoundWrite};
 ghost use Rattle.rv_hart.specs.View.{known, fixed_of, looked};
 ghost use Rattle.rv_hart.specs.Effects.{IsInWord};
 ghost use Rattle.rv_hart.specs.Clauses.{IsSound};
 
-use crate::data::{extend, is_direct, low_bytes, part, size_of, word_of};
-use crate::looked::{Looked, jump, rd_of, retire};
-use crate::{Hart, Seen, Words};
+use crate::data::{extend, is_untranslated, low_bytes, part, size_of, word_of};
+use crate::looked::{Looked, go_to, rd_of, retire};
+use crate::privileged::{
+    call, csr_immediate, csr_register, fence_addresses, refuse, return_from_machine,
+    return_from_supervisor, trap,
+};
+use crate::{Control, Hart, Seen, Words};
+use rv_csr::Cause;
 use rv_isa::{Instr, Op, alu, decode, taken};
 use rv_script::{Access, Accesses, Place, Role};
 
@@ -21,7 +27,7 @@ use rv_script::{Access, Accesses, Place, Role};
 fn immediate<M: Words>(h: &Hart, m: &M, word: u32, i: &Instr, log: &Accesses) -> Looked
     requires alu { IsTrue (is_alu i.now.op) }
     requires ranges { IsInRange i.now }
-    ensures sound { IsSound result }
+    ensures sound { IsSound h.now.privilege h.now.csrs result }
     ensures answer { looked log.now result ≡ prefixed log.now (answer_on (known h.now (M.at m.now)) (immediate_row (fixed_of h.now (M.at m.now)) word i.now)) }
 {
     match h.register(i.rs1) {
@@ -35,7 +41,7 @@ fn immediate<M: Words>(h: &Hart, m: &M, word: u32, i: &Instr, log: &Accesses) ->
 fn registers<M: Words>(h: &Hart, m: &M, word: u32, i: &Instr, log: &Accesses) -> Looked
     requires alu { IsTrue (is_alu i.now.op) }
     requires ranges { IsInRange i.now }
-    ensures sound { IsSound result }
+    ensures sound { IsSound h.now.privilege h.now.csrs result }
     ensures answer { looked log.now result ≡ prefixed log.now (answer_on (known h.now (M.at m.now)) (register_row (fixed_of h.now (M.at m.now)) word i.now)) }
 {
     let Some(a) = h.register(i.rs1) else {
@@ -47,18 +53,40 @@ fn registers<M: Words>(h: &Hart, m: &M, word: u32, i: &Instr, log: &Accesses) ->
     Looked::Does(retire(h.pc, word, rd_of(i.rd, alu(i.op, a, b))))
 }
 
+/// A jump, which traps where its target is no multiple of 4.
+#[tactic(auto, using(crate::proofs::Prefixes::prefixed_none))]
+fn jump<M: Words>(
+    h: &Hart,
+    m: &M,
+    word: u32,
+    rd: Option<(u8, u32)>,
+    target: u32,
+    log: &Accesses,
+) -> Looked
+    requires { IsSoundWrite rd }
+    ensures sound { IsSound h.now.privilege h.now.csrs result }
+    ensures answer { looked log.now result ≡ prefixed log.now (answer_on (known h.now (M.at m.now)) (jumped (fixed_of h.now (M.at m.now)) word rd target)) }
+{
+    if target % 4 == 0 {
+        Looked::Does(go_to(word, rd, Control::Stay, target))
+    } else {
+        trap(h, m, word, Cause::FetchMisaligned, target, log)
+    }
+}
+
 /// A jump to a register's value and the immediate.
 #[tactic(auto, using(crate::proofs::Prefixes::prefixed_none), unfolding(crate::specs::Machine::jump_register_row))]
 fn jump_register<M: Words>(h: &Hart, m: &M, word: u32, i: &Instr, log: &Accesses) -> Looked
     requires { IsInRange i.now }
-    ensures sound { IsSound result }
+    ensures sound { IsSound h.now.privilege h.now.csrs result }
     ensures answer { looked log.now result ≡ prefixed log.now (answer_on (known h.now (M.at m.now)) (jump_register_row (fixed_of h.now (M.at m.now)) word i.now)) }
 {
     match h.register(i.rs1) {
         None => Looked::Missing(Place::Reg(i.rs1)),
         Some(a) => {
             let target = a.wrapping_add(i.imm);
-            jump(word, rd_of(i.rd, h.pc.wrapping_add(4)), target - target % 2)
+            let rd = rd_of(i.rd, h.pc.wrapping_add(4));
+            jump(h, m, word, rd, target - target % 2, log)
         }
     }
 }
@@ -77,7 +105,7 @@ fn decide(op: Op, a: u32, b: u32) -> bool
 fn branch<M: Words>(h: &Hart, m: &M, word: u32, i: &Instr, log: &Accesses) -> Looked
     requires branch { IsTrue (is_branch i.now.op) }
     requires ranges { IsInRange i.now }
-    ensures sound { IsSound result }
+    ensures sound { IsSound h.now.privilege h.now.csrs result }
     ensures answer { looked log.now result ≡ prefixed log.now (answer_on (known h.now (M.at m.now)) (branch_row (fixed_of h.now (M.at m.now)) word i.now)) }
 {
     let Some(a) = h.register(i.rs1) else {
@@ -87,26 +115,25 @@ fn branch<M: Words>(h: &Hart, m: &M, word: u32, i: &Instr, log: &Accesses) -> Lo
         return Looked::Missing(Place::Reg(i.rs2));
     };
     if decide(i.op, a, b) {
-        jump(word, None, h.pc.wrapping_add(i.imm))
+        jump(h, m, word, None, h.pc.wrapping_add(i.imm), log)
     } else {
         Looked::Does(retire(h.pc, word, None))
     }
 }
 
-/// A load from an address.
+/// A load from an address that is a multiple of its size.
 fn load_at<M: Words>(h: &Hart, m: &M, word: u32, i: &Instr, addr: u32, log: &mut Accesses) -> Looked
     requires rd { i.now.rd < 32 }
+    requires aligned { addr % size_of i.now.op ≡ 0 }
+    requires bare { is_data_bare (fixed_of h.now (M.at m.now)) ≡ true }
     requires room { length log.old < 8 }
-    ensures sound { IsSound result }
+    ensures sound { IsSound h.now.privilege h.now.csrs result }
     ensures words { All IsInWord log.old → All IsInWord log.new }
     ensures answer { looked log.new result ≡ prefixed log.old (answer_on (known h.now (M.at m.now)) (load_from (fixed_of h.now (M.at m.now)) word i.now addr)) }
 {
     let size = size_of(i.op);
-    if !is_direct(h, m, addr, size) {
-        return Looked::Outside;
-    }
     match word_of(m, addr) {
-        Seen::Vacant => Looked::Outside,
+        Seen::Vacant => trap(h, m, word, Cause::LoadAccess, addr, log),
         Seen::Untouched => Looked::Missing(Place::Word(addr - addr % 4)),
         Seen::Known(data) => {
             let value = part(data, addr, size);
@@ -121,22 +148,46 @@ fn load_at<M: Words>(h: &Hart, m: &M, word: u32, i: &Instr, addr: u32, log: &mut
     }
 }
 
+/// A load from any address.
+fn load_from<M: Words>(
+    h: &Hart,
+    m: &M,
+    word: u32,
+    i: &Instr,
+    addr: u32,
+    log: &mut Accesses,
+) -> Looked
+    requires rd { i.now.rd < 32 }
+    requires room { length log.old < 8 }
+    ensures sound { IsSound h.now.privilege h.now.csrs result }
+    ensures words { All IsInWord log.old → All IsInWord log.new }
+    ensures answer { looked log.new result ≡ prefixed log.old (answer_on (known h.now (M.at m.now)) (load_from (fixed_of h.now (M.at m.now)) word i.now addr)) }
+{
+    if addr % u32::from(size_of(i.op)) != 0 {
+        trap(h, m, word, Cause::LoadMisaligned, addr, log)
+    } else if is_untranslated(h, m) {
+        load_at(h, m, word, i, addr, log)
+    } else {
+        Looked::Outside
+    }
+}
+
 /// A load.
 #[tactic(auto, unfolding(crate::specs::Machine::load_row))]
 fn load<M: Words>(h: &Hart, m: &M, word: u32, i: &Instr, log: &mut Accesses) -> Looked
     requires ranges { IsInRange i.now }
     requires room { length log.old < 8 }
-    ensures sound { IsSound result }
+    ensures sound { IsSound h.now.privilege h.now.csrs result }
     ensures words { All IsInWord log.old → All IsInWord log.new }
     ensures answer { looked log.new result ≡ prefixed log.old (answer_on (known h.now (M.at m.now)) (load_row (fixed_of h.now (M.at m.now)) word i.now)) }
 {
     match h.register(i.rs1) {
         None => Looked::Missing(Place::Reg(i.rs1)),
-        Some(a) => load_at(h, m, word, i, a.wrapping_add(i.imm), log),
+        Some(a) => load_from(h, m, word, i, a.wrapping_add(i.imm), log),
     }
 }
 
-/// A store of a value's low bytes at an address.
+/// A store of a value's low bytes at an address that is a multiple of its size.
 fn store_at<M: Words>(
     h: &Hart,
     m: &M,
@@ -146,18 +197,16 @@ fn store_at<M: Words>(
     value: u32,
     log: &mut Accesses,
 ) -> Looked
-    requires { length log.old < 8 }
-    ensures sound { IsSound result }
+    requires aligned { addr % size_of i.now.op ≡ 0 }
+    requires bare { is_data_bare (fixed_of h.now (M.at m.now)) ≡ true }
+    requires room { length log.old < 8 }
+    ensures sound { IsSound h.now.privilege h.now.csrs result }
     ensures words { All IsInWord log.old → All IsInWord log.new }
     ensures answer { looked log.new result ≡ prefixed log.old (answer_on (known h.now (M.at m.now)) (store_to (fixed_of h.now (M.at m.now)) word i.now addr value)) }
 {
     let size = size_of(i.op);
-    if !is_direct(h, m, addr, size) {
-        return Looked::Outside;
-    }
-    let seen = word_of(m, addr);
-    match seen {
-        Seen::Vacant => Looked::Outside,
+    match word_of(m, addr) {
+        Seen::Vacant => trap(h, m, word, Cause::StoreAccess, addr, log),
         Seen::Untouched => Looked::Missing(Place::Word(addr - addr % 4)),
         Seen::Known(_) => {
             log.push(Access {
@@ -171,12 +220,36 @@ fn store_at<M: Words>(
     }
 }
 
+/// A store of a value's low bytes at any address.
+fn store_to<M: Words>(
+    h: &Hart,
+    m: &M,
+    word: u32,
+    i: &Instr,
+    addr: u32,
+    value: u32,
+    log: &mut Accesses,
+) -> Looked
+    requires { length log.old < 8 }
+    ensures sound { IsSound h.now.privilege h.now.csrs result }
+    ensures words { All IsInWord log.old → All IsInWord log.new }
+    ensures answer { looked log.new result ≡ prefixed log.old (answer_on (known h.now (M.at m.now)) (store_to (fixed_of h.now (M.at m.now)) word i.now addr value)) }
+{
+    if addr % u32::from(size_of(i.op)) != 0 {
+        trap(h, m, word, Cause::StoreMisaligned, addr, log)
+    } else if is_untranslated(h, m) {
+        store_at(h, m, word, i, addr, value, log)
+    } else {
+        Looked::Outside
+    }
+}
+
 /// A store.
 #[tactic(auto, unfolding(crate::specs::Machine::store_row))]
 fn store<M: Words>(h: &Hart, m: &M, word: u32, i: &Instr, log: &mut Accesses) -> Looked
     requires ranges { IsInRange i.now }
     requires room { length log.old < 8 }
-    ensures sound { IsSound result }
+    ensures sound { IsSound h.now.privilege h.now.csrs result }
     ensures words { All IsInWord log.old → All IsInWord log.new }
     ensures answer { looked log.new result ≡ prefixed log.old (answer_on (known h.now (M.at m.now)) (store_row (fixed_of h.now (M.at m.now)) word i.now)) }
 {
@@ -186,7 +259,7 @@ fn store<M: Words>(h: &Hart, m: &M, word: u32, i: &Instr, log: &mut Accesses) ->
     let Some(b) = h.register(i.rs2) else {
         return Looked::Missing(Place::Reg(i.rs2));
     };
-    store_at(h, m, word, i, a.wrapping_add(i.imm), b, log)
+    store_to(h, m, word, i, a.wrapping_add(i.imm), b, log)
 }
 
 /// What an instruction does.
@@ -194,7 +267,7 @@ fn store<M: Words>(h: &Hart, m: &M, word: u32, i: &Instr, log: &mut Accesses) ->
 fn perform<M: Words>(h: &Hart, m: &M, word: u32, i: &Instr, log: &mut Accesses) -> Looked
     requires ranges { IsInRange i.now }
     requires room { length log.old < 8 }
-    ensures sound { IsSound result }
+    ensures sound { IsSound h.now.privilege h.now.csrs result }
     ensures words { All IsInWord log.old → All IsInWord log.new }
     ensures answer { looked log.new result ≡ prefixed log.old (answer_on (known h.now (M.at m.now)) (effect (row_of i.now.op) (fixed_of h.now (M.at m.now)) word i.now)) }
 {
@@ -204,7 +277,7 @@ fn perform<M: Words>(h: &Hart, m: &M, word: u32, i: &Instr, log: &mut Accesses) 
         Op::Fence => Looked::Does(retire(h.pc, word, None)),
         Op::Jal => {
             let rd = rd_of(i.rd, h.pc.wrapping_add(4));
-            jump(word, rd, h.pc.wrapping_add(i.imm))
+            jump(h, m, word, rd, h.pc.wrapping_add(i.imm), log)
         }
         Op::Jalr => jump_register(h, m, word, i, log),
         Op::Beq | Op::Bne | Op::Blt | Op::Bge | Op::Bltu | Op::Bgeu => branch(h, m, word, i, log),
@@ -218,7 +291,14 @@ fn perform<M: Words>(h: &Hart, m: &M, word: u32, i: &Instr, log: &mut Accesses) 
         Op::Xor | Op::Srl | Op::Sra | Op::Or | Op::And => registers(h, m, word, i, log),
         Op::Mul | Op::Mulh | Op::Mulhsu | Op::Mulhu => registers(h, m, word, i, log),
         Op::Div | Op::Divu | Op::Rem | Op::Remu => registers(h, m, word, i, log),
-        _ => Looked::Outside,
+        Op::Ecall => call(h, m, word, log),
+        Op::Ebreak => trap(h, m, word, Cause::Breakpoint, h.pc, log),
+        Op::Csrrw | Op::Csrrs | Op::Csrrc => csr_register(h, m, word, i, log),
+        Op::Csrrwi | Op::Csrrsi | Op::Csrrci => csr_immediate(h, m, word, i, log),
+        Op::Mret => return_from_machine(h, m, word, log),
+        Op::Sret => return_from_supervisor(h, m, word, log),
+        Op::SfenceVma => fence_addresses(h, m, word, log),
+        Op::Illegal => refuse(h, m, word, log),
     }
 }
 
@@ -226,7 +306,7 @@ fn perform<M: Words>(h: &Hart, m: &M, word: u32, i: &Instr, log: &mut Accesses) 
 #[tactic(auto, unfolding(crate::specs::Machine::instruction))]
 pub fn execute<M: Words>(h: &Hart, m: &M, word: u32, log: &mut Accesses) -> Looked
     requires { length log.old < 8 }
-    ensures sound { IsSound result }
+    ensures sound { IsSound h.now.privilege h.now.csrs result }
     ensures words { All IsInWord log.old → All IsInWord log.new }
     ensures answer { looked log.new result ≡ prefixed log.old (answer_on (known h.now (M.at m.now)) (instruction (fixed_of h.now (M.at m.now)) word (decoded word))) }
 {

@@ -1,30 +1,37 @@
 // The step of a hart.
 ghost use Rattle.std.specs.Prelude.{◌≡◌, ◌<◌, ◌%◌, ◌+◌, ◌^◌, ℕ, [], All, length, None, Some, IsTrue};
+ghost use Rattle.std.specs.Option.{ForSome};
+ghost use Rattle.rv_csr.specs.State.{IsLegal};
 ghost use Rattle.rv_script.specs.Folds.{answer_on, prefixed};
 ghost use Rattle.rv_hart.specs.Machine.{script, is_bare};
-ghost use Rattle.rv_hart.specs.View.{known, fixed_of, looked, shown, pc_after, regs_after, accesses_in};
+ghost use Rattle.rv_mem.specs.declared.words.Seen.{Seen as ASeen};
+ghost use Rattle.rv_hart.specs.Changes.{IsSoundChange, csrs_after, outcome_of, privilege_after};
+ghost use Rattle.rv_hart.specs.Whole.{record_of};
+ghost use Rattle.rv_hart.specs.View.{known, fixed_of, looked, shown, pc_after, regs_after, change_in, control_in, accesses_in};
 ghost use Rattle.rv_hart.specs.Effects.{IsInWord, seen_after};
 ghost use Rattle.rv_hart.specs.Clauses.{IsMachineStep, IsLocalStep, IsAfter, IsSound, IsSoundStep};
 
 use crate::data::word_of;
 use crate::looked::Looked;
+use crate::privileged::trap;
 use crate::rows::execute;
 use crate::storing::apply_all;
-use crate::{Hart, Mem, Priv, Record, Seen, Stepped, Words};
+use crate::{Change, Control, Hart, Mem, Outcome, Priv, Record, Seen, Stepped, Words};
+use rv_csr::Cause;
 use rv_script::{Access, Accesses, Place, Role};
 
 /// Whether a fetch takes the pc for a physical address.
 fn is_untranslated(h: &Hart) -> bool
     ensures { result ≡ is_bare h.now.privilege h.now.csrs.satp }
 {
-    matches!(h.privilege, Priv::M) || h.csrs.satp < 0x8000_0000
+    matches!(h.privilege, Priv::M) || h.csrs.satp() < 0x8000_0000
 }
 
 /// What the next step would do, with its accesses in the log.
 #[tactic(auto, unfolding(crate::specs::Machine::script))]
 fn look_at<M: Words>(h: &Hart, m: &M, log: &mut Accesses) -> Looked
     requires { log.old ≡ [] }
-    ensures sound { IsSound result }
+    ensures sound { IsSound h.now.privilege h.now.csrs result }
     ensures words { All IsInWord log.new }
     ensures answer { looked log.new result ≡ answer_on (known h.now (M.at m.now)) (script (fixed_of h.now (M.at m.now))) }
 {
@@ -32,7 +39,7 @@ fn look_at<M: Words>(h: &Hart, m: &M, log: &mut Accesses) -> Looked
         return Looked::Outside;
     }
     match word_of(m, h.pc) {
-        Seen::Vacant => Looked::Outside,
+        Seen::Vacant => trap(h, m, 0, Cause::FetchAccess, h.pc, log),
         Seen::Untouched => Looked::Missing(Place::Word(h.pc)),
         Seen::Known(word) => {
             log.push(Access {
@@ -46,24 +53,64 @@ fn look_at<M: Words>(h: &Hart, m: &M, log: &mut Accesses) -> Looked
     }
 }
 
-/// What the script answers on what is known.
-fn observe<M: Words>(h: &Hart, m: &M) -> Stepped
-    ensures sound { IsSoundStep result }
-    ensures answer { result ≡ shown (fixed_of h.now (M.at m.now)) (answer_on (known h.now (M.at m.now)) (script (fixed_of h.now (M.at m.now)))) }
+/// How a step ends.
+fn outcome_of(h: &Hart, change: &Change) -> Outcome
+    requires { IsSoundChange h.now.privilege h.now.csrs change.now }
+    ensures { (at : ℕ → ASeen) → result ≡ outcome_of (fixed_of h.now at) change.now.control }
 {
+    match change.control {
+        Control::Trap { cause, value } => Outcome::Trap {
+            cause,
+            value,
+            to: h.csrs.vector(h.privilege, cause).0,
+        },
+        _ => Outcome::Retired,
+    }
+}
+
+/// The record of a step.
+fn record_of(h: &Hart, change: &Change, accesses: Accesses) -> Record
+    requires { IsSoundChange h.now.privilege h.now.csrs change.now }
+    ensures record { (at : ℕ → ASeen) → result ≡ record_of (fixed_of h.now at) accesses change.now }
+    ensures next_pc { result.next_pc ≡ change.now.next_pc }
+    ensures rd { result.rd ≡ change.now.rd }
+    ensures accesses { result.accesses ≡ accesses }
+{
+    Record {
+        pc: h.pc,
+        privilege: h.privilege,
+        word: change.word,
+        outcome: outcome_of(h, change),
+        rd: change.rd,
+        accesses,
+        next_pc: change.next_pc,
+    }
+}
+
+/// What the script answers on what is known, with the change that it comes with.
+fn observe<M: Words>(h: &Hart, m: &M) -> (Stepped, Option<Change>)
+    ensures legal { IsLegal h.now.csrs }
+    ensures sound { IsSoundStep result.0 }
+    ensures fit { ForSome result.1 (λ c. IsSoundChange h.now.privilege h.now.csrs c) }
+    ensures answer { result.0 ≡ shown (fixed_of h.now (M.at m.now)) (answer_on (known h.now (M.at m.now)) (script (fixed_of h.now (M.at m.now)))) }
+    ensures change { result.1 ≡ change_in (answer_on (known h.now (M.at m.now)) (script (fixed_of h.now (M.at m.now)))) }
+{
+    h.csrs.legal_values();
     let mut accesses = Accesses::new();
     match look_at(h, m, &mut accesses) {
-        Looked::Does(change) => Stepped::Did(Record {
-            pc: h.pc,
-            privilege: h.privilege,
-            word: change.word,
-            outcome: change.outcome,
-            rd: change.rd,
-            accesses,
-            next_pc: change.next_pc,
-        }),
-        Looked::Missing(place) => Stepped::Missing(place),
-        Looked::Outside => Stepped::Outside,
+        Looked::Does(change) => (Stepped::Did(record_of(h, &change, accesses)), Some(change)),
+        Looked::Missing(place) => (Stepped::Missing(place), None),
+        Looked::Outside => (Stepped::Outside, None),
+    }
+}
+
+/// The accesses of what was done.
+fn accesses_of(stepped: &Stepped) -> &[Access]
+    ensures { result.now ≡ accesses_in stepped.now }
+{
+    match stepped {
+        Stepped::Did(record) => record.accesses.as_slice(),
+        _ => &[],
     }
 }
 
@@ -80,12 +127,12 @@ pub fn look<M: Words>(h: &Hart, m: &M) -> Stepped
     // What it would do leaves a hart as it must be, and each access keeps to a word.
     ensures sound { IsSoundStep result }
 {
-    observe(h, m)
+    observe(h, m).0
 }
 
 /// Does one step, where what is known tells which. Missing carries the first place that it needs and that
-/// isn't known, in the order instruction word, rs1, rs2, data word; Outside comes where the machine has no
-/// step. Both change nothing. The word of a store is needed too.
+/// isn't known, in the order instruction word, rs1, rs2, CSR, data word, vector; Outside comes where the machine
+/// has no step. Both change nothing. The word of a store is needed too.
 pub fn step<M: Mem>(h: &mut Hart, m: &mut M) -> Stepped
     // The answer of every whole hart and memory that has what is known.
     ensures machine { IsMachineStep (fixed_of h.old (M.at m.old)) (known h.old (M.at m.old)) result }
@@ -94,22 +141,25 @@ pub fn step<M: Mem>(h: &mut Hart, m: &mut M) -> Stepped
     ensures local { IsLocalStep (fixed_of h.old (M.at m.old)) (known h.old (M.at m.old)) result }
 
     // Each whole hart and memory that had what was known makes the step, and then has what is known: what was
-    // known, as the step left it, and the register that it wrote. Missing and Outside change nothing.
+    // known, as the step left it, and the registers and CSRs that it wrote. Missing and Outside change nothing.
     ensures after { IsAfter (fixed_of h.old (M.at m.old)) (known h.old (M.at m.old)) result (fixed_of h.new (M.at m.new)) (known h.new (M.at m.new)) }
 
     ensures answer { result ≡ shown (fixed_of h.old (M.at m.old)) (answer_on (known h.old (M.at m.old)) (script (fixed_of h.old (M.at m.old)))) }
     ensures pc { h.new.pc ≡ pc_after result h.old.pc }
-    ensures privilege { h.new.privilege ≡ h.old.privilege }
     ensures regs { h.new.regs ≡ regs_after result h.old.regs }
-    ensures csrs { h.new.csrs ≡ h.old.csrs }
+    ensures privilege { h.new.privilege ≡ privilege_after h.old.privilege h.old.csrs.mstatus h.old.csrs.medeleg (control_in (answer_on (known h.old (M.at m.old)) (script (fixed_of h.old (M.at m.old))))) }
+    ensures csrs { h.new.csrs ≡ csrs_after h.old.privilege h.old.pc (control_in (answer_on (known h.old (M.at m.old)) (script (fixed_of h.old (M.at m.old))))) h.old.csrs }
 
     // Memory after the accesses of the record.
     ensures memory { (n : ℕ) → M.at m.new n ≡ seen_after (accesses_in result) (M.at m.old) n }
+
+    // What was done leaves a hart as it must be, and each access keeps to a word.
+    ensures sound { IsSoundStep result }
 {
-    let result = look(h, m);
-    if let Stepped::Did(record) = &result {
-        h.take(record);
-        apply_all(m, record.accesses.as_slice());
+    let (result, change) = observe(h, m);
+    if let Some(change) = change {
+        h.take(&change);
+        apply_all(m, accesses_of(&result));
     }
     result
 }

@@ -42,18 +42,18 @@ solo_goes words end (r ∷ rs) knows h m records rests ends = go (step_of h m) r
         → Goes words end (r ∷ rs) knows h m
     go None e ih records rests ends = absurd cc
     go (Some s) e ih records rests ends =
-        let h' : WholeHart = hart_after s.change h in
+        let h' : WholeHart = hart_after s h in
         let m' : ℕ → ℕ = memory_after s.did.accesses m in
         let head : s.did ≡ r = cc in
         let tail : map (λ (x : Moment). x.step.did) (solo (length rs) h' m').moments ≡ rs = cc in
-        (s, e, head, rests.0, ih (knows_also s.change.rd knows) h' m' tail rests.1 ends)
+        (s, e, head, rests.0, ih (knows_also s.writes knows) h' m' tail rests.1 ends)
 
 -- each word that a chain touches is given
 goes_given : (words : ℕ → Option ℕ) (end : End) (rs : List Record) (knows : ℕ → Bool) (h : WholeHart) (m : ℕ → ℕ)
     → Goes words end rs knows h m → (x : Access) → HasItem (footprint_of rs) x → is_some (words (x.addr / 4)) ≡ true
 goes_given words end [] knows h m g x i = absurd i
 goes_given words end (r ∷ rs) knows h m g x i =
-    let ih = goes_given words end rs (knows_also g.0.change.rd knows) (hart_after g.0.change h) (memory_after g.0.did.accesses m) g.4 x in
+    let ih = goes_given words end rs (knows_also g.0.writes knows) (hart_after g.0 h) (memory_after g.0.did.accesses m) g.4 x in
     let word : x.addr / 4 ≡ word_address x.addr / 4 = omega arith in
     elim (has_cases r.accesses (footprint_of rs) x i) [
       | inl here ↦ rw word (g.3 (Word (word_address x.addr)) (step_word h.fixed (sight_of h.file m) g.0 g.1 x (subst (λ (q : Record). HasItem q.accesses x) (sym g.2) here)))

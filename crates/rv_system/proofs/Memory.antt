@@ -1,5 +1,6 @@
 -- What several harts do to one memory.
-use Rattle.std.proofs.Common.{◌≡◌, ◌≢◌, ℕ, zero, suc, ◌+◌, ◌-◌, ◌*◌, ◌/◌, ◌%◌, ◌^◌, ◌<◌, Bool, true, false, cond, eqb, List, [], ◌∷◌, ◌++◌, Option, Some, None, refl, sym, ap, ◌∙◌, subst, inl, inr, ◌⊎◌, arith}
+use Rattle.std.proofs.Common.{◌≡◌, ◌≢◌, ℕ, zero, suc, ◌+◌, ◌-◌, ◌*◌, ◌/◌, ◌%◌, ◌^◌, ◌<◌, Bool, true, false, cond, eqb, List, [], ◌∷◌, ◌++◌, Option, Some, None, refl, sym, ap, ◌∙◌, subst, inl, inr, ◌⊎◌, ◌||◌, arith}
+use Rattle.std.specs.Option.{is_some, unwrap_or}
 use Rattle.std.proofs.Math.Path.{fun_ext}
 use Rattle.std.proofs.lemmas.Bool.{or_parts, cases_Bool, cases_eq, ne_eqb, false_from_ne_true}
 use Rattle.rv_script.specs.declared.access.Access.{Access}
@@ -231,14 +232,17 @@ in_turn_more (suc n) did did' m k xs l here there fit = elim (cases_eq k n) [
       rw (there n other, ih) (commute (did n) xs (in_turn n did m) (fit n (omega arith) other))
 ]
 
--- registers after the same write
-pub file_after_same : (ws : Option (ℕ × ℕ)) (knows : ℕ → Bool) (f g : ℕ → ℕ) (p : ℕ) → knows_also ws knows p ≡ true → (knows p ≡ true → f p ≡ g p) → file_after ws f p ≡ file_after ws g p
-file_after_same None knows f g p k h = h k
-file_after_same (Some w) knows f g p k h = elim (cases_Bool (eqb w.0 p)) [
-  | inl e ↦ rw e refl
-  | inr e ↦ let k' : knows p ≡ true = rw e at k in rw e (h k')
-]
+-- registers and CSRs after the same writes
+pub file_after_same : (writes : ℕ → Option ℕ) (knows : ℕ → Bool) (f g : ℕ → ℕ) (p : ℕ) → knows_also writes knows p ≡ true → (knows p ≡ true → f p ≡ g p) → file_after writes f p ≡ file_after writes g p
+file_after_same writes knows f g p k h = go (writes p) k
+  where
+    go : (o : Option ℕ) → (is_some o || knows p) ≡ true → unwrap_or o (f p) ≡ unwrap_or o (g p)
+    go None k = h k
+    go (Some v) k = refl
 
-pub file_after_other : (ws : Option (ℕ × ℕ)) (knows : ℕ → Bool) (f : ℕ → ℕ) (p : ℕ) → knows_also ws knows p ≡ false → (file_after ws f p ≡ f p) × (knows p ≡ false)
-file_after_other None knows f p k = (refl, k)
-file_after_other (Some w) knows f p k = let two = or_parts (eqb w.0 p) (knows p) k in (rw two.0 refl, two.1)
+pub file_after_other : (writes : ℕ → Option ℕ) (knows : ℕ → Bool) (f : ℕ → ℕ) (p : ℕ) → knows_also writes knows p ≡ false → (file_after writes f p ≡ f p) × (knows p ≡ false)
+file_after_other writes knows f p k = go (writes p) k
+  where
+    go : (o : Option ℕ) → (is_some o || knows p) ≡ false → (unwrap_or o (f p) ≡ f p) × (knows p ≡ false)
+    go None k = (refl, k)
+    go (Some v) k = absurd (cc k)

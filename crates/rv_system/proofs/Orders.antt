@@ -13,8 +13,10 @@ use Rattle.rv_script.specs.Laws.{IsSeenAlike}
 use Rattle.rv_script.specs.Memory.{memory_after}
 use Rattle.rv_script.proofs.Local.{seen_value}
 use Rattle.rv_hart.specs.declared.record.Record.{Record}
-use Rattle.rv_hart.specs.Machine.{Fixed, script}
-use Rattle.rv_hart.specs.Whole.{WholeHart, csr_key, sight_of, Step, sighted_step_of, step_of, needed_places, hart_after}
+use Rattle.rv_hart.specs.Fixed.{Fixed}
+use Rattle.rv_hart.specs.Machine.{script}
+use Rattle.rv_csr.specs.Table.{csr_key}
+use Rattle.rv_hart.specs.Whole.{WholeHart, sight_of, Step, sighted_step_of, step_of, needed_places, hart_after}
 use Rattle.tpl_admit.specs.System.{System, replaced, moved, run_of, of_hart, times}
 use Rattle.foot_map.specs.Races.{IsRaceFree}
 use Rattle.tpl_admit.specs.Races.{footprint_of, footprints_of}
@@ -41,7 +43,7 @@ abbrev pub Goes : (ℕ → Option ℕ) → End → List Record → (ℕ → Bool
 Goes words end [] knows h m = Ends knows h end
 Goes words end (r ∷ rs) knows h m =
     (s : Step) × (step_of h m ≡ Some s) × (s.did ≡ r) × Rests words knows h m
-    × Goes words end rs (knows_also s.change.rd knows) (hart_after s.change h) (memory_after s.did.accesses m)
+    × Goes words end rs (knows_also s.writes knows) (hart_after s h) (memory_after s.did.accesses m)
 
 -- what a hart is alone, how far it has come, and what is left
 pub record Alone : Type 0 where
@@ -63,9 +65,9 @@ pub record Follows (words : ℕ → Option ℕ) (origin : ℕ → ℕ) (first : 
 
 abbrev pub next : Step → Alone → List Record → Alone
 next s a rs = record {
-  hart = hart_after s.change a.hart;
+  hart = hart_after s a.hart;
   memory = memory_after s.did.accesses a.memory;
-  knows = knows_also s.change.rd a.knows;
+  knows = knows_also s.writes a.knows;
   did = a.did ++ s.did.accesses;
   left = rs;
 }
@@ -87,7 +89,7 @@ pub record Stepped (words : ℕ → Option ℕ) (origin : ℕ → ℕ) (first : 
   pub step' : Step
   pub was : sighted_step_of now.fixed see ≡ Some step'
   pub as_printed : step'.did ≡ r
-  pub follows : Follows words origin first trace end (hart_after step'.change now) (next step' a rs)
+  pub follows : Follows words origin first trace end (hart_after step' now) (next step' a rs)
 
 known_register : (words : ℕ → Option ℕ) (knows : ℕ → Bool) (now alone : ℕ → ℕ) (n : ℕ) → ((key : ℕ) → knows key ≡ true → now key ≡ alone key) → is_set knows words (Reg n) ≡ true
     → (if eqb n 0 then 0 else now n) ≡ (if eqb n 0 then 0 else alone n)
@@ -115,9 +117,9 @@ one_step words origin first trace end now see a r rs f e sees sound =
       as_printed = goes.2;
       follows = record {
         goes = goes.4;
-        fixed = ap (λ (g : Fixed). record g { pc = s.change.next_pc }) f.fixed;
-        known = λ q k. file_after_same s.change.rd a.knows now.file a.hart.file q k (f.known q);
-        others = λ q k. let w = file_after_other s.change.rd a.knows now.file q k in w.0 ∙ f.others q w.1;
+        fixed = refl;
+        known = λ q k. file_after_same s.writes a.knows now.file a.hart.file q k (f.known q);
+        others = λ q k. let w = file_after_other s.writes a.knows now.file q k in w.0 ∙ f.others q w.1;
         whole = append_assoc a.did s.did.accesses (footprint_of rs) ∙ ap (λ (x : Record). a.did ++ (x.accesses ++ footprint_of rs)) goes.2 ∙ sym (ap (λ (l : List Record). a.did ++ footprint_of l) e) ∙ f.whole;
         memory = ap (λ (m : ℕ → ℕ). memory_after s.did.accesses m) f.memory ∙ sym (memory_after_append a.did s.did.accesses origin);
         small = memory_after_words s.did.accesses a.memory f.small;
@@ -226,7 +228,7 @@ one_move w s alone good i see k r rs e sees clear =
       was = st.was;
       as_printed = st.as_printed;
       keeps = record {
-        each = at_each (FollowsAt w) k (hart_after p.change (s.harts k)) new s.harts alone (λ u. st.follows) (λ j ne. i.each j);
+        each = at_each (FollowsAt w) k (hart_after p (s.harts k)) new s.harts alone (λ u. st.follows) (λ j ne. i.each j);
         past = λ j g. elim (cases_eq j k) [
           | inl same ↦ absurd (omega arith)
           | inr ne ↦ ap (λ (a : Alone). a.left) (at_other k new alone j ne) ∙ i.past j g

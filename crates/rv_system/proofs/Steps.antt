@@ -9,12 +9,14 @@ use Rattle.rv_script.specs.Folds.{Entry, Sight, asked_of, result_of, on_note, no
 use Rattle.rv_script.specs.Laws.{IsSeenAlike}
 use Rattle.rv_script.proofs.Local.{local}
 use Rattle.rv_hart.specs.declared.record.Change.{Change}
-use Rattle.rv_hart.specs.Machine.{Fixed, script}
+use Rattle.rv_hart.specs.Fixed.{Fixed}
+use Rattle.rv_hart.specs.Machine.{script}
+use Rattle.rv_hart.specs.Changes.{fixed_after, writes_of}
 use Rattle.rv_hart.specs.Whole.{record_of, Step, planned, sighted_step_of}
 
 pub planned_accesses : (f : Fixed) (xs : List Access) (o : Option Change) (s : Step) → planned f xs o ≡ Some s → s.did.accesses ≡ xs
 planned_accesses f xs None s e = absurd cc
-planned_accesses f xs (Some c) s e = let is : record { did = record_of f xs c; change = c } ≡ s = cc in ap (λ (t : Step). t.did.accesses) (sym is)
+planned_accesses f xs (Some c) s e = let is : record { did = record_of f xs c; fixed = fixed_after f c; writes = writes_of f c } ≡ s = cc in ap (λ (t : Step). t.did.accesses) (sym is)
 
 -- the same step where the same is seen
 pub step_local : (f : Fixed) (see other : Sight) (s : Step) → sighted_step_of f see ≡ Some s

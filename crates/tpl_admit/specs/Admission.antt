@@ -3,7 +3,7 @@ use Rattle.std.specs.Prelude.{◌≡◌, List, [], ◌∷◌, length}
 use Rattle.rv_isa.specs.declared.instruction.Instr.{Instr}
 use Rattle.rv_isa.specs.declared.operation.Op.TheVariants.{Addi}
 use Rattle.rv_isa.specs.Encoding.{IsEncoded}
-use Rattle.rv_hart.specs.declared.csrs.Priv.TheVariants.{M}
+use Rattle.rv_csr.specs.declared.privilege.Priv.TheVariants.{M}
 use Rattle.rv_hart.specs.declared.record.Outcome.TheVariants.{Retired}
 use Rattle.rv_hart.specs.declared.record.Record.{Record}
 use Rattle.tpl_parse.specs.declared.template.Leaf.{Leaf}

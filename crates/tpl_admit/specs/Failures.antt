@@ -40,7 +40,7 @@ IsWrong words knows h memory r kind =
 abbrev pub AreRight : (ℕ → Option ℕ) → (ℕ → Bool) → WholeHart → (ℕ → ℕ) → List Record → Type 0
 AreRight words knows h memory [] = Unit {0}
 AreRight words knows h memory (r ∷ rs) =
-    (s : Step) × IsRight words knows h memory r s × AreRight words (knows_also s.change.rd knows) (hart_after s.change h) (memory_after s.did.accesses memory) rs
+    (s : Step) × IsRight words knows h memory r s × AreRight words (knows_also s.writes knows) (hart_after s h) (memory_after s.did.accesses memory) rs
 
 -- the first step, counted on from a number, that isn't as its record says, and how
 abbrev pub GoesWrong : (ℕ → Option ℕ) → (ℕ → Bool) → WholeHart → (ℕ → ℕ) → List Record → ℕ → ℕ → ℕ → Type 0
@@ -48,7 +48,7 @@ GoesWrong words knows h memory [] n kind step = ⊥
 GoesWrong words knows h memory (r ∷ rs) n kind step =
     (IsWrong words knows h memory r kind × (step ≡ n))
     ⊎ ((s : Step) × IsRight words knows h memory r s
-    × GoesWrong words (knows_also s.change.rd knows) (hart_after s.change h) (memory_after s.did.accesses memory) rs (n + 1) kind step)
+    × GoesWrong words (knows_also s.writes knows) (hart_after s h) (memory_after s.did.accesses memory) rs (n + 1) kind step)
 
 -- hart k alone, from the start with zero elsewhere
 abbrev pub HartIsRight : Cert → ℕ → Type 0

@@ -5,7 +5,8 @@ use Rattle.rv_script.specs.declared.place.Place.{Place}
 use Rattle.rv_script.specs.declared.place.Place.TheVariants.{Reg, Csr, Word}
 use Rattle.rv_script.specs.Lists.{HasItem}
 use Rattle.rv_script.specs.Memory.{memory_after}
-use Rattle.rv_hart.specs.Whole.{WholeHart, Step, step_of, needed_places, hart_after, csr_key}
+use Rattle.rv_csr.specs.Table.{csr_key}
+use Rattle.rv_hart.specs.Whole.{WholeHart, Step, step_of, needed_places, hart_after}
 use Rattle.tpl_admit.specs.declared.certificate.Cert.{Cert}
 use Rattle.tpl_admit.specs.Starts.{start_of, trace_of, word_of, first_hart, first_memory, is_given}
 
@@ -22,7 +23,7 @@ pub record Solo : Type 0 where
 abbrev pub solo_on : Option Step → WholeHart → (ℕ → ℕ) → (WholeHart → (ℕ → ℕ) → Solo) → Solo
 solo_on None h words rest = record { moments = []; hart = h }
 solo_on (Some s) h words rest =
-    let r = rest (hart_after s.change h) (memory_after s.did.accesses words) in
+    let r = rest (hart_after s h) (memory_after s.did.accesses words) in
     record { moments = record { hart = h; memory = words; step = s } ∷ r.moments; hart = r.hart }
 
 -- so many steps of one hart, or as many as it has
@@ -40,16 +41,15 @@ is_set knows words (Reg n) = nat_eq n 0 || knows n
 is_set knows words (Csr addr) = knows (csr_key addr)
 is_set knows words (Word addr) = is_some (words (addr / 4))
 
--- the keys that are known after a write
-abbrev pub knows_also : Option (ℕ × ℕ) → (ℕ → Bool) → ℕ → Bool
-knows_also None knows key = knows key
-knows_also (Some w) knows key = nat_eq w.0 key || knows key
+-- the keys that are known after these values were written
+abbrev pub knows_also : (ℕ → Option ℕ) → (ℕ → Bool) → ℕ → Bool
+knows_also writes knows key = is_some (writes key) || knows key
 
 -- each step rests on what was given or written before it
 abbrev pub AreInitialised : (ℕ → Option ℕ) → (ℕ → Bool) → List Moment → Type 0
 AreInitialised words knows [] = Unit {0}
 AreInitialised words knows (x ∷ xs) =
-    ((place : Place) → HasItem (needed_places x.hart x.memory) place → is_set knows words place ≡ true) × AreInitialised words (knows_also x.step.change.rd knows) xs
+    ((place : Place) → HasItem (needed_places x.hart x.memory) place → is_set knows words place ≡ true) × AreInitialised words (knows_also x.step.writes knows) xs
 
 abbrev pub IsInitialised : Cert → ℕ → Type 0
 IsInitialised c k = AreInitialised (word_of c) (is_given (start_of c k)) (solo_run c k).moments
@@ -57,4 +57,4 @@ IsInitialised c k = AreInitialised (word_of c) (is_given (start_of c k)) (solo_r
 -- the keys that are known in the end
 abbrev pub knows_after : (ℕ → Bool) → List Moment → ℕ → Bool
 knows_after knows [] = knows
-knows_after knows (x ∷ xs) = knows_after (knows_also x.step.change.rd knows) xs
+knows_after knows (x ∷ xs) = knows_after (knows_also x.step.writes knows) xs

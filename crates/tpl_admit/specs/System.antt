@@ -15,7 +15,7 @@ replaced k new old j = if nat_eq j k then new else old j
 
 -- the system after a step of hart k
 abbrev pub moved : ℕ → Step → System → System
-moved k s sys = record { harts = replaced k (hart_after s.change (sys.harts k)) sys.harts; memory = memory_after s.did.accesses sys.memory }
+moved k s sys = record { harts = replaced k (hart_after s (sys.harts k)) sys.harts; memory = memory_after s.did.accesses sys.memory }
 
 -- the pairs of hart number and record of a run, where it ends, and whether it did the whole schedule
 pub record Ran : Type 0 where

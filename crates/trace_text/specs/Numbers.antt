@@ -3,8 +3,8 @@ use Rattle.std.specs.Prelude.{ℕ, ◌-◌, ◌^◌, List, [], ◌++◌, nat_eq,
 use Rattle.std.specs.Fmt.{padded_integral, format_spec, digits, decimal}
 use Rattle.rv_script.specs.declared.access.Role.{Role}
 use Rattle.rv_script.specs.declared.access.Role.TheVariants.{Fetch, Walk, Load, Store}
-use Rattle.rv_hart.specs.declared.csrs.Priv.{Priv}
-use Rattle.rv_hart.specs.declared.csrs.Priv.TheVariants.{U, S, M}
+use Rattle.rv_csr.specs.declared.privilege.Priv.{Priv}
+use Rattle.rv_csr.specs.declared.privilege.Priv.TheVariants.{U, S, M}
 
 -- at least eight hexadecimal digits, which a word always fits
 abbrev pub hex8 : ℕ → List ℕ

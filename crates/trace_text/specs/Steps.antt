@@ -3,7 +3,7 @@ use Rattle.std.specs.Prelude.{ℕ, List, [], ◌++◌, Option, Some, None, codes
 use Rattle.std.specs.List.{flat_map, enumerate_from}
 use Rattle.std.specs.Fmt.{decimal}
 use Rattle.rv_script.specs.declared.access.Access.{Access}
-use Rattle.rv_hart.specs.declared.csrs.Priv.{Priv}
+use Rattle.rv_csr.specs.declared.privilege.Priv.{Priv}
 use Rattle.rv_hart.specs.declared.record.Outcome.{Outcome}
 use Rattle.rv_hart.specs.declared.record.Outcome.TheVariants.{Retired, Trap}
 use Rattle.rv_hart.specs.declared.record.Record.{Record}

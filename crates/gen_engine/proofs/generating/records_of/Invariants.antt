@@ -1,6 +1,6 @@
 use Rattle.std.proofs.Common.{◌≡◌, ℕ, ◌+◌, ◌*◌, ◌++◌, drop}
 use Rattle.rv_mem.specs.Part.{part_at}
-use Rattle.rv_hart.specs.declared.csrs.Priv.TheVariants.{M}
+use Rattle.rv_csr.specs.declared.privilege.Priv.TheVariants.{M}
 use Rattle.gen_engine.specs.Plan.{records_from, regs_from}
 use Rattle.gen_engine.specs.Code.{AreKnown}
 use Rattle.gen_engine.proofs.generating.records_of.Given as goal

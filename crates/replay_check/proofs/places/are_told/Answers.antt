@@ -13,12 +13,12 @@ pub returns-then-are_registers_told : goal.returns-then-are_registers_told
 returns-then-are_registers_told c =
     let h = c.args.hart.now in
     let told = c.args.told.now in (
-      (λ csrs. all_told h.regs h.csrs.lazy told c.requires (c.are_registers_told.ensures.0 c.if-are_registers_told.true) (c.are_csrs_told.ensures.0 csrs)),
-      λ all. c.are_csrs_told.ensures.1 (csr_told h.regs h.csrs.lazy told all),
+      (λ csrs. all_told h.regs h.csrs told c.requires (c.are_registers_told.ensures.0 c.if-are_registers_told.true) (c.are_csrs_told.ensures.0 csrs)),
+      λ all. c.are_csrs_told.ensures.1 (csr_told h.regs h.csrs told all),
     )
 
 pub returns-else-are_registers_told : goal.returns-else-are_registers_told
 returns-else-are_registers_told c =
     let h = c.args.hart.now in
     let told = c.args.told.now in
-    ((λ is. absurd (true≢false (sym is ∙ c.if-are_registers_told.false))), λ all. c.are_registers_told.ensures.1 (register_told h.regs h.csrs.lazy told all))
+    ((λ is. absurd (true≢false (sym is ∙ c.if-are_registers_told.false))), λ all. c.are_registers_told.ensures.1 (register_told h.regs h.csrs told all))

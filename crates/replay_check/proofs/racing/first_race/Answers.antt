@@ -1,12 +1,11 @@
-use Rattle.std.proofs.Common.{◌≡◌, ℕ, ◌+◌, ◌<◌, List, length, sym, ap, ◌∙◌, subst, arith}
-use Rattle.rv_script.specs.declared.access.Access.{Access}
+use Rattle.std.proofs.Common.{◌≡◌, ℕ, ◌+◌, ◌<◌, List, length, ap, ◌∙◌, subst, arith}
 use Rattle.rv_hart.specs.declared.record.Record.{Record}
 use Rattle.foot_map.specs.Races.{IsRaceFree, IsFootprint}
 use Rattle.tpl_admit.specs.Starts.{trace_of}
 use Rattle.tpl_admit.specs.Races.{footprint_of}
 use Rattle.tpl_admit.specs.Failures.{did_before}
 use Rattle.replay_check.specs.Racing.{with_accesses, RacesAt}
-use Rattle.replay_check.proofs.Behind.{some_before, all_before, whole_before, trace_is, from_races}
+use Rattle.replay_check.proofs.Behind.{all_before, whole_before, trace_is, from_races}
 use Rattle.replay_check.proofs.racing.first_race.Goals as goal
 
 pub returns-in-Some-clause-some : goal.returns-in-Some-clause-some

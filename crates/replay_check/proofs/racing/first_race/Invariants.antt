@@ -1,4 +1,3 @@
-use Rattle.std.proofs.Common.{◌≡◌, ℕ, List}
 use Rattle.foot_map.specs.Races.{IsRaceFree, IsFootprint}
 use Rattle.tpl_admit.specs.Failures.{did_before}
 use Rattle.replay_check.proofs.racing.first_race.Given as goal

@@ -1,4 +1,4 @@
-use Rattle.std.proofs.Common.{◌≡◌, ℕ, List, take}
+use Rattle.std.proofs.Common.{ℕ, List, take}
 use Rattle.rv_script.specs.declared.access.Access.{Access}
 use Rattle.foot_map.specs.Races.{IsRaceFree, IsFootprint}
 use Rattle.tpl_admit.specs.Races.{footprint_of}

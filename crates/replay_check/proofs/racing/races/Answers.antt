@@ -1,11 +1,10 @@
-use Rattle.std.proofs.Common.{◌≡◌, ℕ, ◌+◌, List, length, take, get_or, Some, None, sym, ◌∙◌, subst, arith}
+use Rattle.std.proofs.Common.{ℕ, ◌+◌, List, take, get_or, sym, ◌∙◌, subst, arith}
 use Rattle.std.specs.Prelude.{IfSome, IfNone}
 use Rattle.std.proofs.lemmas.List.{take_all}
 use Rattle.rv_script.specs.declared.access.Access.{Access}
 use Rattle.rv_script.specs.declared.access.Role.TheVariants.{Fetch}
 use Rattle.rv_script.specs.Lists.{HasItem}
 use Rattle.foot_map.specs.declared.clash.Clash.{Clash}
-use Rattle.foot_map.specs.declared.touch.Touch.{Touch}
 use Rattle.foot_map.specs.Races.{IsRaceFree, IsFootprint, IsClash, with_access}
 use Rattle.replay_check.specs.Racing.{with_accesses}
 use Rattle.replay_check.proofs.Behind.{one_more, front_fewer, one_there, none_there, in_word}

@@ -13,8 +13,7 @@ loop-place-preserved c =
     let split = drop_more places i none c.loop-place-test.true in
     let now = c.loop-place.invariant in
     record {
-      shape = c.give.ensures.shape;
       fixed = λ ram. c.give.ensures.fixed ram ∙ now.fixed ram;
-      left = left_next (drop i places) place (drop (i + 1) places) split now.left;
+      left = left_next (drop i places) place (drop (i + 1) places) (known_of c.loop-place.hart) (known_of c.give.new.hart) split now.left c.give.ensures.known;
       known = λ key. given_next (drop i places) place (drop (i + 1) places) (known_of c.loop-place.hart) (known_of c.give.new.hart) split now.left c.give.ensures.known key ∙ now.known key;
     }

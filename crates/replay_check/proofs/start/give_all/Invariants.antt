@@ -1,14 +1,13 @@
 use Rattle.std.proofs.Common.{◌≡◌, ℕ, drop}
 use Rattle.tpl_parse.specs.declared.template.Region.{Region}
 use Rattle.tpl_admit.specs.Starts.{found}
-use Rattle.replay_check.specs.Knowledge.{known_of, fixed_now, IsShaped}
+use Rattle.replay_check.specs.Knowledge.{known_of, fixed_now}
 use Rattle.replay_check.proofs.Keys.{or_else, AreLeft}
 use Rattle.replay_check.proofs.start.give_all.Given as goal
 
 abbrev pub invariant-loop-place : goal.invariant-loop-place
 invariant-loop-place l = record {
-  shape : IsShaped l.hart;
   fixed : (ram : Region) → fixed_now ram l.hart ≡ fixed_now ram l.fn.hart;
-  left : AreLeft (drop l.place-index l.places);
+  left : AreLeft (known_of l.hart) (drop l.place-index l.places);
   known : (key : ℕ) → or_else (found (drop l.place-index l.places) key) (known_of l.hart key) ≡ found l.places key;
 }

@@ -1,13 +1,9 @@
 use Rattle.std.proofs.Common.{ℕ, Option}
 use Rattle.rv_mem.specs.Part.{part_at}
 use Rattle.tpl_parse.specs.declared.template.Region.{Region}
-use Rattle.replay_check.specs.Knowledge.{IsShaped}
 use Rattle.replay_check.specs.Memory.{Shows}
 use Rattle.replay_check.proofs.Traces.{IsUpTo}
 use Rattle.replay_check.proofs.stepping.take_all.Given as goal
 
 abbrev pub invariant-loop-i : goal.invariant-loop-i
-invariant-loop-i l = record {
-  shape : IsShaped l.hart;
-  up_to : (ram : Region) (given : ℕ → Option ℕ) (m : ℕ → ℕ) → Shows ram given m (part_at l.fn.memory) → IsUpTo ram given m l.fn.hart l.hart (part_at l.memory) l.records l.i;
-}
+invariant-loop-i l = (ram : Region) (given : ℕ → Option ℕ) (m : ℕ → ℕ) → Shows ram given m (part_at l.fn.memory) → IsUpTo ram given m l.fn.hart l.hart (part_at l.memory) l.records l.i

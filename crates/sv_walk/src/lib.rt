@@ -1,0 +1,15 @@
+//! The translation of addresses by Sv32 (Privileged, 4.3): the rules of page table entries one by one,
+//! and `walk`, which reads the entries of an address from a memory of which some words may not be known.
+#![tactic(auto)]
+
+mod ending;
+mod entries;
+mod entry;
+#[cfg(test)]
+mod tests;
+mod walking;
+
+pub use ending::{Walk, WalkEnd};
+pub use entries::Entries;
+pub use entry::{EntryFlag, Kind, View};
+pub use walking::walk;
