@@ -1,5 +1,5 @@
 -- A footprint as a set of triples: which byte which hart touches in which role.
-use Rattle.std.specs.Prelude.{◌≡◌, ℕ, ◌+◌, ◌-◌, ◌/◌, ◌%◌, ◌^◌, ◌<◌, ◌≤◌, Bool, ◌&&◌, ◌||◌, not, nat_eq, nat_le, nat_lt, List}
+use Rattle.std.specs.Prelude.{◌≡◌, ℕ, ◌+◌, ◌-◌, ◌/◌, ◌%◌, ◌^◌, ◌<◌, ◌≤◌, Bool, ◌&&◌, ◌||◌, false, not, nat_eq, nat_le, nat_lt, List}
 use Rattle.std.specs.List.{list_any}
 use Rattle.rv_script.specs.declared.access.Role.{Role}
 use Rattle.foot_map.specs.declared.touch.Touch.{Touch}
@@ -39,6 +39,10 @@ IsAdded hart role addr len old new = (b h : ℕ) (r : Role) → has new b h r �
 -- the mask of the bytes of an access that are not in the set
 abbrev pub IsMaskOfNew : ℕ → Role → ℕ → ℕ → List Touch → ℕ → Type 0
 IsMaskOfNew hart role addr len old mask = (i : ℕ) → has_bit mask i ≡ (nat_lt i len && not (has old (addr + i) hart role))
+
+-- a byte of an access is not in the set
+abbrev pub WantsMemory : ℕ → Role → ℕ → ℕ → List Touch → Type 0
+WantsMemory hart role addr len old = (i : ℕ) × (i < len) × (has old (addr + i) hart role ≡ false)
 
 -- a set without the masked bytes
 abbrev pub IsRemoved : ℕ → Role → ℕ → ℕ → List Touch → List Touch → Type 0

@@ -3,7 +3,7 @@ ghost use Rattle.std.specs.Prelude.{◌≡◌, ℕ, ◌-◌, ◌%◌, ◌^◌, �
 ghost use Rattle.rv_script.specs.declared.access.Role.{Role};
 ghost use Rattle.foot_map.specs.declared.clash.Clash.{Clash};
 ghost use Rattle.foot_map.specs.Order.{IsInOrder};
-ghost use Rattle.foot_map.specs.Touches.{has, IsInWord, IsAdded, IsMaskOfNew, IsRemoved};
+ghost use Rattle.foot_map.specs.Touches.{has, IsInWord, IsAdded, IsMaskOfNew, WantsMemory, IsRemoved};
 ghost use Rattle.foot_map.specs.Races.{IsClash, IsNotAfter};
 
 use crate::clash::Clash;
@@ -49,6 +49,7 @@ impl FootMap {
         ensures mask { IfOk result (IsMaskOfNew hart role addr len self.old) }
         ensures within { IfOk result (λ mask. mask < 2 ^ (4 - addr % 4)) }
         ensures refused { OnErr result (self.new ≡ self.old) }
+        ensures wanted { OnErr result (WantsMemory hart role addr len self.old) }
         ensures ordered { IsInOrder self.old }
     {
         let touch = Touch {

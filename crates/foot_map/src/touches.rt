@@ -1,9 +1,9 @@
 // Sets of touches in their order.
-ghost use Rattle.std.specs.Prelude.{◌≡◌, ℕ, ◌+◌, ◌-◌, ◌%◌, ◌^◌, ◌<◌, ◌&&◌, ◌||◌, not, IfOk, OnOk, OnErr, IfNone, IfSome};
+ghost use Rattle.std.specs.Prelude.{◌≡◌, ℕ, ◌+◌, ◌-◌, ◌%◌, ◌^◌, ◌<◌, ◌&&◌, ◌||◌, false, not, IfOk, OnOk, OnErr, IfNone, IfSome};
 ghost use Rattle.rv_script.specs.declared.access.Role.{Role};
 ghost use Rattle.foot_map.specs.declared.clash.Clash.{Clash};
 ghost use Rattle.foot_map.specs.Order.{IsInOrder};
-ghost use Rattle.foot_map.specs.Touches.{has, is_triple, IsInWord, IsAdded, IsMaskOfNew, IsRemoved};
+ghost use Rattle.foot_map.specs.Touches.{has, is_triple, IsInWord, IsAdded, IsMaskOfNew, IsRemoved, WantsMemory};
 ghost use Rattle.foot_map.specs.Races.{IsClash, IsNotAfter};
 ghost use Rattle.foot_map.specs.Search.{IsFirstFrom, HasNoneFrom};
 
@@ -33,10 +33,13 @@ fn put(touches: &mut BTreeSet<Touch>, touch: Touch) -> Result<bool, OutOfMemory>
     ensures added { OnOk result ((b h : ℕ) (r : Role) →
         has touches.new.keys b h r ≡ (has touches.old.keys b h r || is_triple touch b h r)) }
     ensures refused { OnErr result (touches.new.keys ≡ touches.old.keys) }
+    ensures absent { OnErr result (has touches.old.keys touch.byte touch.hart touch.role ≡ false) }
     ensures ordered { IsInOrder touches.new.keys }
 {
-    let new = touches.insert(touch)?;
-    Ok(new)
+    match touches.insert(touch) {
+        Ok(new) => Ok(new),
+        Err(_) => Err(OutOfMemory),
+    }
 }
 
 /// Takes one touch out.
@@ -69,11 +72,15 @@ pub fn add_bytes(touches: &mut BTreeSet<Touch>, touch: Touch, len: u8) -> Result
     ensures mask { IfOk result (IsMaskOfNew touch.hart touch.role touch.byte len touches.old.keys) }
     ensures within { IfOk result (λ mask. mask < 2 ^ (4 - touch.byte % 4)) }
     ensures refused { OnErr result (touches.new.keys ≡ touches.old.keys) }
+    ensures wanted { OnErr result (WantsMemory touch.hart touch.role touch.byte len touches.old.keys) }
     ensures ordered { IsInOrder touches.old.keys }
 {
     // The contract of `len` says that the set is in order.
     let _ = touches.len();
-    let new = put(touches, touch)?;
+    let new = match put(touches, touch) {
+        Ok(new) => new,
+        Err(refused) => return Err(refused),
+    };
     if len == 1 {
         return Ok(u8::from(new));
     }

@@ -125,31 +125,12 @@ abbrev pub or_else : Option ℕ → Option ℕ → Option ℕ
 or_else None other = other
 or_else (Some v) other = Some v
 
-pub or_nothing : (o p : Option ℕ) → p ≡ None → or_else o p ≡ o
-or_nothing None p e = e
-or_nothing (Some v) p e = refl
-
 -- the pairs that are left have keys of places, which ascend, and legal values, and none of the places from the first of them on is known
 pub record AreLeft (known : ℕ → Option ℕ) (es : List (ℕ × ℕ)) : Type 0 where
   pub from : ℕ
   pub places : ArePlaces from es
   pub legal : AllByRecursion (λ e. is_legal_place e ≡ true) es
   pub untouched : (key : ℕ) → from ≤ key → known key ≡ None
-
-pub left_all : (known : ℕ → Option ℕ) (es : List (ℕ × ℕ)) → ArePlaces 0 es → AllByRecursion (λ e. is_legal_place e ≡ true) es → ((key : ℕ) → known key ≡ None) → AreLeft known es
-left_all known es are legal none = record { from = 0; places = are; legal = legal; untouched = λ key from. none key }
-
--- the first pair that is left
-pub record IsFirst (known : ℕ → Option ℕ) (e : ℕ × ℕ) : Type 0 where
-  pub key : is_key e.0 ≡ true
-  pub legal : is_legal_place e ≡ true
-  pub untouched : known e.0 ≡ None
-
-pub left_head : (known : ℕ → Option ℕ) (es : List (ℕ × ℕ)) (e : ℕ × ℕ) (rest : List (ℕ × ℕ)) → es ≡ e ∷ rest → AreLeft known es → IsFirst known e
-left_head known es e rest split left =
-    let are : ArePlaces left.from (e ∷ rest) = subst (ArePlaces left.from) split left.places in
-    let legal : AllByRecursion (λ x. is_legal_place x ≡ true) (e ∷ rest) = subst (AllByRecursion (λ x. is_legal_place x ≡ true)) split left.legal in
-    record { key = are.1; legal = legal.0; untouched = left.untouched e.0 are.0 }
 
 -- what is known after one more pair was given
 abbrev pub also_given : ℕ × ℕ → (ℕ → Option ℕ) → ℕ → Option ℕ

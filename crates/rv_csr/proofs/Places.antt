@@ -4,8 +4,10 @@ use Rattle.std.specs.Prelude.{slice_set, slice_index_or, replicate, nat_eq}
 use Rattle.std.proofs.lemmas.Bool.{cases_eq, eq-eqb, ne_eqb}
 use Rattle.rv_csr.specs.declared.table.LazyRegister.{LazyRegister}
 use Rattle.rv_csr.specs.declared.table.LazyRegister.TheVariants.{Stvec}
-use Rattle.rv_csr.specs.declared.table.Register.TheVariants.{Lazy}
-use Rattle.rv_csr.specs.Table.{address_of}
+use Rattle.rv_csr.specs.declared.table.Register.{Register}
+use Rattle.rv_csr.specs.declared.table.Register.TheVariants.{Sstatus, Satp, Mstatus, Medeleg, Mhartid, Lazy}
+use Rattle.rv_csr.specs.Laws.{HaveOwnAddresses}
+use Rattle.rv_csr.specs.Table.{address_of, register_at}
 use Rattle.rv_csr.specs.State.{CsrValues, first_values, lazy_value, lazy_value_at, slot_of, with_lazy}
 use Rattle.rv_csr.proofs.LegalValues.{slot_below}
 
@@ -26,3 +28,15 @@ lazy_after csrs register other n size = elim (cases_eq (slot_of register) (slot_
   | inl same ↦ rw (eq-eqb (slot_of register) (slot_of other) same) (subst (λ (i : ℕ). slice_index_or (slice_set csrs.lazy (slot_of register) (Some n)) i None ≡ Some n) same (get_or-set_same csrs.lazy (slot_of register) (Some n) None (rw size (slot_below register))))
   | inr apart ↦ rw (ne_eqb (slot_of register) (slot_of other) apart) (get_or-set_other csrs.lazy (slot_of register) (slot_of other) (Some n) None (λ e. apart (sym e)))
 ]
+
+at_itself : (register : Register) → register_at (address_of register) ≡ Some register
+at_itself Sstatus = refl
+at_itself Satp = refl
+at_itself Mstatus = refl
+at_itself Medeleg = refl
+at_itself Mhartid = refl
+at_itself (Lazy Stvec) = refl
+at_itself (Lazy _) = refl
+
+pub own_addresses : HaveOwnAddresses
+own_addresses = record { registers = at_itself; values = at_own_address }

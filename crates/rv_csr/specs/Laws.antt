@@ -1,14 +1,15 @@
 -- What writes, traps and returns do to each value and to each field of mstatus.
-use Rattle.std.specs.Prelude.{◌≡◌, ◌≢◌, ℕ, ◌-◌, ◌^◌, Bool, true, false, ◌&&◌, Some, bit_and}
+use Rattle.std.specs.Prelude.{◌≡◌, ◌≢◌, ℕ, ◌-◌, ◌^◌, Bool, true, false, ◌&&◌, length, Some, None, nat_eq, if◌then◌else◌, bit_and}
 use Rattle.rv_csr.specs.declared.privilege.Priv.{Priv}
 use Rattle.rv_csr.specs.declared.privilege.Priv.TheVariants.{U, M}
 use Rattle.rv_csr.specs.declared.status.Flag.{Flag}
 use Rattle.rv_csr.specs.declared.status.Flag.TheVariants.{Sie, Mie, Spie, Mpie, Spp, Mprv}
 use Rattle.rv_csr.specs.declared.table.Register.{Register}
-use Rattle.rv_csr.specs.declared.table.Register.TheVariants.{Sstatus, Mstatus}
-use Rattle.rv_csr.specs.Table.{is_legal, sstatus_mask}
+use Rattle.rv_csr.specs.declared.table.LazyRegister.{LazyRegister}
+use Rattle.rv_csr.specs.declared.table.Register.TheVariants.{Sstatus, Mstatus, Lazy}
+use Rattle.rv_csr.specs.Table.{address_of, is_legal, register_at, sstatus_mask}
 use Rattle.rv_csr.specs.Status.{is_set, mpp_of, spp_of, status_after_mret, status_after_sret, trapped_to_machine, trapped_to_supervisor, with_sstatus}
-use Rattle.rv_csr.specs.State.{CsrValues, IsLegal, value_of, with_value}
+use Rattle.rv_csr.specs.State.{CsrValues, IsLegal, first_values, lazy_value, lazy_value_at, slot_of, value_of, with_lazy, with_value}
 
 -- a legal value is read as it was written
 abbrev pub KeepsWritten : Type 0
@@ -65,3 +66,21 @@ MovesStatus = (from : Priv) (status : ℕ) → TrapsToMachine from status (trapp
 
 abbrev pub RestoresStatus : Type 0
 RestoresStatus = (status : ℕ) → ReturnsFromMachine status (status_after_mret status) × ReturnsFromSupervisor status (status_after_sret status)
+
+-- each register is the one at its own address, and the value of a lazy one is found there
+pub record HaveOwnAddresses : Type 0 where
+  pub registers : (register : Register) → register_at (address_of register) ≡ Some register
+  pub values : (csrs : CsrValues) (register : LazyRegister) → lazy_value_at csrs (address_of (Lazy register)) ≡ lazy_value csrs register
+
+-- no lazy register has a value at first
+abbrev pub StartUnknown : Type 0
+StartUnknown = (hart mstatus medeleg satp : ℕ) (register : LazyRegister) → lazy_value (first_values hart mstatus medeleg satp) register ≡ None
+
+-- a write of a lazy register changes its value and that of no other
+abbrev pub WritesOneLazy : Type 0
+WritesOneLazy = (csrs : CsrValues) (register other : LazyRegister) (n : ℕ) → length csrs.lazy ≡ 10
+    → lazy_value (with_lazy register n csrs) other ≡ (if nat_eq (slot_of register) (slot_of other) then Some n else lazy_value csrs other)
+
+-- no two lazy registers share a slot
+abbrev pub HaveOwnSlots : Type 0
+HaveOwnSlots = (a b : LazyRegister) → slot_of a ≡ slot_of b → a ≡ b

@@ -216,7 +216,7 @@ impl Csrs {
         Flag::Tsr.is_set(self.mstatus)
     }
 
-    /// The privilege before the last trap to M.
+    /// MPP: the privilege that MRET goes to.
     pub fn mpp(&self) -> Priv
         ensures { result ≡ mpp_of self.now.mstatus }
     {

@@ -1,6 +1,6 @@
 //! The laws of writes, traps and returns.
 
-ghost use Rattle.rv_csr.specs.Laws.{KeepsHiddenBits, KeepsOthers, KeepsWritten, MovesStatus, RestoresStatus};
+ghost use Rattle.rv_csr.specs.Laws.{HaveOwnAddresses, HaveOwnSlots, KeepsHiddenBits, KeepsOthers, KeepsWritten, MovesStatus, RestoresStatus, StartUnknown, WritesOneLazy};
 
 /// Does nothing. Its contract says that a write is read back and changes nothing else, that a write of
 /// sstatus keeps the bits of mstatus that it does not show, and what traps and returns do to each field
@@ -11,4 +11,14 @@ pub fn csr_laws()
     ensures hidden { KeepsHiddenBits }
     ensures traps { MovesStatus }
     ensures returns { RestoresStatus }
+{}
+
+/// Does nothing. Its contract says how registers are found: no two share an address or a slot, no lazy
+/// one has a value at first, and a write of a lazy one is seen at that one alone.
+#[tactic(auto, using(crate::proofs::Places::own_addresses, crate::proofs::Places::none_at_first, crate::proofs::Places::lazy_after, crate::proofs::LegalValues::slots_apart))]
+pub fn place_laws()
+    ensures addresses { HaveOwnAddresses }
+    ensures first { StartUnknown }
+    ensures written { WritesOneLazy }
+    ensures slots { HaveOwnSlots }
 {}

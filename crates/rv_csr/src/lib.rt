@@ -17,7 +17,7 @@ mod traps;
 pub use access::{CsrAccess, Got, Wrote};
 pub use cause::{CAUSES, Cause, is_cause};
 pub use csrs::Csrs;
-pub use laws::csr_laws;
+pub use laws::{csr_laws, place_laws};
 pub use privilege::Priv;
 pub use status::Flag;
 pub use table::{LazyRegister, REGISTERS, Register, Row, Values, legal, register_at, row_of};

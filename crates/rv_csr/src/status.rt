@@ -13,11 +13,11 @@ pub enum Flag {
     Sie,
     /// Interrupts are enabled in M.
     Mie,
-    /// SIE before the last trap to S.
+    /// What SIE becomes at SRET: it was SIE before the trap to S.
     Spie,
-    /// MIE before the last trap to M.
+    /// What MIE becomes at MRET: it was MIE before the trap to M.
     Mpie,
-    /// The privilege before the last trap to S was S.
+    /// SRET goes to S, and not to U.
     Spp,
     /// Data accesses have the privilege MPP.
     Mprv,
@@ -83,14 +83,14 @@ impl Flag {
     }
 }
 
-/// The privilege before the last trap to M.
+/// MPP: the privilege that MRET goes to.
 pub(crate) fn mpp_of(status: u32) -> Priv
     ensures { result ≡ mpp_of status }
 {
     Priv::at((status >> 11) & 3)
 }
 
-/// The privilege before the last trap to S.
+/// What SPP stands for: the privilege that SRET goes to.
 pub(crate) fn spp_of(status: u32) -> Priv
     ensures { result ≡ spp_of status }
 {

@@ -68,7 +68,7 @@ pub enum Values {
     SubsetsOf(u32),
     /// Words with no bit outside the mask, of which MPP, bits 12:11, is a privilege.
     StatusWithin(u32),
-    /// No translation, or Sv32 with ASID 0 and a root table below 2^32 bytes.
+    /// No translation, or Sv32 with ASID 0 and a root table at a physical address below 2^32.
     RootTables,
     /// The causes that a trap to S can have: no ECALL from M.
     CausesToS,

@@ -1,6 +1,7 @@
 -- What a walk says.
-use Rattle.std.specs.Prelude.{◌≡◌, ℕ, ◌/◌, Bool, List, [], map, Option, Some, None}
+use Rattle.std.specs.Prelude.{◌≡◌, ℕ, ◌/◌, ◌%◌, Bool, true, List, [], map, Option, Some, None}
 use Rattle.rv_mem.specs.declared.words.Seen.{Seen}
+use Rattle.rv_mem.specs.declared.words.Seen.TheVariants.{Untouched}
 use Rattle.rv_mem.specs.Seen.{known_word, is_there}
 use Rattle.rv_script.specs.declared.access.Access.{Access}
 use Rattle.rv_script.specs.declared.access.Role.TheVariants.{Walk as Walks}
@@ -14,6 +15,13 @@ use Rattle.sv_walk.specs.declared.ending.Walk.{Walk}
 use Rattle.sv_walk.specs.declared.ending.WalkEnd.{WalkEnd}
 use Rattle.sv_walk.specs.declared.ending.WalkEnd.TheVariants.{Pa, Fault, Outside as EndsOutside, Missing}
 use Rattle.sv_walk.specs.Translation.{Reached, At, Fails, translated}
+
+-- a physical address is in RAM, and an entry that is missing is a word of RAM that has no value yet
+abbrev pub IsEnd : (ℕ → Seen) → WalkEnd → Type 0
+IsEnd at (Pa addr) = is_there (at (addr / 4)) ≡ true
+IsEnd at (Missing addr) = (addr % 4 ≡ 0) × (at (addr / 4) ≡ Untouched)
+IsEnd at (Fault cause) = Unit {0}
+IsEnd at EndsOutside = Unit {0}
 
 -- an entry that was read, as an access
 abbrev pub entry_access : ℕ × ℕ → Access

@@ -52,7 +52,7 @@ const STORE_PAGE: WalkEnd = Fault(Cause::StorePage);
 const FETCH_PAGE: WalkEnd = Fault(Cause::FetchPage);
 
 /// Pages by their second entries: the frame is 0x80003000.
-const PAGES: [Case; 27] = [
+const PAGES: [Case; 35] = [
     (POINTER, 0x2000_0cc7, S, Kind::Load, PAGE),
     (POINTER, 0x2000_0cc7, S, Kind::Store, PAGE),
     // D is 0.
@@ -121,6 +121,15 @@ const PAGES: [Case; 27] = [
         Kind::Load,
         LOAD_PAGE,
     ),
+    // The rules by the other kinds of access.
+    (POINTER, 0x2000_0cce, S, Kind::Fetch, FETCH_PAGE),
+    (POINTER, 0x2000_0cce, S, Kind::Store, STORE_PAGE),
+    (POINTER, 0x2000_0ccd, S, Kind::Fetch, FETCH_PAGE),
+    (POINTER, 0x2000_0ccd, S, Kind::Store, STORE_PAGE),
+    (POINTER, 0x2000_0801, S, Kind::Store, STORE_PAGE),
+    (POINTER, 0x2000_0ccf, U, Kind::Store, STORE_PAGE),
+    (POINTER, 0x2000_0cdf, S, Kind::Store, STORE_PAGE),
+    (POINTER, 0x2000_0cdf, S, Kind::Fetch, FETCH_PAGE),
     // G and bits 9:8 change nothing.
     (POINTER, 0x2000_0fef, S, Kind::Store, PAGE),
 ];
@@ -133,7 +142,7 @@ fn pages_let_through_what_they_should(rt: HostRuntime) {
 }
 
 /// Root entries, and what lies outside RAM.
-const ROOTS: [Case; 16] = [
+const ROOTS: [Case; 18] = [
     // Pointers with A and D, with U.
     (0x2000_08c1, 0x2000_0cc7, S, Kind::Load, Outside),
     (0x2000_0811, 0x2000_0cc7, S, Kind::Load, Outside),
@@ -141,6 +150,8 @@ const ROOTS: [Case; 16] = [
     (0x2000_0805, 0x2000_0cc7, S, Kind::Store, STORE_PAGE),
     // Superpages.
     (0x2000_04cf, 0, S, Kind::Load, LOAD_PAGE),
+    (0x2000_04cf, 0, S, Kind::Fetch, FETCH_PAGE),
+    (0x2000_04cf, 0, S, Kind::Store, STORE_PAGE),
     (0x2000_00cf, 0, S, Kind::Load, Pa(0x8000_0abc)),
     (0x2000_004f, 0, S, Kind::Store, STORE_PAGE),
     (0x2000_00cf, 0, U, Kind::Fetch, FETCH_PAGE),
@@ -178,6 +189,42 @@ const ROOTS: [Case; 16] = [
 fn root_entries_lead_where_they_should(rt: HostRuntime) {
     for case in &ROOTS {
         assert_case(&rt, rt.alloc(), case);
+    }
+}
+
+#[test]
+fn a_superpage_has_the_22_lower_bits(rt: HostRuntime) {
+    let memory = memory(&rt, rt.alloc(), &[(0x8000_1004, 0x2000_00cf)]);
+    let view = view(Priv::S, false, false);
+    for kind in [Kind::Fetch, Kind::Load, Kind::Store] {
+        let walked = walk(&memory, view, 0x0040_3abc, kind);
+        assert_eq!(rt; walked.outcome, PAGE);
+        assert_eq!(rt;
+            walked.ptes.as_slice(),
+            [(0x8000_1004, 0x2000_00cf)].as_slice()
+        );
+    }
+}
+
+#[test]
+fn a_root_table_outside_ram_is_an_access_fault(rt: HostRuntime) {
+    let memory = memory(&rt, rt.alloc(), &[]);
+    // satp, the kind of access, its end; the last two tables lie beyond 2^32.
+    for (satp, kind, want) in [
+        (0x8009_0000, Kind::Fetch, Fault(Cause::FetchAccess)),
+        (0x8009_0000, Kind::Store, Fault(Cause::StoreAccess)),
+        (0x8010_0000, Kind::Load, Fault(Cause::LoadAccess)),
+        (0x803f_ffff, Kind::Load, Fault(Cause::LoadAccess)),
+    ] {
+        let view = View {
+            satp,
+            ..view(Priv::S, false, false)
+        };
+        assert_eq!(rt;
+            walk(&memory, view, 0x0040_0abc, kind).outcome,
+            want,
+            "{satp}"
+        );
     }
 }
 

@@ -3,7 +3,7 @@ ghost use Rattle.std.specs.Prelude.{◌≡◌, ◌<◌, ◌%◌, ◌/◌, ◌^�
 ghost use Rattle.rv_mem.specs.declared.words.Seen.TheVariants.{Vacant as NoRam};
 ghost use Rattle.rv_script.specs.Folds.{answer_on, prefixed};
 ghost use Rattle.sv_walk.specs.Translation.{arrived, second_end, from_pointer, from_root, is_translated, translated};
-ghost use Rattle.sv_walk.specs.Clauses.{accesses_on, end_of, ended, entry_access, known_words, ram_of, AreRead, IsTranslation, IsWalk};
+ghost use Rattle.sv_walk.specs.Clauses.{accesses_on, end_of, ended, entry_access, known_words, ram_of, AreRead, IsEnd, IsTranslation, IsWalk};
 
 use crate::ending::{Walk, WalkEnd};
 use crate::entries::Entries;
@@ -25,7 +25,8 @@ fn word_at<M: Words>(m: &M, addr: u64) -> Seen
 
 /// The end at a physical address.
 fn arrive<M: Words>(m: &M, kind: Kind, addr: u64) -> WalkEnd
-    ensures { result ≡ end_of (arrived (ram_of (M.at m.now)) kind addr) }
+    ensures value { result ≡ end_of (arrived (ram_of (M.at m.now)) kind addr) }
+    ensures end { IsEnd (M.at m.now) result }
 {
     match word_at(m, addr - addr % 4) {
         Seen::Vacant => WalkEnd::Fault(kind.access_cause()),
@@ -36,7 +37,8 @@ fn arrive<M: Words>(m: &M, kind: Kind, addr: u64) -> WalkEnd
 /// The end at the second entry.
 #[tactic(auto, unfolding(crate::specs::Translation::second_end))]
 fn end_at_second<M: Words>(m: &M, v: View, kind: Kind, va: u32, entry: u32) -> WalkEnd
-    ensures { result ≡ end_of (second_end (ram_of (M.at m.now)) v kind va entry) }
+    ensures value { result ≡ end_of (second_end (ram_of (M.at m.now)) v kind va entry) }
+    ensures end { IsEnd (M.at m.now) result }
 {
     if is_invalid(entry) || is_pointer(entry) || is_closed(v, kind, entry) {
         return WalkEnd::Fault(kind.page_cause());
@@ -59,6 +61,7 @@ fn walk_pointer<M: Words>(
     ptes: &mut Entries,
 ) -> WalkEnd
     requires { length ptes.old < 2 }
+    ensures end { IsEnd (M.at m.now) result }
     ensures answer { ended ptes.new result ≡ prefixed (map entry_access ptes.old) (answer_on (known_words (M.at m.now)) (from_pointer (ram_of (M.at m.now)) v kind va entry)) }
     ensures read { map entry_access ptes.new ≡ map entry_access ptes.old ++ accesses_on (known_words (M.at m.now)) (from_pointer (ram_of (M.at m.now)) v kind va entry) }
 {
@@ -84,6 +87,7 @@ fn walk_root<M: Words>(
     ptes: &mut Entries,
 ) -> WalkEnd
     requires { length ptes.old < 2 }
+    ensures end { IsEnd (M.at m.now) result }
     ensures answer { ended ptes.new result ≡ prefixed (map entry_access ptes.old) (answer_on (known_words (M.at m.now)) (from_root (ram_of (M.at m.now)) v kind va entry)) }
     ensures read { map entry_access ptes.new ≡ map entry_access ptes.old ++ accesses_on (known_words (M.at m.now)) (from_root (ram_of (M.at m.now)) v kind va entry) }
 {
@@ -117,6 +121,7 @@ fn is_translated(v: View) -> bool
 #[tactic(auto, using(crate::proofs::Ends::ended_at, crate::proofs::Ends::more_entries), unfolding(crate::specs::Translation::translated))]
 fn translate<M: Words>(m: &M, v: View, kind: Kind, va: u32, ptes: &mut Entries) -> WalkEnd
     requires { ptes.old ≡ [] }
+    ensures end { IsEnd (M.at m.now) result }
     ensures answer { ended ptes.new result ≡ answer_on (known_words (M.at m.now)) (translated (ram_of (M.at m.now)) v kind va) }
     ensures read { map entry_access ptes.new ≡ accesses_on (known_words (M.at m.now)) (translated (ram_of (M.at m.now)) v kind va) }
 {
@@ -147,6 +152,9 @@ pub fn walk<M: Words>(m: &M, v: View, va: u32, kind: Kind) -> Walk
 
     // The entries that were read, in order.
     ensures ptes { AreRead (M.at m.now) v kind va result }
+
+    // Pa is in RAM, and Missing carries a word of RAM that has no value yet.
+    ensures end { IsEnd (M.at m.now) result.outcome }
 {
     let mut ptes = Entries::new();
     let outcome = translate(m, v, kind, va, &mut ptes);

@@ -1,5 +1,5 @@
 -- How long numbers, names and lines are.
-use Rattle.std.proofs.Common.{◌≡◌, ℕ, zero, suc, ◌+◌, ◌-◌, ◌*◌, ◌/◌, ◌%◌, ◌^◌, ◌≤◌, inl, inr, Bool, false, true, if◌then◌else◌, nat_eq, nat_lt, Option, None, Some, List, [], ◌∷◌, ◌++◌, length, drop, ap, arith, length-append, codes}
+use Rattle.std.proofs.Common.{◌≡◌, ℕ, zero, suc, ◌+◌, ◌-◌, ◌*◌, ◌/◌, ◌%◌, ◌^◌, ◌≤◌, inl, inr, Bool, false, true, if◌then◌else◌, nat_eq, nat_lt, Option, None, Some, List, [], ◌∷◌, ◌++◌, length, drop, find, eqb, ap, arith, length-append, codes}
 use Rattle.std.proofs.Math.ListN.{get_or}
 use Rattle.std.proofs.lemmas.Bool.{cases_eq}
 use Rattle.std.proofs.lemmas.List.{length-replicate}
@@ -21,7 +21,11 @@ use Rattle.tpl_admit.specs.Sizes.{states_size, trace_size, traces_size, certific
 use Rattle.tpl_admit.specs.Starts.{trace_of, final_of, no_state}
 use Rattle.replay_check.specs.declared.verdict.Verdict.{Verdict}
 use Rattle.replay_check.specs.declared.verdict.Verdict.TheVariants.{Yes, No}
-use Rattle.trace_text.specs.Numbers.{hex8, letter, role_name, csr_name, place_name}
+use Rattle.rv_csr.specs.declared.table.LazyRegister.TheVariants.{Stvec, Sscratch, Sepc, Scause, Stval, Mtvec, Mscratch, Mepc, Mcause, Mtval}
+use Rattle.rv_csr.specs.declared.table.Register.{Register}
+use Rattle.rv_csr.specs.declared.table.Register.TheVariants.{Sstatus, Satp, Mstatus, Medeleg, Mhartid, Lazy}
+use Rattle.rv_csr.specs.Table.{address_of, csr_key, registers}
+use Rattle.trace_text.specs.Numbers.{hex8, letter, role_name, name_in, csr_name, place_name}
 use Rattle.trace_text.specs.Verdicts.{no_text, verdict_text, malformed_text}
 use Rattle.trace_text.specs.Steps.{access_text, accesses_text, outcome_text, rd_text, step_head, fetched_text, step_end, step_line, steps_text}
 use Rattle.trace_text.specs.Report.{state_head, state_csrs, state_line, place_line, places_text, hart_text, harts_text, word_line, words_text, harts_line, report_text}
@@ -69,12 +73,26 @@ role_short Walk = omega arith
 role_short Load = omega arith
 role_short Store = omega arith
 
-either_short : (b : Bool) (x y : List ℕ) → length x ≤ 8 → length y ≤ 8 → length (if b then x else y) ≤ 8
-either_short true x y hx hy = hx
-either_short false x y hx hy = hy
-
 csr_short : (key : ℕ) → length (csr_name key) ≤ 8
-csr_short key = either_short (nat_eq key 0x1105) _ _ (omega arith) (either_short (nat_eq key 0x1140) _ _ (omega arith) (either_short (nat_eq key 0x1141) _ _ (omega arith) (either_short (nat_eq key 0x1142) _ _ (omega arith) (either_short (nat_eq key 0x1143) _ _ (omega arith) (either_short (nat_eq key 0x1305) _ _ (omega arith) (either_short (nat_eq key 0x1340) _ _ (omega arith) (either_short (nat_eq key 0x1341) _ _ (omega arith) (either_short (nat_eq key 0x1342) _ _ (omega arith) (omega arith)))))))))
+csr_short key = go (find (λ (register : Register). eqb (csr_key (address_of register)) key) registers)
+  where
+    go : (o : Option Register) → length (name_in o) ≤ 8
+    go None = omega arith
+    go (Some Sstatus) = omega arith
+    go (Some Satp) = omega arith
+    go (Some Mstatus) = omega arith
+    go (Some Medeleg) = omega arith
+    go (Some Mhartid) = omega arith
+    go (Some (Lazy Stvec)) = omega arith
+    go (Some (Lazy Sscratch)) = omega arith
+    go (Some (Lazy Sepc)) = omega arith
+    go (Some (Lazy Scause)) = omega arith
+    go (Some (Lazy Stval)) = omega arith
+    go (Some (Lazy Mtvec)) = omega arith
+    go (Some (Lazy Mscratch)) = omega arith
+    go (Some (Lazy Mepc)) = omega arith
+    go (Some (Lazy Mcause)) = omega arith
+    go (Some (Lazy Mtval)) = omega arith
 
 register_short : (key : ℕ) → length (codes "x" ++ decimal key) ≤ 65
 register_short key = simp length-append (omega (arith, decimal_short key))

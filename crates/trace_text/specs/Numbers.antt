@@ -1,10 +1,12 @@
 -- How numbers and names are written.
-use Rattle.std.specs.Prelude.{ℕ, ◌-◌, ◌^◌, List, [], ◌++◌, nat_eq, nat_lt, if◌then◌else◌, false, codes}
+use Rattle.std.specs.Prelude.{ℕ, ◌-◌, ◌^◌, ◌==◌, List, [], ◌++◌, Option, Some, None, find, nat_lt, if◌then◌else◌, false, codes}
 use Rattle.std.specs.Fmt.{padded_integral, format_spec, digits, decimal}
 use Rattle.rv_script.specs.declared.access.Role.{Role}
 use Rattle.rv_script.specs.declared.access.Role.TheVariants.{Fetch, Walk, Load, Store}
 use Rattle.rv_csr.specs.declared.privilege.Priv.{Priv}
 use Rattle.rv_csr.specs.declared.privilege.Priv.TheVariants.{U, S, M}
+use Rattle.rv_csr.specs.declared.table.Register.{Register}
+use Rattle.rv_csr.specs.Table.{address_of, csr_key, registers, row_of}
 
 -- at least eight hexadecimal digits, which a word always fits
 abbrev pub hex8 : ℕ → List ℕ
@@ -21,19 +23,13 @@ role_name Walk = codes "walk"
 role_name Load = codes "load"
 role_name Store = codes "store"
 
--- the name of a lazy CSR by its key, which is 0x1000 plus its address (Privileged, 2.2)
+abbrev pub name_in : Option Register → List ℕ
+name_in None = []
+name_in (Some register) = (row_of register).name
+
+-- the name of the CSR with a key
 abbrev pub csr_name : ℕ → List ℕ
-csr_name key =
-    if nat_eq key 0x1105 then codes "stvec"
-    else (if nat_eq key 0x1140 then codes "sscratch"
-    else (if nat_eq key 0x1141 then codes "sepc"
-    else (if nat_eq key 0x1142 then codes "scause"
-    else (if nat_eq key 0x1143 then codes "stval"
-    else (if nat_eq key 0x1305 then codes "mtvec"
-    else (if nat_eq key 0x1340 then codes "mscratch"
-    else (if nat_eq key 0x1341 then codes "mepc"
-    else (if nat_eq key 0x1342 then codes "mcause"
-    else codes "mtval"))))))))
+csr_name key = name_in (find (λ register. csr_key (address_of register) == key) registers)
 
 -- the name of a lazy place of a hart by its key: a register's number, or that of a CSR
 unfoldable pub place_name : ℕ → List ℕ

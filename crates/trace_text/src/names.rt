@@ -1,7 +1,9 @@
 // How privileges, roles and places are written.
-ghost use Rattle.std.specs.Prelude.{◌≡◌, ◌++◌, OnOk, string_bytes};
+ghost use Rattle.std.specs.Prelude.{◌≡◌, ◌++◌, ◌==◌, OnOk, find, string_bytes};
+ghost use Rattle.rv_csr.specs.Table.{address_of, csr_key};
 ghost use Rattle.trace_text.specs.Numbers.{letter, role_name, csr_name, place_name};
 
+use rv_csr::{REGISTERS, Register, row_of};
 use rv_hart::{Priv, Role};
 use std::alloc::AllocError;
 use std::fmt::Write;
@@ -27,20 +29,23 @@ pub(crate) fn role_of(role: Role) -> &'static str
     }
 }
 
+/// The first of the registers that has the key.
+fn first_with(registers: &[Register], key: u32) -> Option<Register>
+    ensures { result ≡ find (λ register. csr_key (address_of register) == key) registers.now }
+{
+    registers
+        .iter()
+        .copied()
+        .find(|register| row_of(*register).key() == key)
+}
+
+/// The name of the CSR with a key.
 fn csr_of(key: u32) -> &'static str
     ensures { result.now ≡ csr_name key }
 {
-    match key {
-        0x1105 => "stvec",
-        0x1140 => "sscratch",
-        0x1141 => "sepc",
-        0x1142 => "scause",
-        0x1143 => "stval",
-        0x1305 => "mtvec",
-        0x1340 => "mscratch",
-        0x1341 => "mepc",
-        0x1342 => "mcause",
-        _ => "mtval",
+    match first_with(&REGISTERS, key) {
+        Some(register) => row_of(register).name(),
+        None => "",
     }
 }
 
