@@ -234,3 +234,7 @@ own_elements xs up all = same_members xs (elements_of (is_in xs)) (sorted_from_s
     ∙ sym (ap (λ (ys : List ℕ). is_in ys x) (elements_is (is_in xs)) ∙ is_in-members (is_in xs) (2 ^ 32) x)) where
       within : (x : ℕ) (b : Bool) → (b ≡ true → x < 2 ^ 32) → b ≡ (ltb x (2 ^ 32) && b)
       within x b h = grind (arith, nat_tests)
+
+pub nothing_passes : (xs : List ℕ) → filter (λ x. false) xs ≡ []
+nothing_passes [] = refl
+nothing_passes (x ∷ xs) = nothing_passes xs

@@ -31,6 +31,24 @@ impl Model for Set {
 }
 
 impl Set {
+    /// The empty set, which takes no memory yet.
+    pub fn new(alloc: Global) -> Set
+        ensures { result ≡ [] }
+    {
+        Set {
+            ranges: Vec::new(alloc),
+        }
+    }
+
+    /// The same elements, in memory of their own.
+    pub fn copy(&self, alloc: Global) -> Result<Set, OutOfMemory>
+        ensures { IfOk result (λ s. s ≡ self.now) }
+    {
+        Ok(Set {
+            ranges: Vec::from_slice(alloc, &self.ranges)?,
+        })
+    }
+
     /// The multiples of `align` in the ranges. Each pair is a lowest and a highest number; a pair
     /// whose lowest is above its highest is empty.
     pub fn from_ranges(alloc: Global, ranges: &[(u32, u32)], align: u32) -> Result<Set, OutOfMemory>
@@ -43,7 +61,8 @@ impl Set {
 
     /// Whether the number is an element.
     pub fn has(&self, x: u32) -> bool
-        ensures { IsTrue result ↔ Contains self.now x }
+        ensures element { IsTrue result ↔ Contains self.now x }
+        ensures test { result ≡ is_in self.now x }
     {
         ranges::any_has(&self.ranges, x)
     }

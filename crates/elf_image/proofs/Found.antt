@@ -5,8 +5,8 @@ use Rattle.std.specs.declared.result.Result.{Result}
 use Rattle.std.specs.Prelude.{IfOk, MatchResult}
 use Rattle.std.specs.List.{AllByRecursion}
 use Rattle.std.proofs.lemmas.Option.{same_Some, none-some}
-use Rattle.tpl_parse.specs.declared.template.Template.{Template}
-use Rattle.tpl_parse.specs.Form.{Parses}
+use Rattle.tpl_form.specs.declared.template.Template.{Template}
+use Rattle.tpl_form.specs.Form.{Parses}
 use Rattle.tpl_admit.specs.declared.certificate.Cert.{Cert}
 use Rattle.tpl_admit.specs.WellFormed.{IsWellFormed}
 use Rattle.byte_format.specs.declared.error.PieceError.{PieceError}

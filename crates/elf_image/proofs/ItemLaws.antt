@@ -10,7 +10,7 @@ use Rattle.rv_script.specs.declared.access.Access.{Access}
 use Rattle.rv_csr.specs.declared.privilege.Priv.{Priv}
 use Rattle.rv_hart.specs.declared.record.Record.{Record}
 use Rattle.rv_hart.specs.declared.record.Outcome.{Outcome}
-use Rattle.tpl_admit.specs.declared.certificate.HartState.{HartState}
+use Rattle.tpl_ast.specs.declared.template.HartState.{HartState}
 use Rattle.tpl_admit.specs.Starts.{is_key, ArePlaces}
 use Rattle.tpl_admit.specs.WellFormed.{is_legal_place, IsState, IsAccess, IsRecord}
 use Rattle.byte_format.specs.Numbers.{byte, half, word}

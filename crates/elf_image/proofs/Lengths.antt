@@ -8,7 +8,7 @@ use Rattle.std.proofs.lemmas.Bool.{eqb-true}
 use Rattle.rv_script.specs.declared.access.Access.{Access}
 use Rattle.rv_hart.specs.declared.record.Record.{Record}
 use Rattle.tpl_admit.specs.declared.certificate.Cert.{Cert}
-use Rattle.tpl_admit.specs.declared.certificate.HartState.{HartState}
+use Rattle.tpl_ast.specs.declared.template.HartState.{HartState}
 use Rattle.tpl_admit.specs.Sizes.{runs_behind, run_count, state_bytes, record_bytes, trace_bytes, note_bytes, notes_bytes, file_size}
 use Rattle.tpl_admit.specs.WellFormed.{IsWellFormed}
 use Rattle.byte_format.specs.Numbers.{byte, half, word, padding, counted}

@@ -5,7 +5,7 @@ use Rattle.std.specs.List.{AllByRecursion}
 use Rattle.std.proofs.lemmas.List.{map-append}
 use Rattle.std.proofs.lemmas.List.Concat.{flat_map-append}
 use Rattle.std.proofs.lemmas.Option.{same_Some}
-use Rattle.tpl_parse.specs.declared.template.Region.{Region}
+use Rattle.tpl_ast.specs.declared.template.Region.{Region}
 use Rattle.byte_format.specs.Numbers.{word, chained}
 use Rattle.byte_format.specs.Readers.{◌>>=◌, chain_at}
 use Rattle.byte_format.proofs.Bytes.{IsBytes, bytes_rest, bind_some}

@@ -8,7 +8,7 @@ use Rattle.std.proofs.lemmas.Option.{same_Some}
 use Rattle.std.proofs.lemmas.List.{append-nil}
 use Rattle.std.proofs.lemmas.List.Sums.{sum_by-cons}
 use Rattle.rv_hart.specs.declared.record.Record.{Record}
-use Rattle.tpl_admit.specs.declared.certificate.HartState.{HartState}
+use Rattle.tpl_ast.specs.declared.template.HartState.{HartState}
 use Rattle.tpl_admit.specs.Sizes.{note_bytes}
 use Rattle.tpl_admit.specs.WellFormed.{IsWord, IsState, IsRecord}
 use Rattle.byte_format.specs.Numbers.{word, padding}

@@ -2,8 +2,8 @@
 use Rattle.std.proofs.Common.{◌≡◌, ℕ, ◌+◌, ◌-◌, ◌^◌, ◌<◌, ◌≤◌, Bool, true, false, cond, ltb, leb, eqb, List, [], ◌++◌, length, Some, refl, sym, ap, subst, ◌∙◌, arith}
 use Rattle.std.proofs.lemmas.Bool.{ltb-false, le-ltb, eqb-true}
 use Rattle.rv_hart.specs.declared.record.Record.{Record}
-use Rattle.tpl_parse.specs.declared.template.Region.{Region}
-use Rattle.tpl_admit.specs.declared.certificate.HartState.{HartState}
+use Rattle.tpl_ast.specs.declared.template.Region.{Region}
+use Rattle.tpl_ast.specs.declared.template.HartState.{HartState}
 use Rattle.byte_format.specs.Readers.{whole}
 use Rattle.byte_format.proofs.Bytes.{IsBytes, bytes_rest, bytes_front, unless_true, where_true}
 use Rattle.byte_format.proofs.Laws.{whole_takes, whole_again}

@@ -6,8 +6,8 @@ use Rattle.rv_csr.specs.declared.table.Register.TheVariants.{Lazy}
 use Rattle.rv_csr.specs.Table.{is_legal_at}
 use Rattle.rv_script.specs.declared.access.Access.{Access}
 use Rattle.rv_hart.specs.declared.record.Record.{Record}
-use Rattle.tpl_parse.specs.declared.template.Region.{Region}
-use Rattle.tpl_admit.specs.declared.certificate.HartState.{HartState}
+use Rattle.tpl_ast.specs.declared.template.Region.{Region}
+use Rattle.tpl_ast.specs.declared.template.HartState.{HartState}
 use Rattle.tpl_admit.specs.Starts.{is_key, is_in}
 use Rattle.tpl_admit.specs.WellFormed.{is_legal_place}
 use Rattle.elf_image.specs.declared.runs.Run.{Run}

@@ -2,7 +2,7 @@
 use Rattle.std.specs.Prelude.{ℕ, List, [], ◌∷◌, length, map}
 use Rattle.std.specs.List.{flat_map}
 use Rattle.tpl_admit.specs.declared.certificate.Cert.{Cert}
-use Rattle.tpl_admit.specs.declared.certificate.HartState.{HartState}
+use Rattle.tpl_ast.specs.declared.template.HartState.{HartState}
 use Rattle.byte_format.specs.Numbers.{word, pieces}
 use Rattle.elf_image.specs.declared.runs.Run.{Run}
 use Rattle.elf_image.specs.Runs.{address_of, runs_of}

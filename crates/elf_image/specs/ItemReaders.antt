@@ -9,7 +9,7 @@ use Rattle.rv_csr.specs.declared.privilege.Priv.TheVariants.{U, S, M}
 use Rattle.rv_hart.specs.declared.record.Record.{Record}
 use Rattle.rv_hart.specs.declared.record.Outcome.{Outcome}
 use Rattle.rv_hart.specs.declared.record.Outcome.TheVariants.{Retired, Trap}
-use Rattle.tpl_admit.specs.declared.certificate.HartState.{HartState}
+use Rattle.tpl_ast.specs.declared.template.HartState.{HartState}
 use Rattle.byte_format.specs.Numbers.{half}
 use Rattle.byte_format.specs.Readers.{◌>>=◌, byte_at, word_at, both, ahead, as_at, where_at, counted_at, few_at}
 use Rattle.elf_image.specs.Checks.{is_access, is_state}

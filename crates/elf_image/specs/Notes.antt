@@ -3,7 +3,7 @@ use Rattle.std.specs.Prelude.{ℕ, List, [], ◌∷◌, ◌++◌, length, replic
 use Rattle.std.specs.List.{flat_map}
 use Rattle.rv_hart.specs.declared.record.Record.{Record}
 use Rattle.tpl_admit.specs.declared.certificate.Cert.{Cert}
-use Rattle.tpl_admit.specs.declared.certificate.HartState.{HartState}
+use Rattle.tpl_ast.specs.declared.template.HartState.{HartState}
 use Rattle.byte_format.specs.Numbers.{word, pieces, counted, padding}
 use Rattle.elf_image.specs.declared.elf.TheConstants.{NAME_SIZE, NT_START, NT_TRACES, NT_FINAL, NT_TEMPLATE, NT_REST, VERSION}
 use Rattle.elf_image.specs.declared.writing.notes.Note.{Note}

@@ -1,8 +1,8 @@
 -- The six parts of a file, as they are read.
 use Rattle.std.specs.Prelude.{ℕ, ◌+◌, ◌-◌, ◌*◌, ◌/◌, ◌%◌, ◌^◌, List, [], ◌∷◌, ◌++◌, length, Option, Some, None, nat_lt, ◌==◌, if◌then◌else◌}
 use Rattle.rv_hart.specs.declared.record.Record.{Record}
-use Rattle.tpl_parse.specs.declared.template.Region.{Region}
-use Rattle.tpl_admit.specs.declared.certificate.HartState.{HartState}
+use Rattle.tpl_ast.specs.declared.template.Region.{Region}
+use Rattle.tpl_ast.specs.declared.template.HartState.{HartState}
 use Rattle.byte_format.specs.Numbers.{half, word}
 use Rattle.byte_format.specs.Readers.{◌>>=◌, half_at, word_at, padded_at, both, then_at, behind, ahead, only_at, as_at, where_at, under, times, counted_at, chain_at, whole, within}
 use Rattle.elf_image.specs.declared.elf.TheConstants.{EV_CURRENT, ET_EXEC, EM_RISCV, EHDR_SIZE, PHDR_SIZE, PT_LOAD, PT_NOTE, PF_X, PF_W, PF_R, ALIGN, NAME_SIZE, NT_START, NT_TRACES, NT_FINAL, NT_TEMPLATE, NT_REST, VERSION}

@@ -8,7 +8,7 @@ use Rattle.rv_csr.specs.declared.privilege.Priv.TheVariants.{U, S, M}
 use Rattle.rv_hart.specs.declared.record.Record.{Record}
 use Rattle.rv_hart.specs.declared.record.Outcome.{Outcome}
 use Rattle.rv_hart.specs.declared.record.Outcome.TheVariants.{Retired, Trap}
-use Rattle.tpl_admit.specs.declared.certificate.HartState.{HartState}
+use Rattle.tpl_ast.specs.declared.template.HartState.{HartState}
 use Rattle.byte_format.specs.Numbers.{byte, half, word, pieces, counted}
 
 -- the number of a privilege (Privileged, 1.2)

@@ -10,7 +10,7 @@ ghost use Rattle.elf_image.specs.Headers.{elf_header, program_header};
 ghost use Rattle.elf_image.specs.File.{file_bytes};
 ghost use Rattle.elf_image.specs.Parts.{IsFirstWrong};
 
-use tpl_parse::parses_are_unique;
+use tpl_form::parses_are_unique;
 
 /// The ELF header and each program header have as many bytes as the header says, e_ehsize and e_phentsize.
 pub fn header_sizes()

@@ -2,8 +2,8 @@
 ghost use Rattle.std.specs.Prelude.{◌≡◌, ℕ, None, Err, IfOk, IsTrue, MatchResult};
 ghost use Rattle.tpl_admit.specs.declared.certificate.Cert.{Cert as ACert};
 ghost use Rattle.tpl_admit.specs.WellFormed.{IsWellFormed};
-ghost use Rattle.tpl_parse.specs.declared.template.Template.{Template as ATemplate};
-ghost use Rattle.tpl_parse.specs.Form.{Parses};
+ghost use Rattle.tpl_form.specs.declared.template.Template.{Template as ATemplate};
+ghost use Rattle.tpl_form.specs.Form.{Parses};
 ghost use Rattle.elf_image.specs.File.{file_bytes};
 ghost use Rattle.elf_image.specs.Parts.{IsFirstWrong, LacksHead};
 ghost use Rattle.elf_image.specs.Checks.{are_runs};
@@ -26,7 +26,7 @@ use notes::{NoteDescs, segment_notes_of, traces_of};
 use rv_hart::Record;
 use std::alloc::Global;
 use tpl_admit::Cert;
-use tpl_parse::{Items, ParseError, Template, parse, parses_are_unique};
+use tpl_form::{Items, ParseError, Template, parse, parses_are_unique};
 
 /// What the first four parts say, and the bytes behind the notes.
 #[derive(Drop)]

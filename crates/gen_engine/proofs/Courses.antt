@@ -9,13 +9,13 @@ use Rattle.rv_script.specs.Memory.{memory_after}
 use Rattle.rv_hart.specs.declared.record.Change.{Change}
 use Rattle.rv_hart.specs.declared.record.Record.{Record}
 use Rattle.rv_hart.specs.Registers.{written}
-use Rattle.rv_hart.specs.Fixed.{Fixed}
 use Rattle.rv_hart.specs.Privileged.{rd_told, retired}
-use Rattle.rv_hart.specs.Whole.{WholeHart, Step, hart_after}
-use Rattle.rv_hart.proofs.Steps.{Takes, takes, step_by}
-use Rattle.tpl_parse.specs.declared.template.Leaf.{Leaf}
-use Rattle.tpl_parse.specs.declared.template.Region.{Region}
-use Rattle.tpl_parse.specs.Form.{AreLeavesFit}
+use Rattle.rv_hart.specs.Whole.{WholeHart, Step, step_by, hart_after}
+use Rattle.rv_hart.specs.Clauses.{Takes}
+use Rattle.rv_hart.proofs.Steps.{takes}
+use Rattle.tpl_form.specs.declared.template.Leaf.{Leaf}
+use Rattle.tpl_ast.specs.declared.template.Region.{Region}
+use Rattle.tpl_form.specs.Form.{AreLeavesFit}
 use Rattle.tpl_admit.specs.Starts.{zero_elsewhere, is_in}
 use Rattle.tpl_admit.specs.Solo.{Moment, Solo, solo, solo_on, knows_also, AreInitialised, knows_after}
 use Rattle.rv_isa.proofs.Codec.{encoded_below}

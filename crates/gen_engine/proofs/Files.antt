@@ -1,16 +1,15 @@
 -- The certificate of a template has a file.
-use Rattle.std.proofs.Common.{◌≡◌, ℕ, zero, suc, ◌+◌, ◌*◌, ◌^◌, ◌<◌, ◌≤◌, Bool, true, false, if◌then◌else◌, ◌==◌, List, [], ◌∷◌, length, map, drop, Option, Some, None, refl, sym, ◌∙◌, inl, inr, arith, sum_by}
+use Rattle.std.proofs.Common.{◌≡◌, ℕ, suc, ◌+◌, ◌*◌, ◌^◌, ◌<◌, ◌≤◌, Bool, true, false, if◌then◌else◌, ◌==◌, List, [], ◌∷◌, length, map, drop, Option, Some, None, refl, sym, ◌∙◌, inl, inr, arith, sum_by}
 use Rattle.std.specs.List.{AllByRecursion}
 use Rattle.std.proofs.lemmas.Bool.{lt-ltb, cases_eq, eq-eqb, ne_eqb}
 use Rattle.std.proofs.lemmas.List.{length-map}
 use Rattle.std.proofs.lemmas.List.Sums.{sum_by-cons}
 use Rattle.rv_isa.proofs.Codec.{encoded_below}
-use Rattle.rv_hart.specs.declared.record.Record.{Record}
 use Rattle.rv_hart.specs.Registers.{written, no_registers}
 use Rattle.rv_hart.specs.Privileged.{rd_told}
-use Rattle.tpl_parse.specs.declared.template.Leaf.{Leaf}
-use Rattle.tpl_parse.specs.declared.template.Template.{Template}
-use Rattle.tpl_parse.specs.Form.{IsFit, AreLeavesFit, Parses}
+use Rattle.tpl_form.specs.declared.template.Leaf.{Leaf}
+use Rattle.tpl_form.specs.declared.template.Template.{Template}
+use Rattle.tpl_form.specs.Form.{IsFit, AreLeavesFit, Parses}
 use Rattle.tpl_admit.specs.Admission.{instr_of}
 use Rattle.tpl_admit.specs.Sizes.{runs_behind, run_count, record_bytes, file_size}
 use Rattle.tpl_admit.specs.WellFormed.{IsWord, is_legal_place, IsRecord, IsWritten, IsWellFormed}

@@ -1,5 +1,5 @@
 -- The step of a leaf on a hart that stands before it.
-use Rattle.std.proofs.Common.{◌≡◌, ℕ, ◌+◌, ◌-◌, ◌/◌, ◌%◌, ◌^◌, ◌<◌, ◌≤◌, true, eqb, List, [], ◌∷◌, Option, Some, None, refl, sym, ap, ◌∙◌, inl, inr, ◌⊎◌, ◌&&◌, arith, if◌then◌else◌}
+use Rattle.std.proofs.Common.{◌≡◌, ℕ, ◌+◌, ◌-◌, ◌/◌, ◌%◌, ◌^◌, ◌<◌, ◌≤◌, true, eqb, [], ◌∷◌, Option, Some, None, refl, sym, ap, ◌∙◌, inl, inr, ◌⊎◌, arith, if◌then◌else◌}
 use Rattle.std.specs.Prelude.{slice_index_or}
 use Rattle.std.specs.Option.{unwrap_or, IsSome}
 use Rattle.std.proofs.lemmas.Bool.{cases_Bool, lt-ltb, le-ltb}
@@ -25,8 +25,8 @@ use Rattle.rv_hart.specs.View.{known, fixed_of, shown}
 use Rattle.rv_hart.specs.Fixed.{Fixed}
 use Rattle.rv_hart.specs.Privileged.{rd_told, retired, trap}
 use Rattle.rv_hart.specs.Machine.{is_bare, immediate_row, instruction, script}
-use Rattle.tpl_parse.specs.declared.template.Leaf.{Leaf}
-use Rattle.tpl_parse.specs.Form.{IsFit}
+use Rattle.tpl_form.specs.declared.template.Leaf.{Leaf}
+use Rattle.tpl_form.specs.Form.{IsFit}
 use Rattle.tpl_admit.specs.Admission.{instr_of}
 use Rattle.gen_engine.specs.Plan.{leaf_word, leaf_value, leaf_write, leaf_record, fetch_of}
 use Rattle.gen_engine.specs.Code.{IsAt}

@@ -10,9 +10,9 @@ use Rattle.rv_csr.specs.declared.privilege.Priv.TheVariants.{M}
 use Rattle.rv_hart.specs.declared.hart.Hart.{Hart}
 use Rattle.rv_hart.specs.declared.record.Record.{Record}
 use Rattle.rv_hart.specs.Registers.{written}
-use Rattle.tpl_parse.specs.declared.template.Leaf.{Leaf}
-use Rattle.tpl_parse.specs.declared.template.Region.{Region}
-use Rattle.tpl_parse.specs.Form.{IsFit, AreLeavesFit}
+use Rattle.tpl_form.specs.declared.template.Leaf.{Leaf}
+use Rattle.tpl_ast.specs.declared.template.Region.{Region}
+use Rattle.tpl_form.specs.Form.{IsFit, AreLeavesFit}
 use Rattle.tpl_admit.specs.Starts.{is_in}
 use Rattle.gen_engine.specs.Plan.{leaf_word, leaf_write, leaf_record, records_from, regs_from}
 use Rattle.gen_engine.specs.Code.{seen_word, code_at, AreKnown, IsAt, IsReady}

@@ -1,5 +1,5 @@
 -- A whole hart over the code does what its leaves say.
-use Rattle.std.proofs.Common.{◌≡◌, ◌≢◌, ℕ, ◌-◌, ◌/◌, ◌<◌, Bool, true, false, eqb, List, [], ◌∷◌, length, map, Option, Some, None, refl, sym, ap, ◌∙◌, subst, inl, inr, arith, if◌then◌else◌}
+use Rattle.std.proofs.Common.{◌≡◌, ◌≢◌, ℕ, ◌/◌, ◌<◌, Bool, true, false, eqb, List, [], ◌∷◌, length, Option, Some, None, refl, sym, ap, ◌∙◌, subst, inl, inr, arith, if◌then◌else◌}
 use Rattle.std.specs.Prelude.{slice_index_or}
 use Rattle.std.specs.Option.{unwrap_or, is_some, IsSome}
 use Rattle.std.proofs.Math.ListN.{set}
@@ -13,24 +13,23 @@ use Rattle.rv_script.specs.declared.place.Place.{Place}
 use Rattle.rv_script.specs.declared.place.Place.TheVariants.{Reg, Csr, Word}
 use Rattle.rv_script.specs.Lists.{HasItem}
 use Rattle.rv_script.specs.Bytes.{is_look}
-use Rattle.rv_script.specs.Script.{place_of, access_of}
-use Rattle.rv_script.specs.Folds.{Known, Teller, by_known, Answer.Does, answer_on, Entry, Sight, asked_of, result_of, accesses_of, or_next, first_missing, answer_by}
+use Rattle.rv_script.specs.Folds.{Known}
 use Rattle.rv_script.specs.Memory.{word_after, accessed, memory_after}
 use Rattle.rv_csr.specs.declared.table.Register.{Register}
 use Rattle.rv_csr.specs.declared.table.Register.TheVariants.{Sstatus, Satp, Mstatus, Medeleg, Mhartid, Lazy}
 use Rattle.rv_csr.specs.State.{known_in, lazy_value_at}
-use Rattle.rv_csr.specs.Table.{register_at}
+use Rattle.rv_csr.specs.Table.{csr_address, register_at}
 use Rattle.rv_csr.proofs.Places.{none_at_first}
 use Rattle.rv_hart.specs.declared.record.Change.{Change}
 use Rattle.rv_hart.specs.declared.record.Control.{Control}
 use Rattle.rv_hart.specs.declared.record.Control.TheVariants.{Stay}
 use Rattle.rv_hart.specs.Changes.{csrs_after, given_by, writes_of}
 use Rattle.rv_hart.specs.Fixed.{Fixed, fixed_csrs}
-use Rattle.rv_hart.specs.Whole.{WholeHart, value_at, sight_of, record_of, planned, step_of, needed_places, sighted_step_of, file_after}
+use Rattle.rv_hart.specs.Whole.{WholeHart, value_at, file_after}
 use Rattle.rv_hart.specs.Registers.{written}
 use Rattle.rv_hart.specs.Privileged.{rd_told}
 use Rattle.rv_hart.specs.Clauses.{Has}
-use Rattle.tpl_parse.specs.declared.template.Region.{Region}
+use Rattle.tpl_ast.specs.declared.template.Region.{Region}
 use Rattle.tpl_admit.specs.Starts.{fixed_in, zero_elsewhere}
 use Rattle.tpl_admit.specs.Solo.{is_set, knows_also}
 use Rattle.gen_engine.specs.Plan.{state_at}
@@ -82,8 +81,8 @@ none_at f addr = go (register_at addr)
 
 pub register_alone : (f : Fixed) (c : Change) → c.control ≡ Stay → WritesOf c.rd (writes_of f c)
 register_alone f c stays key =
-    ap (λ (k : Control). given_by c.rd (lazy_value_at (csrs_after f.privilege f.pc k (fixed_csrs f)) (key - 0x1000)) key) stays
-    ∙ ap (λ (o : Option ℕ). given_by c.rd o key) (none_at f (key - 0x1000))
+    ap (λ (k : Control). given_by c.rd (lazy_value_at (csrs_after f.privilege f.pc k (fixed_csrs f)) (csr_address key)) key) stays
+    ∙ ap (λ (o : Option ℕ). given_by c.rd o key) (none_at f (csr_address key))
 
 pub shows_write : (regs : List (Option ℕ)) (knows : ℕ → Bool) (file : ℕ → ℕ) (rd value : ℕ) (writes : ℕ → Option ℕ) → WritesOf (rd_told rd value) writes → Shows regs knows file → length regs ≡ 32 → rd < 32
     → Shows (written (rd_told rd value) regs) (knows_also writes knows) (file_after writes file)

@@ -15,10 +15,10 @@ use Rattle.rv_hart.specs.declared.hart.Hart.{Hart}
 use Rattle.rv_hart.specs.declared.record.Record.{Record}
 use Rattle.rv_hart.specs.Registers.{written, no_registers}
 use Rattle.rv_hart.specs.Privileged.{rd_told}
-use Rattle.tpl_parse.specs.declared.template.Leaf.{Leaf}
-use Rattle.tpl_parse.specs.declared.template.Region.{Region}
-use Rattle.tpl_parse.specs.declared.template.Template.{Template}
-use Rattle.tpl_parse.specs.Form.{AreLeavesFit, HasTarget, AreFed, IsAllowed}
+use Rattle.tpl_form.specs.declared.template.Leaf.{Leaf}
+use Rattle.tpl_ast.specs.declared.template.Region.{Region}
+use Rattle.tpl_form.specs.declared.template.Template.{Template}
+use Rattle.tpl_form.specs.Form.{AreLeavesFit, HasTarget, AreFed, IsAllowed}
 use Rattle.tpl_admit.specs.Starts.{found, is_in, trace_of, word_of, first_hart, first_memory, is_given, start_of, final_of, ArePlaces, AreStartWords}
 use Rattle.tpl_admit.specs.Races.{footprint_of}
 use Rattle.tpl_admit.specs.Solo.{solo, solo_run}

@@ -9,10 +9,10 @@ use Rattle.rv_hart.specs.declared.record.Outcome.TheVariants.{Retired}
 use Rattle.rv_hart.specs.declared.record.Record.{Record}
 use Rattle.rv_hart.specs.Privileged.{rd_told}
 use Rattle.rv_hart.specs.Registers.{written, no_registers}
-use Rattle.tpl_parse.specs.declared.template.Leaf.{Leaf}
-use Rattle.tpl_parse.specs.declared.template.Template.{Template}
+use Rattle.tpl_form.specs.declared.template.Leaf.{Leaf}
+use Rattle.tpl_form.specs.declared.template.Template.{Template}
 use Rattle.tpl_admit.specs.declared.certificate.Cert.{Cert}
-use Rattle.tpl_admit.specs.declared.certificate.HartState.{HartState}
+use Rattle.tpl_ast.specs.declared.template.HartState.{HartState}
 use Rattle.tpl_admit.specs.Admission.{instr_of}
 
 unfoldable pub leaf_word : Leaf → ℕ

@@ -5,7 +5,7 @@ ghost use Rattle.gen_engine.specs.Plan.{placed, known_from, state_at, assembled}
 use rv_hart::{Priv, Record};
 use std::alloc::{AllocError, Global};
 use tpl_admit::{Cert, HartState};
-use tpl_parse::{Items, Template};
+use tpl_form::{Items, Template};
 
 /// A list of one item.
 fn single<T: Drop>(alloc: Global, item: T) -> Result<Items<T>, AllocError>

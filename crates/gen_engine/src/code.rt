@@ -1,7 +1,7 @@
 // The instructions of a template as the only known words of memory.
 ghost use Rattle.std.specs.Prelude.{◌≡◌, ◌≤◌, ◌+◌, ◌*◌, ◌%◌, ℕ, [], ◌∷◌, map, length, IfOk};
 ghost use Rattle.rv_mem.specs.Part.{part_at};
-ghost use Rattle.tpl_parse.specs.Form.{IsFit, AreLeavesFit};
+ghost use Rattle.tpl_form.specs.Form.{IsFit, AreLeavesFit};
 ghost use Rattle.gen_engine.specs.Code.{code_at};
 ghost use Rattle.gen_engine.specs.Plan.{leaf_word};
 
@@ -9,7 +9,7 @@ use crate::OutOfMemory;
 use rv_isa::{Instr, Op, encode};
 use rv_mem::{PartMem, Ram};
 use std::alloc::{AllocError, Global};
-use tpl_parse::{Leaf, Region};
+use tpl_form::{Leaf, Region};
 
 /// RAM of one region.
 fn ram_of(alloc: Global, ram: Region) -> Result<Ram, AllocError>

@@ -1,9 +1,9 @@
 // From a template to a certificate.
 ghost use Rattle.std.specs.Prelude.{◌≡◌, ◌≤◌, ◌+◌, ◌*◌, ℕ, length, IfOk};
 ghost use Rattle.rv_mem.specs.Part.{part_at};
-ghost use Rattle.tpl_parse.specs.declared.template.Leaf.{Leaf as ALeaf};
-ghost use Rattle.tpl_parse.specs.declared.template.Region.{Region as ARegion};
-ghost use Rattle.tpl_parse.specs.Form.{Parses};
+ghost use Rattle.tpl_form.specs.declared.template.Leaf.{Leaf as ALeaf};
+ghost use Rattle.tpl_ast.specs.declared.template.Region.{Region as ARegion};
+ghost use Rattle.tpl_form.specs.Form.{Parses};
 ghost use Rattle.tpl_admit.specs.Validity.{IsValid};
 ghost use Rattle.tpl_admit.specs.Faithfulness.{IsFaithful};
 ghost use Rattle.tpl_admit.specs.Sizes.{certificate_size};
@@ -20,7 +20,7 @@ use rv_hart::{Csrs, Hart, Priv, Record, Stepped, step};
 use rv_mem::PartMem;
 use std::alloc::{AllocError, Global};
 use tpl_admit::Cert;
-use tpl_parse::{Items, Leaf, Template};
+use tpl_form::{Items, Leaf, Template};
 
 /// The step of the leaf whose instruction stands at the pc.
 fn take_leaf(hart: &mut Hart, memory: &mut PartMem) -> Record

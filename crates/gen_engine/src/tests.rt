@@ -4,7 +4,7 @@ use rv_script::{Access, Role};
 use std::alloc::Global;
 use std::test::Fail;
 use tpl_admit::{Cert, HartState};
-use tpl_parse::parse;
+use tpl_form::parse;
 
 const HEAD: &str = "ram 0x80000000 0x80001000
 pool 0x80000000

@@ -1,5 +1,5 @@
 -- How harts and memory end.
-use Rattle.std.proofs.Common.{◌≡◌, ℕ, zero, suc, ◌-◌, ◌*◌, ◌/◌, ◌%◌, ◌<◌, ◌≤◌, Bool, List, [], ◌∷◌, length, get_or, Option, Some, None, if◌then◌else◌, refl, sym, ap, ◌∙◌, subst, inl, inr, arith}
+use Rattle.std.proofs.Common.{◌≡◌, ℕ, zero, suc, ◌*◌, ◌/◌, ◌%◌, ◌<◌, ◌≤◌, Bool, List, [], ◌∷◌, length, get_or, Option, Some, None, if◌then◌else◌, refl, sym, ap, ◌∙◌, subst, inl, inr, arith}
 use Rattle.std.specs.Prelude.{◌↔◌, slice_index_or}
 use Rattle.std.specs.Option.{unwrap_or, is_some}
 use Rattle.std.specs.List.{AllByRecursion}
@@ -16,11 +16,11 @@ use Rattle.rv_csr.specs.declared.table.LazyRegister.TheVariants.{Stvec, Sscratch
 use Rattle.rv_csr.specs.declared.table.Register.{Register}
 use Rattle.rv_csr.specs.declared.table.Register.TheVariants.{Sstatus, Satp, Mstatus, Medeleg, Mhartid, Lazy}
 use Rattle.rv_csr.specs.State.{CsrValues, known_in, lazy_value_at}
-use Rattle.rv_csr.specs.Table.{address_of, csr_key, register_at, registers}
+use Rattle.rv_csr.specs.Table.{address_of, csr_key, register_at, registers, csr_address}
 use Rattle.rv_hart.specs.Whole.{WholeHart}
-use Rattle.tpl_parse.specs.declared.template.Region.{Region}
+use Rattle.tpl_ast.specs.declared.template.Region.{Region}
 use Rattle.tpl_admit.specs.declared.certificate.Cert.{Cert}
-use Rattle.tpl_admit.specs.declared.certificate.HartState.{HartState}
+use Rattle.tpl_ast.specs.declared.template.HartState.{HartState}
 use Rattle.tpl_admit.specs.Starts.{found, is_in, ArePlaces, no_state, start_of, final_of, trace_of, word_of, fixed_in, first_hart, first_memory, is_given, zero_elsewhere}
 use Rattle.tpl_admit.specs.Races.{footprint_of, footprints_of}
 use Rattle.tpl_admit.specs.Solo.{Solo, solo, solo_run, knows_after}
@@ -131,13 +131,13 @@ ends_places c k h ends told key = told.places key ∙ ends_shown c k h ends key
 abbrev CsrsTold : CsrValues → List (ℕ × ℕ) → Type 0
 CsrsTold csrs told = (register : Register) → found told (csr_key (address_of register)) ≡ lazy_value_at csrs (address_of register)
 
-csrs_told : (csrs : CsrValues) (told : List (ℕ × ℕ)) → ArePlaces 0 told → CsrsTold csrs told → (key : ℕ) → 32 ≤ key → found told key ≡ lazy_value_at csrs (key - 0x1000)
-csrs_told csrs told are registers key large = go (register_at (key - 0x1000)) refl
+csrs_told : (csrs : CsrValues) (told : List (ℕ × ℕ)) → ArePlaces 0 told → CsrsTold csrs told → (key : ℕ) → 32 ≤ key → found told key ≡ lazy_value_at csrs (csr_address key)
+csrs_told csrs told are registers key large = go (register_at (csr_address key)) refl
   where
-    none : (o : Option Register) → register_at (key - 0x1000) ≡ o → ((lazy : LazyRegister) → o ≡ Some (Lazy lazy) → ⊥) → found told key ≡ None
+    none : (o : Option Register) → register_at (csr_address key) ≡ o → ((lazy : LazyRegister) → o ≡ Some (Lazy lazy) → ⊥) → found told key ≡ None
     none o e other = found_no_key 0 told key are (λ is. let n : NamesCsr key = lazy_of key large is in other n.lazy (sym e ∙ n.at))
 
-    go : (o : Option Register) → register_at (key - 0x1000) ≡ o → found told key ≡ known_in csrs (register_at (key - 0x1000))
+    go : (o : Option Register) → register_at (csr_address key) ≡ o → found told key ≡ known_in csrs (register_at (csr_address key))
     go None e = rw e (none None e (λ lazy f. absurd (cc f)))
     go (Some Sstatus) e = rw e (none (Some Sstatus) e (λ lazy f. absurd (cc f)))
     go (Some Satp) e = rw e (none (Some Satp) e (λ lazy f. absurd (cc f)))
@@ -145,7 +145,7 @@ csrs_told csrs told are registers key large = go (register_at (key - 0x1000)) re
     go (Some Medeleg) e = rw e (none (Some Medeleg) e (λ lazy f. absurd (cc f)))
     go (Some Mhartid) e = rw e (none (Some Mhartid) e (λ lazy f. absurd (cc f)))
     go (Some (Lazy lazy)) e =
-        let address : address_of (Lazy lazy) ≡ key - 0x1000 = has_address (key - 0x1000) (Lazy lazy) e in
+        let address : address_of (Lazy lazy) ≡ csr_address key = has_address (csr_address key) (Lazy lazy) e in
         let is : csr_key (address_of (Lazy lazy)) ≡ key = omega (arith, address, address_positive lazy) in
         ap (found told) (sym is) ∙ registers (Lazy lazy) ∙ ap (λ (a : ℕ). lazy_value_at csrs a) address
 

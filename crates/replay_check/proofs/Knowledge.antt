@@ -1,5 +1,5 @@
 -- What is known of a hart, by keys.
-use Rattle.std.proofs.Common.{◌≡◌, ◌≢◌, ℕ, zero, suc, ◌+◌, ◌-◌, ◌<◌, ◌≤◌, List, length, Option, Some, None, if◌then◌else◌, refl, sym, ap, ◌∙◌, subst, inl, inr, arith}
+use Rattle.std.proofs.Common.{◌≡◌, ◌≢◌, ℕ, zero, suc, ◌<◌, ◌≤◌, List, length, Option, Some, None, if◌then◌else◌, refl, sym, ap, ◌∙◌, subst, inl, inr, arith}
 use Rattle.std.specs.Prelude.{nat_eq, slice_index_or, slice_set, replicate, IsTrue}
 use Rattle.std.proofs.lemmas.Bool.{cases_eq, cases_lt, eq-eqb, ne_eqb, lt-ltb, le-ltb}
 use Rattle.std.proofs.lemmas.List.{get_or-set_same, get_or-set_other, length-set, length-replicate, get_or-replicate, get_or_past}
@@ -7,7 +7,7 @@ use Rattle.rv_csr.specs.declared.table.LazyRegister.{LazyRegister}
 use Rattle.rv_csr.specs.declared.table.Register.{Register}
 use Rattle.rv_csr.specs.declared.table.Register.TheVariants.{Sstatus, Satp, Mstatus, Medeleg, Mhartid, Lazy}
 use Rattle.rv_csr.specs.State.{CsrValues, first_values, is_untouched, known_in, lazy_value, lazy_value_at, slot_of, started, with_first, with_lazy}
-use Rattle.rv_csr.specs.Table.{address_of, csr_key, register_at}
+use Rattle.rv_csr.specs.Table.{address_of, csr_key, register_at, csr_address, first_csr_key}
 use Rattle.rv_csr.proofs.LegalValues.{slots_apart}
 use Rattle.rv_csr.proofs.Places.{lazy_after, none_at_first}
 use Rattle.rv_hart.specs.Fixed.{Fixed}
@@ -24,19 +24,19 @@ pub known_small : (regs : List (Option ℕ)) (csrs : CsrValues) (key : ℕ) → 
 unfolding known_at
 known_small regs csrs key small some = rw (lt-ltb key 32 small, ne_eqb key 0 some) refl
 
-pub known_large : (regs : List (Option ℕ)) (csrs : CsrValues) (key : ℕ) → 32 ≤ key → known_at regs csrs key ≡ lazy_value_at csrs (key - 0x1000)
+pub known_large : (regs : List (Option ℕ)) (csrs : CsrValues) (key : ℕ) → 32 ≤ key → known_at regs csrs key ≡ lazy_value_at csrs (csr_address key)
 unfolding known_at
 known_large regs csrs key large = rw (le-ltb key 32 large) refl
 
 pub known_csr : (regs : List (Option ℕ)) (csrs : CsrValues) (addr : ℕ) → known_at regs csrs (csr_key addr) ≡ lazy_value_at csrs addr
 known_csr regs csrs addr =
-    let back : csr_key addr - 0x1000 ≡ addr = omega arith in
+    let back : csr_address (csr_key addr) ≡ addr = omega arith in
     known_large regs csrs (csr_key addr) (omega arith) ∙ ap (λ (a : ℕ). lazy_value_at csrs a) back
 
 -- between the registers and the CSRs there is no place
-pub known_between : (regs : List (Option ℕ)) (csrs : CsrValues) (key : ℕ) → 32 ≤ key → key < 0x1000 → known_at regs csrs key ≡ None
+pub known_between : (regs : List (Option ℕ)) (csrs : CsrValues) (key : ℕ) → 32 ≤ key → key < first_csr_key → known_at regs csrs key ≡ None
 known_between regs csrs key large small =
-    let none : key - 0x1000 ≡ 0 = omega (arith, small) in
+    let none : csr_address key ≡ 0 = omega (arith, small) in
     known_large regs csrs key large ∙ ap (λ (a : ℕ). lazy_value_at csrs a) none
 
 -- ---- after a value is given
@@ -58,20 +58,20 @@ known_reg_set regs csrs n v key size some small = elim (cases_lt key 32) [
       rw (ne_eqb n key other) (known_large (slice_set regs n (Some v)) csrs key above ∙ sym (known_large regs csrs key above))
 ]
 
-pub started_named : (csrs : CsrValues) (key v : ℕ) (named : NamesCsr key) → started (key - 0x1000) v csrs ≡ with_lazy named.lazy v csrs
+pub started_named : (csrs : CsrValues) (key v : ℕ) (named : NamesCsr key) → started (csr_address key) v csrs ≡ with_lazy named.lazy v csrs
 started_named csrs key v named = ap (λ (o : Option Register). with_first o v csrs) named.at
 
 lazy_set : (csrs : CsrValues) (key v k : ℕ) (named : NamesCsr key) → length csrs.lazy ≡ 10
-    → lazy_value_at (with_lazy named.lazy v csrs) (k - 0x1000) ≡ (if nat_eq key k then Some v else lazy_value_at csrs (k - 0x1000))
-lazy_set csrs key v k named size = go (register_at (k - 0x1000)) refl
+    → lazy_value_at (with_lazy named.lazy v csrs) (csr_address k) ≡ (if nat_eq key k then Some v else lazy_value_at csrs (csr_address k))
+lazy_set csrs key v k named size = go (register_at (csr_address k)) refl
   where
-    here : key ≡ k → register_at (k - 0x1000) ≡ Some (Lazy named.lazy)
-    here same = subst (λ (i : ℕ). register_at (i - 0x1000) ≡ Some (Lazy named.lazy)) same named.at
+    here : key ≡ k → register_at (csr_address k) ≡ Some (Lazy named.lazy)
+    here same = subst (λ (i : ℕ). register_at (csr_address i) ≡ Some (Lazy named.lazy)) same named.at
 
-    apart : (o : Option Register) → register_at (k - 0x1000) ≡ o → (Some (Lazy named.lazy) ≡ o → ⊥) → key ≢ k
+    apart : (o : Option Register) → register_at (csr_address k) ≡ o → (Some (Lazy named.lazy) ≡ o → ⊥) → key ≢ k
     apart o e differ same = differ (sym (here same) ∙ e)
 
-    go : (o : Option Register) → register_at (k - 0x1000) ≡ o → known_in (with_lazy named.lazy v csrs) o ≡ (if nat_eq key k then Some v else known_in csrs o)
+    go : (o : Option Register) → register_at (csr_address k) ≡ o → known_in (with_lazy named.lazy v csrs) o ≡ (if nat_eq key k then Some v else known_in csrs o)
     go None e = rw (ne_eqb key k (apart None e (λ f. cc))) refl
     go (Some Sstatus) e = rw (ne_eqb key k (apart (Some Sstatus) e (λ f. cc))) refl
     go (Some Satp) e = rw (ne_eqb key k (apart (Some Satp) e (λ f. cc))) refl
@@ -88,25 +88,25 @@ lazy_set csrs key v k named size = go (register_at (k - 0x1000)) refl
           rw (ne_eqb key k differ, ne_eqb (slot_of named.lazy) (slot_of other) slots) refl
     ]
       where
-        keys : named.lazy ≡ other → register_at (k - 0x1000) ≡ Some (Lazy other) → key ≡ k
+        keys : named.lazy ≡ other → register_at (csr_address k) ≡ Some (Lazy other) → key ≡ k
         keys one e =
-            let address : address_of (Lazy other) ≡ k - 0x1000 = has_address (k - 0x1000) (Lazy other) e in
+            let address : address_of (Lazy other) ≡ csr_address k = has_address (csr_address k) (Lazy other) e in
             let same : address_of (Lazy named.lazy) ≡ address_of (Lazy other) = ap (λ (r : LazyRegister). address_of (Lazy r)) one in
-            let sum : key ≡ 0x1000 + address_of (Lazy named.lazy) = named.is in
+            let sum : key ≡ csr_key (address_of (Lazy named.lazy)) = named.is in
             omega (arith, sum, same, address, address_positive other)
 
 -- as many lazy CSRs as there are after a value is given
-size_before : (csrs : CsrValues) (key v : ℕ) (named : NamesCsr key) → length (started (key - 0x1000) v csrs).lazy ≡ 10 → length csrs.lazy ≡ 10
+size_before : (csrs : CsrValues) (key v : ℕ) (named : NamesCsr key) → length (started (csr_address key) v csrs).lazy ≡ 10 → length csrs.lazy ≡ 10
 size_before csrs key v named size =
     sym (length-set csrs.lazy (slot_of named.lazy) (Some v)) ∙ ap (λ (cs : CsrValues). length cs.lazy) (sym (started_named csrs key v named)) ∙ size
 
-pub untouched_named : (regs : List (Option ℕ)) (csrs : CsrValues) (key : ℕ) → NamesCsr key → known_at regs csrs key ≡ None → IsTrue (is_untouched csrs (key - 0x1000))
+pub untouched_named : (regs : List (Option ℕ)) (csrs : CsrValues) (key : ℕ) → NamesCsr key → known_at regs csrs key ≡ None → IsTrue (is_untouched csrs (csr_address key))
 untouched_named regs csrs key named none =
     let unknown : lazy_value csrs named.lazy ≡ None = sym (ap (λ (o : Option Register). known_in csrs o) named.at) ∙ sym (known_large regs csrs key (omega (arith, named.from))) ∙ none in
     rw (named.at, unknown) refl
 
-pub known_csr_set : (regs : List (Option ℕ)) (csrs : CsrValues) (key v k : ℕ) → length (started (key - 0x1000) v csrs).lazy ≡ 10 → NamesCsr key
-    → known_at regs (started (key - 0x1000) v csrs) k ≡ (if nat_eq key k then Some v else known_at regs csrs k)
+pub known_csr_set : (regs : List (Option ℕ)) (csrs : CsrValues) (key v k : ℕ) → length (started (csr_address key) v csrs).lazy ≡ 10 → NamesCsr key
+    → known_at regs (started (csr_address key) v csrs) k ≡ (if nat_eq key k then Some v else known_at regs csrs k)
 known_csr_set regs csrs key v k after named = ap (λ (cs : CsrValues). known_at regs cs k) (started_named csrs key v named) ∙ elim (cases_lt k 32) [
   | inl below ↦
       let other : key ≢ k = λ same. absurd (omega (arith, same, named.from, below)) in
@@ -131,7 +131,7 @@ known_new hart mstatus medeleg satp key = elim (cases_lt key 32) [
     | inl none ↦ subst (λ (n : ℕ). known_at no_registers first n ≡ None) (sym none) (known_zero no_registers first)
     | inr some ↦ known_small no_registers first key below some ∙ unknown key some
   ]
-  | inr above ↦ known_large no_registers first key above ∙ go (register_at (key - 0x1000))
+  | inr above ↦ known_large no_registers first key above ∙ go (register_at (csr_address key))
 ]
   where
     first : CsrValues

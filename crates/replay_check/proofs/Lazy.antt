@@ -1,5 +1,5 @@
 -- The lazy CSRs by their addresses and their keys.
-use Rattle.std.proofs.Common.{◌≡◌, ℕ, zero, suc, ◌+◌, ◌-◌, ◌<◌, ◌≤◌, Bool, true, false, leb, ltb, ◌==◌, ◌&&◌, List, [], ◌∷◌, get_or, Some, refl, sym, ap, ◌∙◌, inl, inr, arith}
+use Rattle.std.proofs.Common.{◌≡◌, ℕ, zero, suc, ◌<◌, ◌≤◌, Bool, true, false, leb, ltb, ◌==◌, ◌&&◌, List, [], ◌∷◌, get_or, Some, refl, sym, ap, ◌∙◌, inl, inr, arith}
 use Rattle.std.specs.Prelude.{nat_eq}
 use Rattle.std.specs.List.{find, list_any}
 use Rattle.std.proofs.lemmas.Bool.{cases_Bool, eqb-true, le-ltb, and_right, or_cases}
@@ -9,7 +9,7 @@ use Rattle.rv_csr.specs.declared.table.LazyRegister.{LazyRegister}
 use Rattle.rv_csr.specs.declared.table.LazyRegister.TheVariants.{Stvec}
 use Rattle.rv_csr.specs.declared.table.Register.{Register}
 use Rattle.rv_csr.specs.declared.table.Register.TheVariants.{Lazy}
-use Rattle.rv_csr.specs.Table.{address_of, csr_key, lazy_csrs, lazy_registers, register_at, registers}
+use Rattle.rv_csr.specs.Table.{address_of, csr_key, lazy_csrs, lazy_registers, register_at, registers, csr_address, first_csr_key}
 use Rattle.tpl_admit.specs.Starts.{is_key}
 
 -- what a search finds passes
@@ -40,14 +40,14 @@ address_positive _ = omega arith
 pub record NamesCsr (key : ℕ) : Type 0 where
   pub lazy : LazyRegister
   pub is : key ≡ csr_key (address_of (Lazy lazy))
-  pub at : register_at (key - 0x1000) ≡ Some (Lazy lazy)
-  pub from : 0x1000 ≤ key
+  pub at : register_at (csr_address key) ≡ Some (Lazy lazy)
+  pub from : first_csr_key ≤ key
   pub below : key < 0x2000
 
 named : (key : ℕ) (lazy : LazyRegister) → key ≡ csr_key (address_of (Lazy lazy)) → NamesCsr key
 named key lazy is =
-    let sum : key ≡ 0x1000 + address_of (Lazy lazy) = is in
-    let back : key - 0x1000 ≡ address_of (Lazy lazy) = omega (arith, sum) in
+    let sum : key ≡ csr_key (address_of (Lazy lazy)) = is in
+    let back : csr_address key ≡ address_of (Lazy lazy) = omega (arith, sum) in
     record {
       lazy = lazy;
       is = is;

@@ -2,9 +2,9 @@
 use Rattle.std.proofs.Common.{◌≡◌, ℕ, ◌^◌, ◌<◌, ◌≤◌, List, [], ◌∷◌, length, refl, sym, subst, arith}
 use Rattle.std.proofs.lemmas.Bool.{le-leb, lt-ltb, and_from}
 use Rattle.rv_hart.specs.declared.record.Record.{Record}
-use Rattle.tpl_parse.specs.declared.template.Template.{Template}
-use Rattle.tpl_parse.specs.Form.{Parses}
-use Rattle.tpl_admit.specs.declared.certificate.HartState.{HartState}
+use Rattle.tpl_form.specs.declared.template.Template.{Template}
+use Rattle.tpl_form.specs.Form.{Parses}
+use Rattle.tpl_ast.specs.declared.template.HartState.{HartState}
 use Rattle.tpl_admit.specs.WellFormed.{IsState, IsRecord, IsWellFormed}
 
 -- a certificate of one step has a file

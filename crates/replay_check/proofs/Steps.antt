@@ -1,5 +1,5 @@
 -- A step on what is known is that of the whole hart with zero elsewhere.
-use Rattle.std.proofs.Common.{◌≡◌, ◌≢◌, ℕ, ◌-◌, ◌/◌, ◌<◌, Bool, true, false, ◌||◌, List, [], ◌∷◌, length, map, Option, Some, None, refl, sym, ap, ◌∙◌, subst, inl, inr, arith}
+use Rattle.std.proofs.Common.{◌≡◌, ◌≢◌, ℕ, ◌/◌, ◌<◌, Bool, true, false, ◌||◌, List, [], ◌∷◌, length, map, Option, Some, None, refl, sym, ap, ◌∙◌, subst, inl, inr, arith}
 use Rattle.std.specs.Prelude.{slice_index_or}
 use Rattle.std.specs.Option.{unwrap_or, is_some}
 use Rattle.std.proofs.Math.Path.{fun_ext}
@@ -27,10 +27,10 @@ use Rattle.rv_hart.specs.Changes.{IsSoundWrite, csrs_after, given_by, writes_of}
 use Rattle.rv_hart.specs.Effects.{seen_after}
 use Rattle.rv_hart.specs.View.{known, fixed_of}
 use Rattle.rv_csr.specs.State.{CsrValues, lazy_value_at}
-use Rattle.rv_csr.specs.Table.{csr_key}
+use Rattle.rv_csr.specs.Table.{csr_key, csr_address, first_csr_key}
 use Rattle.rv_hart.specs.Whole.{WholeHart, value_at, sight_of, planned, Step, step_of, file_after, hart_after}
 use Rattle.rv_hart.specs.Clauses.{Has, stepped_by, first_needed, IsMachineStep, IsDone}
-use Rattle.tpl_parse.specs.declared.template.Region.{Region}
+use Rattle.tpl_ast.specs.declared.template.Region.{Region}
 use Rattle.tpl_admit.specs.Starts.{zero_elsewhere}
 use Rattle.tpl_admit.specs.Solo.{is_set}
 use Rattle.tpl_admit.specs.Failures.{AreSet}
@@ -179,9 +179,9 @@ planned_is f xs (Some c) s e = let same = some_step e in record { change = c; wr
     some_step e = cc
 
 -- a key that is neither a register's nor a CSR's is not written
-nothing_written : (f : Fixed) (c : Change) (key : ℕ) → IsSoundWrite c.rd → key < 0x1000 → ((n : ℕ) → 0 < n → n < 32 → n ≢ key) → writes_of f c key ≡ None
+nothing_written : (f : Fixed) (c : Change) (key : ℕ) → IsSoundWrite c.rd → key < first_csr_key → ((n : ℕ) → 0 < n → n < 32 → n ≢ key) → writes_of f c key ≡ None
 nothing_written f c key sound small apart =
-    let none : key - 0x1000 ≡ 0 = omega (arith, small) in
+    let none : csr_address key ≡ 0 = omega (arith, small) in
     ap (λ (a : ℕ). given_by c.rd (lazy_value_at (csrs_after f.privilege f.pc c.control (fixed_csrs f)) a) key) none ∙ go c.rd sound
   where
     go : (rd : Option (ℕ × ℕ)) → IsSoundWrite rd → given_by rd None key ≡ None
@@ -200,11 +200,11 @@ key_follows ram given m at seen h new did start size d sound key = elim (cases_l
         no_place _ _ _ (zero_key new.regs new.csrs none) (unwritten (omega (arith, small)) apart) (zero_key h.regs h.csrs none)
     | inr some ↦ of_register small some
   ]
-  | inr large ↦ elim (cases_lt key 0x1000) [
+  | inr large ↦ elim (cases_lt key first_csr_key) [
     | inl below ↦
         let apart : (n : ℕ) → 0 < n → n < 32 → n ≢ key = λ n some small same. absurd (omega (arith, small, same, large)) in
         no_place _ _ _ (known_between new.regs new.csrs key large below) (unwritten below apart) (known_between h.regs h.csrs key large below)
-    | inr above ↦ (let is : csr_key (key - 0x1000) ≡ key = omega (arith, above) in subst (λ (k : ℕ). Follows (known_of new k) (d.step.writes k) (known_of h k)) is (of_csr (key - 0x1000)))
+    | inr above ↦ (let is : csr_key (csr_address key) ≡ key = omega (arith, above) in subst (λ (k : ℕ). Follows (known_of new k) (d.step.writes k) (known_of h k)) is (of_csr (csr_address key)))
   ]
 ]
   where
@@ -217,7 +217,7 @@ key_follows ram given m at seen h new did start size d sound key = elim (cases_l
     plan : IsPlanned (fixed_now ram h) d.step
     plan = planned_is (fixed_now ram h) _ _ d.step made.0
 
-    unwritten : key < 0x1000 → ((n : ℕ) → 0 < n → n < 32 → n ≢ key) → d.step.writes key ≡ None
+    unwritten : key < first_csr_key → ((n : ℕ) → 0 < n → n < 32 → n ≢ key) → d.step.writes key ≡ None
     unwritten small apart =
         let rd : did.rd ≡ plan.change.rd = ap (λ (r : Record). r.rd) (sym d.did) ∙ plan.rd in
         ap (λ (w : ℕ → Option ℕ). w key) plan.writes ∙ nothing_written (fixed_now ram h) plan.change key (subst IsSoundWrite rd sound) small apart

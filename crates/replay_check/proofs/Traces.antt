@@ -8,7 +8,7 @@ use Rattle.rv_hart.specs.Effects.{IsInWord, seen_after}
 use Rattle.rv_hart.specs.declared.hart.Hart.{Hart}
 use Rattle.rv_hart.specs.declared.record.Record.{Record}
 use Rattle.rv_hart.specs.Whole.{WholeHart, Step, step_of, hart_after}
-use Rattle.tpl_parse.specs.declared.template.Region.{Region}
+use Rattle.tpl_ast.specs.declared.template.Region.{Region}
 use Rattle.tpl_admit.specs.Races.{footprint_of}
 use Rattle.tpl_admit.specs.Solo.{Moment, Solo, solo, solo_on, knows_also, AreInitialised, knows_after}
 use Rattle.tpl_admit.specs.Failures.{IsRight, IsWrong, AreRight, GoesWrong}

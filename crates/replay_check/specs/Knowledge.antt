@@ -1,11 +1,12 @@
 -- What is known of a hart, by the keys of its places, and the whole hart that has zero elsewhere.
-use Rattle.std.specs.Prelude.{ℕ, ◌-◌, ◌*◌, Bool, nat_eq, nat_lt, if◌then◌else◌, List, Option, None, slice_index_or}
+use Rattle.std.specs.Prelude.{ℕ, ◌*◌, Bool, nat_eq, nat_lt, if◌then◌else◌, List, Option, None, slice_index_or}
 use Rattle.std.specs.Option.{is_some}
 use Rattle.rv_csr.specs.State.{CsrValues, lazy_value_at}
+use Rattle.rv_csr.specs.Table.{csr_address}
 use Rattle.rv_hart.specs.declared.hart.Hart.{Hart}
 use Rattle.rv_hart.specs.Fixed.{Fixed}
 use Rattle.rv_hart.specs.Whole.{WholeHart}
-use Rattle.tpl_parse.specs.declared.template.Region.{Region}
+use Rattle.tpl_ast.specs.declared.template.Region.{Region}
 use Rattle.tpl_admit.specs.Starts.{is_in, zero_elsewhere}
 
 -- the value of the place of a key, where it is known; x0 has no key
@@ -13,7 +14,7 @@ unfoldable pub known_at : List (Option ℕ) → CsrValues → ℕ → Option ℕ
 known_at regs csrs key =
     if nat_lt key 32
     then (if nat_eq key 0 then None else slice_index_or regs key None)
-    else lazy_value_at csrs (key - 0x1000)
+    else lazy_value_at csrs (csr_address key)
 
 abbrev pub known_of : Hart → ℕ → Option ℕ
 known_of h = known_at h.regs h.csrs

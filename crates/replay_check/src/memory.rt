@@ -8,7 +8,7 @@ ghost use Rattle.replay_check.specs.Memory.{given_word, Shows, IsStart};
 use crate::OutOfMemory;
 use rv_mem::{PartMem, Ram, Seen, Words};
 use std::alloc::Global;
-use tpl_parse::Region;
+use tpl_form::Region;
 
 /// A memory with this RAM of which no word is known.
 fn bare_memory(alloc: Global, ram: Region) -> Result<PartMem, OutOfMemory>

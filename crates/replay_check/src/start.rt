@@ -1,17 +1,14 @@
 // A hart as a certificate's start gives it.
 ghost use Rattle.std.specs.Prelude.{◌≡◌, ℕ, true, nat_eq, if◌then◌else◌};
 ghost use Rattle.std.specs.List.{AllByRecursion};
-ghost use Rattle.tpl_parse.specs.declared.template.Region.{Region as ARegion};
+ghost use Rattle.tpl_ast.specs.declared.template.Region.{Region as ARegion};
 ghost use Rattle.tpl_admit.specs.Starts.{found, is_key, ArePlaces, fixed_in};
 ghost use Rattle.tpl_admit.specs.WellFormed.{is_legal_place, IsState};
 ghost use Rattle.replay_check.specs.Knowledge.{known_of, fixed_now};
 
-use rv_csr::Csrs;
+use rv_csr::{Csrs, FIRST_KEY};
 use rv_hart::Hart;
 use tpl_admit::HartState;
-
-/// The key of a CSR is this plus its address.
-const CSR_KEY: u32 = 0x1000;
 
 /// Gives the place of a key its first value.
 fn give(hart: &mut Hart, key: u32, value: u32)
@@ -24,7 +21,7 @@ fn give(hart: &mut Hart, key: u32, value: u32)
     if key < 32 {
         hart.regs[key as usize] = Some(value);
     } else {
-        hart.csrs.start((key - CSR_KEY) as u16, value);
+        hart.csrs.start((key - FIRST_KEY) as u16, value);
     }
 }
 

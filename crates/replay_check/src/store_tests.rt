@@ -1,7 +1,7 @@
 // Certificates whose first step stores.
 ghost use Rattle.std.specs.Prelude.{◌≡◌, ◌%◌, ◌≤◌, ◌<◌, [], ◌∷◌, IfOk, length};
 ghost use Rattle.std.specs.List.{AllByRecursion};
-ghost use Rattle.tpl_parse.specs.Form.{Parses};
+ghost use Rattle.tpl_form.specs.Form.{Parses};
 ghost use Rattle.tpl_admit.specs.WellFormed.{IsState, IsAccess, IsRecord, IsWellFormed};
 
 use crate::{Verdict, check};
@@ -10,7 +10,7 @@ use rv_script::{Access, Accesses, Role};
 use std::alloc::{AllocError, Global};
 use std::test::Fail;
 use tpl_admit::{Cert, HartState};
-use tpl_parse::{Items, Template, parse};
+use tpl_form::{Items, Template, parse};
 
 const BASE: u32 = 0x8000_0000;
 

@@ -1,6 +1,6 @@
 ghost use Rattle.std.specs.Prelude.{◌≡◌, ◌%◌, ◌≤◌, ◌<◌, true, [], ◌∷◌, IfOk, length};
 ghost use Rattle.std.specs.List.{AllByRecursion};
-ghost use Rattle.tpl_parse.specs.Form.{Parses};
+ghost use Rattle.tpl_form.specs.Form.{Parses};
 ghost use Rattle.tpl_admit.specs.Starts.{ArePlaces};
 ghost use Rattle.tpl_admit.specs.WellFormed.{is_legal_place, IsState, IsRecord, IsWellFormed};
 
@@ -10,7 +10,7 @@ use rv_script::{Access, Accesses, Role};
 use std::alloc::{AllocError, Global};
 use std::test::Fail;
 use tpl_admit::{Cert, HartState, Unmet, admits};
-use tpl_parse::{Items, Template, parse};
+use tpl_form::{Items, Template, parse};
 
 const BASE: u32 = 0x8000_0000;
 

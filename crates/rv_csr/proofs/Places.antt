@@ -1,6 +1,6 @@
 -- Lazy registers by their addresses, and what a write of one leaves of the others.
-use Rattle.std.proofs.Common.{◌≡◌, ◌≢◌, ℕ, List, length, Option, Some, None, refl, sym, ap, ◌∙◌, subst, inl, inr, get_or, get_or-set_same, get_or-set_other, if◌then◌else◌}
-use Rattle.std.specs.Prelude.{slice_set, slice_index_or, replicate, nat_eq}
+use Rattle.std.proofs.Common.{◌≡◌, ℕ, length, Some, None, refl, sym, subst, inl, inr, get_or-set_same, get_or-set_other, if◌then◌else◌}
+use Rattle.std.specs.Prelude.{slice_set, slice_index_or, nat_eq}
 use Rattle.std.proofs.lemmas.Bool.{cases_eq, eq-eqb, ne_eqb}
 use Rattle.rv_csr.specs.declared.table.LazyRegister.{LazyRegister}
 use Rattle.rv_csr.specs.declared.table.LazyRegister.TheVariants.{Stvec}

@@ -1,5 +1,5 @@
 -- The table of the modelled registers: names, addresses and legal values.
-use Rattle.std.specs.Prelude.{ℕ, ◌+◌, ◌/◌, ◌%◌, ◌^◌, Bool, true, false, not, ◌&&◌, ◌||◌, ◌==◌, nat_le, nat_lt, bit_and, List, [], ◌∷◌, Option, Some, None, find, map, codes}
+use Rattle.std.specs.Prelude.{ℕ, ◌+◌, ◌-◌, ◌/◌, ◌%◌, ◌^◌, Bool, true, false, not, ◌&&◌, ◌||◌, ◌==◌, nat_le, nat_lt, bit_and, List, [], ◌∷◌, Option, Some, None, find, map, codes}
 use Rattle.rv_csr.specs.declared.cause.Cause.TheVariants.{CallFromM}
 use Rattle.rv_csr.specs.declared.table.Register.{Register}
 use Rattle.rv_csr.specs.declared.table.Register.TheVariants.{Sstatus, Satp, Mstatus, Medeleg, Mhartid, Lazy}
@@ -80,9 +80,17 @@ address_of register = (row_of register).address
 abbrev pub lazy_csrs : List ℕ
 lazy_csrs = map (λ register. address_of (Lazy register)) lazy_registers
 
--- the key of a register among a hart's places
+-- the keys of a hart's places: below this one stand those of its registers, and from it on those of CSRs, by their addresses
+abbrev pub first_csr_key : ℕ
+first_csr_key = 0x1000
+
+-- the key of the CSR at an address
 abbrev pub csr_key : ℕ → ℕ
-csr_key address = 0x1000 + address
+csr_key address = first_csr_key + address
+
+-- the address of a CSR's key
+abbrev pub csr_address : ℕ → ℕ
+csr_address key = key - first_csr_key
 
 -- the value is legal for the register
 abbrev pub is_legal : Register → ℕ → Bool

@@ -20,5 +20,7 @@ pub use csrs::Csrs;
 pub use laws::{csr_laws, place_laws};
 pub use privilege::Priv;
 pub use status::Flag;
-pub use table::{LazyRegister, REGISTERS, Register, Row, Values, legal, register_at, row_of};
+pub use table::{
+    FIRST_KEY, LazyRegister, REGISTERS, Register, Row, Values, legal, register_at, row_of,
+};
 pub use traps::vector_register;

@@ -57,6 +57,9 @@ pub const REGISTERS: [Register; 15] = [
 /// The bits of mstatus that sstatus shows: SIE, SPIE, SPP, SUM and MXR (Privileged, 4.1.1).
 pub const SSTATUS: u32 = 0x000c_0122;
 
+/// The key of address 0 among the places of a hart. Those of its integer registers stand below.
+pub const FIRST_KEY: u32 = 0x1000;
+
 /// Which words may be written to a register.
 #[derive(Clone, Copy, Debug, PartialEq, Eq)]
 pub enum Values {
@@ -137,11 +140,11 @@ impl Row {
         self.address
     }
 
-    /// The register's key among the places of a hart: 0x1000 and its address.
+    /// The register's key among the places of a hart.
     pub fn key(&self) -> u32
         ensures { result ≡ csr_key self.now.address }
     {
-        0x1000 + u32::from(self.address)
+        FIRST_KEY + u32::from(self.address)
     }
 
     /// Whether the value is legal for the register.

@@ -1,5 +1,5 @@
 -- What is known after a step.
-use Rattle.std.proofs.Common.{◌≡◌, ◌≢◌, ℕ, ◌-◌, ◌*◌, ◌/◌, ◌<◌, ◌≤◌, Bool, true, false, ◌||◌, List, [], ◌∷◌, length, Option, Some, None, if◌then◌else◌, refl, sym, ap, ◌∙◌, subst, inl, inr, arith}
+use Rattle.std.proofs.Common.{◌≡◌, ◌≢◌, ℕ, ◌*◌, ◌/◌, ◌<◌, ◌≤◌, Bool, true, false, ◌||◌, List, [], ◌∷◌, length, Option, Some, None, if◌then◌else◌, refl, sym, ap, ◌∙◌, subst, inl, inr, arith}
 use Rattle.std.specs.Prelude.{nat_eq, slice_index_or, slice_set}
 use Rattle.std.specs.Option.{is_some, unwrap_or}
 use Rattle.std.proofs.Math.Path.{fun_ext}
@@ -11,7 +11,7 @@ use Rattle.rv_mem.specs.declared.words.Seen.TheVariants.{Known as KnownWord, Unt
 use Rattle.rv_mem.specs.Seen.{known_word, is_there}
 use Rattle.rv_csr.specs.declared.privilege.Priv.{Priv}
 use Rattle.rv_csr.specs.State.{CsrValues, lazy_value_at}
-use Rattle.rv_csr.specs.Table.{csr_key}
+use Rattle.rv_csr.specs.Table.{csr_address, csr_key}
 use Rattle.rv_script.specs.declared.access.Access.{Access}
 use Rattle.rv_script.specs.declared.place.Place.{Place}
 use Rattle.rv_script.specs.declared.place.Place.TheVariants.{Reg, Csr, Word}
@@ -26,9 +26,9 @@ use Rattle.rv_hart.specs.Fixed.{Fixed, fixed_csrs}
 use Rattle.rv_hart.specs.Machine.{script}
 use Rattle.rv_hart.specs.Registers.{written}
 use Rattle.rv_hart.specs.View.{known, fixed_of, change_in}
-use Rattle.rv_hart.specs.Whole.{value_at, record_of, file_after}
+use Rattle.rv_hart.specs.Whole.{value_at, record_of, step_by, file_after}
 use Rattle.rv_hart.proofs.Overlays.{or_old, over_control, over_at}
-use Rattle.rv_hart.proofs.Steps.{step_by, takes}
+use Rattle.rv_hart.proofs.Steps.{takes}
 
 -- ---- words
 
@@ -82,17 +82,17 @@ reg_set regs w n size small = elim (cases_eq w.0 n) [
 -- ---- what a step writes
 
 -- to a register but x0
-write_at_register : (rd : Option (ℕ × ℕ)) (csrs : CsrValues) (n : ℕ) → n < 32 → given_by rd (lazy_value_at csrs (n - 0x1000)) n ≡ given_by rd None n
+write_at_register : (rd : Option (ℕ × ℕ)) (csrs : CsrValues) (n : ℕ) → n < 32 → given_by rd (lazy_value_at csrs (csr_address n)) n ≡ given_by rd None n
 write_at_register rd csrs n small =
-    let none : n - 0x1000 ≡ 0 = omega (arith, small) in
+    let none : csr_address n ≡ 0 = omega (arith, small) in
     ap (λ (k : ℕ). given_by rd (lazy_value_at csrs k) n) none
 
 -- to a CSR
-write_at_csr : (rd : Option (ℕ × ℕ)) (other : ℕ → Option ℕ) (addr : ℕ) → IsSoundWrite rd → given_by rd (other (csr_key addr - 0x1000)) (csr_key addr) ≡ other addr
-write_at_csr None other addr sound = let back : csr_key addr - 0x1000 ≡ addr = omega arith in ap other back
+write_at_csr : (rd : Option (ℕ × ℕ)) (other : ℕ → Option ℕ) (addr : ℕ) → IsSoundWrite rd → given_by rd (other (csr_address (csr_key addr))) (csr_key addr) ≡ other addr
+write_at_csr None other addr sound = let back : csr_address (csr_key addr) ≡ addr = omega arith in ap other back
 write_at_csr (Some w) other addr sound =
     let apart : w.0 ≢ csr_key addr = λ same. absurd (omega (arith, same, (sound w refl).1)) in
-    let back : csr_key addr - 0x1000 ≡ addr = omega arith in
+    let back : csr_address (csr_key addr) ≡ addr = omega arith in
     rw (ne_eqb w.0 (csr_key addr) apart) (ap other back)
 
 -- the registers after a write

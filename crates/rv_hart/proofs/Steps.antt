@@ -13,12 +13,11 @@ use Rattle.rv_hart.specs.declared.record.Change.{Change}
 use Rattle.rv_hart.specs.declared.record.Record.{Record}
 use Rattle.rv_hart.specs.declared.record.Stepped.{Stepped}
 use Rattle.rv_hart.specs.declared.record.Stepped.TheVariants.{Did, Missing, Outside}
-use Rattle.rv_hart.specs.Changes.{fixed_after, writes_of}
 use Rattle.rv_hart.specs.Fixed.{Fixed}
 use Rattle.rv_hart.specs.Machine.{script}
-use Rattle.rv_hart.specs.Whole.{WholeHart, sight_of, record_of, Step, planned, sighted_step_of, step_of, needed_places}
+use Rattle.rv_hart.specs.Whole.{sight_of, record_of, Step, planned, sighted_step_of, step_by}
 use Rattle.rv_hart.specs.View.{shown}
-use Rattle.rv_hart.specs.Clauses.{Has, stepped_by, IsMachineStep, zero_filled, IsLocalStep}
+use Rattle.rv_hart.specs.Clauses.{stepped_by, IsMachineStep, zero_filled, IsLocalStep, ToldAreTaken}
 
 shown_by : (f : Fixed) (missing : Option Place) (xs : List Access) (o : Option Change) → shown f (answer_by missing xs o) ≡ stepped_by missing (planned f xs o)
 shown_by f (Some place) xs o = refl
@@ -35,10 +34,6 @@ machine_step f known result e h words has =
 
 filled_extends : (known : Known) → Extends (by_known known) (zero_filled known)
 filled_extends known q v e = rw e refl
-
--- the step of a change
-abbrev pub step_by : Fixed → List Access → Change → Step
-step_by f xs c = record { did = record_of f xs c; fixed = fixed_after f c; writes = writes_of f c }
 
 -- what was done shows that nothing was missing
 did : (f : Fixed) (missing : Option Place) (xs : List Access) (o : Option Change) (r : Record) → Did r ≡ shown f (answer_by missing xs o) → (c : Change) × (o ≡ Some c) × (record_of f xs c ≡ r)
@@ -71,11 +66,6 @@ does (Some place) xs ys o a e = absurd cc
 does None xs ys None a e = absurd cc
 does None xs ys (Some b) a e = (refl, cc, cc)
 
--- a step that is told on what is known is that of each whole hart that has it, and rests on what is known
-pub record Takes (f : Fixed) (known : Known) (h : WholeHart) (words : ℕ → ℕ) (xs : List Access) (c : Change) : Type 0 where
-  pub step : step_of h words ≡ Some (step_by f xs c)
-  pub needs : (place : Place) → HasItem (needed_places h words) place → IsSome (known place)
-
 none_missing : (tell : Teller) (log : List Entry) → first_missing tell log ≡ None → (place : Place) → HasItem (map (λ (e : Entry). place_of e.question) log) place
     → (e : Entry) × (place_of e.question ≡ place) × IsSome (tell e.question)
 none_missing tell [] none place h = absurd h
@@ -90,7 +80,7 @@ none_missing tell (e ∷ log) none place h = go (tell e.question) refl (none_mis
       | inr there ↦ later none place there
     ]
 
-pub takes : (f : Fixed) (known : Known) (h : WholeHart) (words : ℕ → ℕ) (xs : List Access) (c : Change) → Has f known h words → answer_on known (script f) ≡ Does xs c → Takes f known h words xs c
+pub takes : ToldAreTaken
 takes f known h words xs c has answered =
     let see : Sight = sight_of h.file words in
     let w = whole access_of (script f) (by_known known) see (λ q v t. has.values (place_of q) v t) in

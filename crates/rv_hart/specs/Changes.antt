@@ -1,10 +1,10 @@
 -- What a step does to its hart.
-use Rattle.std.specs.Prelude.{◌≡◌, ℕ, ◌-◌, ◌%◌, ◌<◌, true, nat_eq, if◌then◌else◌, Option, Some, None, IsTrue, IsSome}
+use Rattle.std.specs.Prelude.{◌≡◌, ℕ, ◌%◌, ◌<◌, true, nat_eq, if◌then◌else◌, Option, Some, None, IsTrue, IsSome}
 use Rattle.std.specs.Option.{ForSome}
 use Rattle.rv_csr.specs.declared.privilege.Priv.{Priv}
 use Rattle.rv_csr.specs.declared.table.LazyRegister.TheVariants.{Mepc, Sepc}
 use Rattle.rv_csr.specs.Causes.{is_cause}
-use Rattle.rv_csr.specs.Table.{is_legal}
+use Rattle.rv_csr.specs.Table.{csr_address, is_legal}
 use Rattle.rv_csr.specs.Status.{mpp_of, spp_of}
 use Rattle.rv_csr.specs.State.{CsrValues, lazy_value, lazy_value_at, with_value}
 use Rattle.rv_csr.specs.Traps.{after_mret, after_sret, takes_trap, trapped, vector_register}
@@ -52,9 +52,9 @@ abbrev pub given_by : Option (ℕ × ℕ) → Option ℕ → ℕ → Option ℕ
 given_by None other key = other
 given_by (Some w) other key = if nat_eq w.0 key then Some w.1 else other
 
--- the values that a step gives to registers and lazy CSRs, by the keys of their places: a register's number, or 0x1000 and a CSR's address
+-- the values that a step gives to registers and lazy CSRs, by the keys of their places: a register's number or the key of a CSR's address
 abbrev pub writes_of : Fixed → Change → ℕ → Option ℕ
-writes_of f c key = given_by c.rd (lazy_value_at (csrs_after f.privilege f.pc c.control (fixed_csrs f)) (key - 0x1000)) key
+writes_of f c key = given_by c.rd (lazy_value_at (csrs_after f.privilege f.pc c.control (fixed_csrs f)) (csr_address key)) key
 
 -- only x1 to x31 are written
 abbrev pub IsSoundWrite : Option (ℕ × ℕ) → Type 0

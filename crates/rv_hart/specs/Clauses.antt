@@ -1,18 +1,20 @@
 -- What a step on known places says of whole harts and memories.
-use Rattle.std.specs.Prelude.{◌≡◌, ◌↔◌, ℕ, ◌%◌, Bool, false, ◌&&◌, ◌||◌, nat_lt, All, IsTrue, Option, Some, None}
+use Rattle.std.specs.Prelude.{◌≡◌, ◌↔◌, ℕ, ◌%◌, Bool, false, ◌&&◌, ◌||◌, nat_lt, All, IsTrue, IsSome, List, Option, Some, None}
 use Rattle.std.specs.Option.{unwrap_or, is_some}
 use Rattle.rv_isa.specs.declared.operation.Op.{Op}
 use Rattle.rv_isa.specs.Arithmetic.{IsTaken}
 use Rattle.rv_csr.specs.declared.privilege.Priv.{Priv}
 use Rattle.rv_csr.specs.State.{CsrValues}
 use Rattle.rv_csr.specs.Table.{csr_key}
+use Rattle.rv_script.specs.declared.access.Access.{Access}
 use Rattle.rv_script.specs.declared.place.Place.{Place}
 use Rattle.rv_script.specs.declared.place.Place.TheVariants.{Reg, Csr, Word}
 use Rattle.rv_script.specs.Lists.{HasItem}
 use Rattle.rv_script.specs.Script.{place_of}
-use Rattle.rv_script.specs.Folds.{Known, by_known, Sight, Entry, asked_of, first_missing}
+use Rattle.rv_script.specs.Folds.{Known, by_known, Sight, Entry, Answer.Does as DoesSo, answer_on, asked_of, first_missing}
 use Rattle.rv_script.specs.Laws.{IsSeenAlike}
 use Rattle.rv_script.specs.Memory.{memory_after}
+use Rattle.rv_hart.specs.declared.record.Change.{Change}
 use Rattle.rv_hart.specs.declared.record.Record.{Record}
 use Rattle.rv_hart.specs.declared.record.Stepped.{Stepped}
 use Rattle.rv_hart.specs.declared.record.Stepped.TheVariants.{Did, Missing, Outside}
@@ -22,7 +24,7 @@ use Rattle.rv_hart.specs.Changes.{IsSoundChange, IsSoundWrite}
 use Rattle.rv_hart.specs.Effects.{IsInWord}
 use Rattle.rv_hart.specs.Fixed.{Fixed}
 use Rattle.rv_hart.specs.Machine.{script, is_taken}
-use Rattle.rv_hart.specs.Whole.{WholeHart, value_at, sight_of, Step, step_of, hart_after}
+use Rattle.rv_hart.specs.Whole.{WholeHart, value_at, sight_of, Step, step_by, step_of, needed_places, hart_after}
 
 -- a whole hart and memory have these fixed parts and all that is known
 pub record Has (f : Fixed) (known : Known) (h : WholeHart) (words : ℕ → ℕ) : Type 0 where
@@ -102,6 +104,16 @@ abbrev pub IsSoundStep : Stepped → Type 0
 IsSoundStep (Did r) = IsSoundRecord r
 IsSoundStep (Missing place) = Unit {0}
 IsSoundStep Outside = Unit {0}
+
+-- a whole hart makes the step of a change, and needs no place that is not known
+pub record Takes (f : Fixed) (known : Known) (h : WholeHart) (words : ℕ → ℕ) (accesses : List Access) (c : Change) : Type 0 where
+  pub step : step_of h words ≡ Some (step_by f accesses c)
+  pub needs : (place : Place) → HasItem (needed_places h words) place → IsSome (known place)
+
+-- what is told on known places is what each whole hart and memory that have them do
+abbrev pub ToldAreTaken : Type 0
+ToldAreTaken = (f : Fixed) (known : Known) (h : WholeHart) (words : ℕ → ℕ) (accesses : List Access) (c : Change) → Has f known h words
+    → answer_on known (script f) ≡ DoesSo accesses c → Takes f known h words accesses c
 
 -- a branch is taken where its condition holds (Unprivileged, 2.5.2)
 abbrev pub TakenAreTaken : Type 0

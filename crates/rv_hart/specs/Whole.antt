@@ -13,7 +13,7 @@ use Rattle.rv_hart.specs.Changes.{fixed_after, outcome_of, writes_of}
 use Rattle.rv_hart.specs.Fixed.{Fixed}
 use Rattle.rv_hart.specs.Machine.{script}
 
--- a hart of which all is known: registers and lazy CSRs by the keys of their places, a register's number, or 0x1000 and a CSR's address
+-- a hart of which all is known: registers and lazy CSRs by the keys of their places, a register's number or the key of a CSR's address
 pub record WholeHart : Type 0 where
   pub fixed : Fixed
   pub file : ℕ → ℕ
@@ -46,9 +46,13 @@ pub record Step : Type 0 where
   pub fixed : Fixed
   pub writes : ℕ → Option ℕ
 
+-- the step of a change
+abbrev pub step_by : Fixed → List Access → Change → Step
+step_by f accesses c = record { did = record_of f accesses c; fixed = fixed_after f c; writes = writes_of f c }
+
 abbrev pub planned : Fixed → List Access → Option Change → Option Step
 planned f accesses None = None
-planned f accesses (Some c) = Some (record { did = record_of f accesses c; fixed = fixed_after f c; writes = writes_of f c })
+planned f accesses (Some c) = Some (step_by f accesses c)
 
 -- the step where the words that each question sees are those of a sight
 abbrev pub sighted_step_of : Fixed → Sight → Option Step

@@ -176,7 +176,7 @@ type Exchange = (
     &'static [(u16, u32)],
 );
 
-const EXCHANGES: [Exchange; 18] = [
+const EXCHANGES: [Exchange; 22] = [
     // csrrw x0, mscratch, x5, which does not read
     (0x3402_9073, Priv::M, &[], &[(5, 7)], None, &[(MSCRATCH, 7)]),
     // csrrwi x0, mscratch, 3
@@ -273,6 +273,39 @@ const EXCHANGES: [Exchange; 18] = [
         &[(5, 1)],
         Some((1, 0x8008_0001)),
         &[(SATP, 0x8008_0000)],
+    ),
+    // csrrs x1, satp, x5, and csrrsi x1, satp, 5, csrrci x1, satp, 1 and csrrwi x1, satp, 0
+    (
+        0x1802_A0F3,
+        Priv::S,
+        &[],
+        &[(5, 0x8008_0001)],
+        Some((1, 0)),
+        &[(SATP, 0x8008_0001)],
+    ),
+    (
+        0x1802_E0F3,
+        Priv::M,
+        &[(SATP, 0x8008_0000)],
+        &[],
+        Some((1, 0x8008_0000)),
+        &[(SATP, 0x8008_0005)],
+    ),
+    (
+        0x1800_F0F3,
+        Priv::M,
+        &[(SATP, 0x8008_0001)],
+        &[],
+        Some((1, 0x8008_0001)),
+        &[(SATP, 0x8008_0000)],
+    ),
+    (
+        0x1800_50F3,
+        Priv::M,
+        &[(SATP, 0x8008_0001)],
+        &[],
+        Some((1, 0x8008_0001)),
+        &[(SATP, 0)],
     ),
     // csrrs x0, mstatus, x5, and csrrw x1, mstatus, x5
     (

@@ -21,7 +21,7 @@ mod tests;
 mod trap_tests;
 
 pub use hart::Hart;
-pub use laws::branch_law;
+pub use laws::{branch_law, step_law};
 pub use record::{Change, Control, Outcome, Record, Stepped};
 pub use rv_csr::{Csrs, Priv};
 pub use rv_mem::{Mem, Seen, Words};

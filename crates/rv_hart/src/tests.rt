@@ -4,7 +4,9 @@ use crate::fixtures::{
     BEYOND, DATA, NEXT, NUMBER, RAM, SATP, Told, assert_did, assert_lacks, assert_none, hart_with,
     known, load_of, retired, store_of, told_by, untouched,
 };
-use crate::{Access, Csrs, Hart, Mem, Place, Priv, Seen, Stepped, Words, branch_law, look, step};
+use crate::{
+    Access, Csrs, Hart, Mem, Place, Priv, Seen, Stepped, Words, branch_law, look, step, step_law,
+};
 use rv_mem::PartMem;
 use std::alloc::Global;
 use std::process::Abort;
@@ -61,6 +63,7 @@ fn a_new_hart_knows_x0_alone(rt: HostRuntime) {
     assert_eq!(rt; hart.privilege, Priv::S);
     assert_eq!(rt; hart.csrs, Csrs::new(3, 0x1800, 0xB3FF, 0x8000_0000));
     branch_law();
+    step_law();
 }
 
 #[test]

@@ -50,6 +50,9 @@ fn traps_and_returns_change_the_status(rt: HostRuntime) {
     let csrs = [(MEDELEG, 0xB3FB), (MTVEC, 0x8000_0200)];
     let mut hart = hart_with(&rt, RAM, Priv::U, &csrs, &none);
     assert_traps(&rt, a, &mut hart, word, 2, 0xF140_20F3, Priv::M, 0);
+    let csrs = [(MEDELEG, 0x4), (STVEC, 0x8000_0400)];
+    let mut hart = hart_with(&rt, RAM, Priv::U, &csrs, &none);
+    assert_traps(&rt, a, &mut hart, word, 2, 0xF140_20F3, Priv::S, 0);
 }
 
 #[test]

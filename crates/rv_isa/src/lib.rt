@@ -8,8 +8,10 @@
 mod arithmetic;
 mod decoding;
 mod encoding;
+mod fields;
 mod instruction;
 mod laws;
+mod names;
 mod operation;
 mod parts;
 mod table;
@@ -21,4 +23,5 @@ pub use decoding::decode;
 pub use encoding::encode;
 pub use instruction::Instr;
 pub use laws::codec_laws;
-pub use operation::Op;
+pub use names::name_of;
+pub use operation::{OPS, Op};

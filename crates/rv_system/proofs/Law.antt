@@ -16,7 +16,7 @@ use Rattle.tpl_admit.specs.Starts.{found, start_of, final_of, trace_of, word_of,
 use Rattle.tpl_admit.specs.Races.{footprint_of}
 use Rattle.tpl_admit.specs.Solo.{Moment, solo, solo_on, knows_also, AreInitialised, knows_after}
 use Rattle.tpl_admit.specs.Validity.{in_turn, IsHartValid, IsSound}
-use Rattle.tpl_parse.specs.declared.template.Region.{Region}
+use Rattle.tpl_ast.specs.declared.template.Region.{Region}
 use Rattle.tpl_admit.specs.Faithfulness.{IsFinished, IsFaithful}
 use Rattle.rv_system.proofs.Steps.{step_word}
 use Rattle.rv_system.proofs.Memory.{HoldsWords, has_cases, in_turn_none, in_turn_agree, in_turn_at, in_turn_apart}

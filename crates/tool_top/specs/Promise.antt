@@ -2,9 +2,9 @@
 use Rattle.std.specs.Prelude.{◌≡◌, ℕ, ◌==◌, if◌then◌else◌, List, [], drop, take, codes, Some, length, ◌<◌, Bool, true, false, ◌||◌, ◌⊎◌, ⊤}
 use Rattle.std.specs.declared.option.Option.{Option}
 use Rattle.std.specs.Io.KnownBytes.{Appends}
-use Rattle.streams.specs.Sink.{GrowsByPrefix, Tells}
-use Rattle.tpl_parse.specs.declared.template.Template.{Template}
-use Rattle.tpl_parse.specs.Form.{Parses}
+use Rattle.streams.specs.Sink.{GrowsByPrefix}
+use Rattle.tpl_form.specs.declared.template.Template.{Template}
+use Rattle.tpl_form.specs.Form.{Parses}
 use Rattle.tpl_admit.specs.declared.certificate.Cert.{Cert}
 use Rattle.tpl_admit.specs.Validity.{IsValid}
 use Rattle.tpl_admit.specs.Faithfulness.{IsFaithful}

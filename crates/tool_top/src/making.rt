@@ -15,7 +15,7 @@ use gen_engine::generate;
 use replay_check::{Verdict, check};
 use std::alloc::Global;
 use tpl_admit::Cert;
-use tpl_parse::{ParseError, parse};
+use tpl_form::{ParseError, parse};
 use trace_text::{malformed, report, verdict};
 
 /// What a command writes: to `out`, and beside that to `report`.

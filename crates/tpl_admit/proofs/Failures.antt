@@ -6,7 +6,7 @@ use Rattle.rv_isa.specs.Encoding.{IsEncoded}
 use Rattle.rv_isa.proofs.Codec.{read_encoded}
 use Rattle.rv_hart.specs.declared.record.Record.{Record}
 use Rattle.rv_hart.specs.declared.record.Outcome.{Outcome}
-use Rattle.tpl_parse.specs.declared.template.Leaf.{Leaf}
+use Rattle.tpl_form.specs.declared.template.Leaf.{Leaf}
 use Rattle.tpl_admit.specs.declared.certificate.Cert.{Cert}
 use Rattle.tpl_admit.specs.declared.admission.Unmet.{Unmet}
 use Rattle.tpl_admit.specs.Starts.{trace_of}

@@ -2,7 +2,7 @@
 use Rattle.std.proofs.Common.{◌≡◌, ℕ, ◌+◌, ◌<◌, List, [], ◌∷◌, drop, length, get_or, Option, Some, refl, sym, subst, inl, inr, ap, ◌∙◌}
 use Rattle.std.proofs.lemmas.List.{drop_more}
 use Rattle.rv_hart.specs.declared.record.Record.{Record}
-use Rattle.tpl_parse.specs.declared.template.Leaf.{Leaf}
+use Rattle.tpl_form.specs.declared.template.Leaf.{Leaf}
 use Rattle.tpl_admit.specs.Admission.{Meets, AreMet}
 use Rattle.tpl_admit.specs.Unmet.{FailsOn, FailsFrom}
 

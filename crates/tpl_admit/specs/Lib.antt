@@ -2,6 +2,11 @@ pub mod System
 pub mod Starts
 pub mod Races
 pub mod Solo
+pub mod Variables
+pub mod Truth
+pub mod Moments
+pub mod Admitting
+pub mod Walks
 pub mod Admission
 pub mod Validity
 pub mod Faithfulness

@@ -7,9 +7,9 @@ use Rattle.rv_hart.specs.declared.record.Record.{Record}
 use Rattle.rv_hart.specs.Fixed.{Fixed}
 use Rattle.rv_csr.specs.Table.{csr_key, lazy_csrs}
 use Rattle.rv_hart.specs.Whole.{WholeHart}
-use Rattle.tpl_parse.specs.declared.template.Region.{Region}
+use Rattle.tpl_ast.specs.declared.template.Region.{Region}
 use Rattle.tpl_admit.specs.declared.certificate.Cert.{Cert}
-use Rattle.tpl_admit.specs.declared.certificate.HartState.{HartState}
+use Rattle.tpl_ast.specs.declared.template.HartState.{HartState}
 use Rattle.tpl_admit.specs.System.{System}
 
 -- the value that a list of pairs gives to a key

@@ -1,15 +1,15 @@
 -- Which certificates have a file: values that a file can hold, within its limits.
-use Rattle.std.specs.Prelude.{◌≡◌, ℕ, ◌+◌, ◌-◌, ◌*◌, ◌%◌, ◌^◌, ◌<◌, ◌≤◌, Bool, true, ◌||◌, ◌==◌, nat_lt, List, [], ◌∷◌, length, sum_by, Option, Some, None}
+use Rattle.std.specs.Prelude.{◌≡◌, ℕ, ◌*◌, ◌%◌, ◌^◌, ◌<◌, ◌≤◌, Bool, true, ◌||◌, ◌==◌, nat_lt, length, sum_by, Option, Some, None}
 use Rattle.std.specs.List.{AllByRecursion}
-use Rattle.rv_csr.specs.Table.{is_legal_at}
+use Rattle.rv_csr.specs.Table.{csr_address, is_legal_at}
 use Rattle.rv_csr.specs.Causes.{is_cause}
 use Rattle.rv_script.specs.declared.access.Access.{Access}
 use Rattle.rv_hart.specs.declared.record.Outcome.{Outcome}
 use Rattle.rv_hart.specs.declared.record.Outcome.TheVariants.{Retired, Trap}
 use Rattle.rv_hart.specs.declared.record.Record.{Record}
-use Rattle.tpl_parse.specs.Form.{Parses}
+use Rattle.tpl_form.specs.Form.{Parses}
 use Rattle.tpl_admit.specs.declared.certificate.Cert.{Cert}
-use Rattle.tpl_admit.specs.declared.certificate.HartState.{HartState}
+use Rattle.tpl_ast.specs.declared.template.HartState.{HartState}
 use Rattle.tpl_admit.specs.Starts.{ArePlaces, AreStartWords}
 use Rattle.tpl_admit.specs.Sizes.{file_size}
 
@@ -18,7 +18,7 @@ IsWord n = n < 2 ^ 32
 
 -- the value of a place is legal: any word for a register, and for a CSR what its row of the table allows
 abbrev pub is_legal_place : ℕ × ℕ → Bool
-is_legal_place e = nat_lt e.0 32 || is_legal_at (e.0 - 0x1000) e.1
+is_legal_place e = nat_lt e.0 32 || is_legal_at (csr_address e.0) e.1
 
 -- the fixed parts and the places of a hart
 pub record IsState (s : HartState) : Type 0 where

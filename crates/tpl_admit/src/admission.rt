@@ -10,7 +10,7 @@ ghost use Rattle.tpl_admit.specs.WellFormed.{IsWellFormed};
 use crate::{Cert, HartState};
 use rv_hart::{Outcome, Priv, Record};
 use rv_isa::{Op, decode};
-use tpl_parse::Leaf;
+use tpl_form::Leaf;
 
 /// What stands for an atom where what fails is none.
 const NO_ATOM: u32 = 65_535;

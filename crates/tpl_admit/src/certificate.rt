@@ -1,19 +1,6 @@
-use rv_hart::{Priv, Record};
-use tpl_parse::{Items, Template};
-
-/// The fixed parts of a hart, and the values of some of its lazy places.
-#[derive(Drop)]
-pub struct HartState {
-    /// The address of the next instruction.
-    pub pc: u32,
-    pub privilege: Priv,
-    pub mstatus: u32,
-    pub medeleg: u32,
-    pub satp: u32,
-    /// Pairs of key and value by ascending key. The key of a register is its number, 1 to 31, and that of a CSR is
-    /// 0x1000 plus its address.
-    pub places: Items<(u32, u32)>,
-}
+use rv_hart::Record;
+use tpl_ast::{HartState, Items};
+use tpl_form::Template;
 
 /// A test with all that it promises, hart by hart.
 #[derive(Drop)]

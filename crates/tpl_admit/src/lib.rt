@@ -4,6 +4,16 @@
 
 mod admission;
 mod certificate;
+mod dropped;
+mod harts;
+mod judging;
+mod moment;
+#[cfg(test)]
+mod tests;
+mod walking;
 
 pub use admission::{Unmet, admits, least_failures_are_unique};
-pub use certificate::{Cert, HartState};
+pub use certificate::Cert;
+pub use dropped::{Dropped, Why};
+pub use judging::Trace;
+pub use tpl_ast::HartState;

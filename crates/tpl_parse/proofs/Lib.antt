@@ -1,6 +1,11 @@
+pub mod LineEnds
 pub mod Digits
-pub mod Literals
-pub mod Numbers
-pub mod Lines
-pub mod Leaves
-pub mod Registers
+pub mod Pieces
+pub mod Lists
+pub mod Bodies
+pub mod Insertions
+pub mod Frames
+pub mod Aligns
+pub mod Multiples
+pub mod Faults
+pub mod Runs

@@ -1,86 +1,90 @@
--- Reading a template from left to right: the value at the front of a text, and what stands behind it.
--- The parser's inner functions are stated by this, and no public contract is: what a text says stands in Form.
-use Rattle.std.specs.Prelude.{◌≡◌, ℕ, ◌+◌, ◌-◌, ◌*◌, ◌%◌, ◌^◌, List, [], ◌∷◌, length, Some, None, nat_lt, ◌==◌, if◌then◌else◌, codes}
-use Rattle.std.specs.declared.option.Option.{Option}
-use Rattle.tpl_parse.specs.declared.template.Leaf.{Leaf}
-use Rattle.tpl_parse.specs.declared.reading.Head.{Head}
-use Rattle.tpl_parse.specs.Form.{digit_of}
+-- What a reader of tokens returns, against what is read by the grammar.
+use Rattle.std.specs.Prelude.{◌≡◌, ℕ, List, map, Option, Some, None, Result, Ok, Err}
+use Rattle.tpl_ast.specs.Tokens.{Token}
+use Rattle.tpl_ast.specs.Phrases.{SetPhrase, Named, Listed, Domain, Numbers, Words, Outcomes, AtomPhrase, Among, NotAmong, IsName, Same, Differ, Taken, NotTaken, Shared, WishPhrase, Phrase, Ram, Pool, Tables, Flags, Vectors, Set, Name, Data, Hart, Start, Csr, Reg, Body, Do, Fault, Seq, Repeat, Choose, Way, Label, Close}
+use Rattle.tpl_ast.specs.Grammar.{Read}
+use Rattle.tpl_parse.specs.declared.stop.Stop.{Stop}
+use Rattle.tpl_parse.specs.declared.stop.Stop.TheVariants.{Memory, Unexpected}
+use Rattle.std.specs.Borrow.{Bor}
+use Rattle.tpl_parse.specs.declared.text.SetText.{SetText}
+use Rattle.tpl_parse.specs.declared.text.SetText.TheVariants as sets
+use Rattle.tpl_parse.specs.declared.text.DomainText.{DomainText}
+use Rattle.tpl_parse.specs.declared.text.DomainText.TheVariants as domains
+use Rattle.tpl_parse.specs.declared.text.AtomText.{AtomText}
+use Rattle.tpl_parse.specs.declared.text.AtomText.TheVariants as atoms
+use Rattle.tpl_parse.specs.declared.text.WishText.{WishText}
+use Rattle.tpl_parse.specs.declared.text.Statement.{Statement}
+use Rattle.tpl_parse.specs.declared.text.Statement.TheVariants as statements
 
--- the next step, where the one before it gave a value
-infixl 10 ◌>>=◌
-abbrev pub ◌>>=◌ : {A B : Type 0} → Option A → (A → Option B) → Option B
-(Some x) >>= f = f x
-None >>= f = None
+-- nothing is said where memory ran out
+abbrev pub Fails : {Y : Type 0} → Stop → Option Y → Type 0
+Fails Memory read = Unit {0}
+Fails Unexpected read = read ≡ None
 
--- a step on a value, or another reading where there is none
-abbrev pub choose : {A B : Type 0} → Option A → (A → Option B) → Option B → Option B
-choose (Some x) f other = f x
-choose None f other = other
+-- what a reader returned, seen by view, is what is read
+abbrev pub Gives : {X Y : Type 0} → (X → Y) → Result X Stop → Option Y → Type 0
+Gives view (Ok x) read = read ≡ Some (view x)
+Gives view (Err e) read = Fails e read
 
--- what a function returned, seen by view, is what reading gives
-abbrev pub Gives : {X Y : Type 0} → (X → Y) → Option X → Option Y → Type 0
-Gives view (Some x) read = read ≡ Some (view x)
-Gives view None read = read ≡ None
+-- the same, with the tokens behind it
+abbrev pub Reads : {X Y : Type 0} → (X → Y) → Result X Stop → List Token → Read Y → Type 0
+Reads view (Ok x) rest read = read ≡ Some (view x, rest)
+Reads view (Err e) rest read = Fails e read
 
--- what stands behind a literal
-unfoldable pub after_at : List ℕ → List ℕ → Option (List ℕ)
-after_at [] bytes = Some bytes
-after_at (c ∷ cs) [] = None
-after_at (c ∷ cs) (b ∷ bs) = if b == c then after_at cs bs else None
+-- tokens that have to stand there were passed
+abbrev pub Passes : {X : Type 0} → Result X Stop → List Token → Option (List Token) → Type 0
+Passes (Ok x) rest read = read ≡ Some rest
+Passes (Err e) rest read = Fails e read
 
--- the value of the digits at the front, behind those of the value n, and what follows them
-abbrev pub digits_at : ℕ → ℕ → List ℕ → ℕ × List ℕ
-digits_at base n [] = (n, [])
-digits_at base n (b ∷ bs) = if nat_lt (digit_of b) base then digits_at base (base * n + digit_of b) bs else (n, b ∷ bs)
+-- ---- statements without where their words lie in memory
 
--- one digit or more, of a number below 2 ^ 32
-unfoldable pub whole_at : ℕ → List ℕ → Option (ℕ × List ℕ)
-whole_at base bytes = let read = digits_at base 0 bytes in
-    if length read.1 == length bytes then None else (if nat_lt read.0 (2 ^ 32) then Some read else None)
+abbrev pub set_view : SetText → SetPhrase
+set_view (sets.Named w) = Named w.now
+set_view (sets.Listed es align) = Listed es.items align
 
--- the digits behind a minus
-unfoldable pub minus_at : List ℕ → Option (ℕ × List ℕ)
-minus_at bytes = do
-  size ← whole_at 10 bytes
-  if nat_lt (2 ^ 31) size.0 then None else Some ((2 ^ 32 - size.0) % 2 ^ 32, size.1)
+abbrev pub words_view : List (Bor (List ℕ)) → List (List ℕ)
+words_view = map (λ w. w.now)
 
--- a number in any of its spellings
-unfoldable pub number_at : List ℕ → Option (ℕ × List ℕ)
-number_at bytes = choose (after_at (codes "-") bytes) minus_at (choose (after_at (codes "0x") bytes) (whole_at 16) (whole_at 10 bytes))
+abbrev pub domain_view : DomainText → Domain
+domain_view (domains.Numbers s) = Numbers (set_view s)
+domain_view (domains.Words ws) = Words (words_view ws.items)
+domain_view (domains.Outcomes os) = Outcomes os.items
 
--- a number, and a literal behind it
-unfoldable pub field_at : List ℕ → List ℕ → Option (ℕ × List ℕ)
-field_at literal bytes = do
-  value ← number_at bytes
-  rest ← after_at literal value.1
-  Some (value.0, rest)
+abbrev pub atom_view : AtomText → AtomPhrase
+atom_view (atoms.Among v d) = Among v (domain_view d)
+atom_view (atoms.NotAmong v d) = NotAmong v (domain_view d)
+atom_view (atoms.IsName v w) = IsName v w.now
+atom_view (atoms.Same v u) = Same v u
+atom_view (atoms.Differ v u) = Differ v u
+atom_view atoms.Taken = Taken
+atom_view atoms.NotTaken = NotTaken
+atom_view atoms.Shared = Shared
 
--- the same, of a number below 256
-unfoldable pub small_field_at : List ℕ → List ℕ → Option (ℕ × List ℕ)
-small_field_at literal bytes = do
-  value ← field_at literal bytes
-  if nat_lt value.0 256 then Some value else None
+abbrev pub wish_view : WishText → WishPhrase
+wish_view w = record { prefer = w.prefer; atom = atom_view w.atom }
 
--- the lines before the first leaf
-unfoldable pub head_at : List ℕ → Option (Head × List ℕ)
-head_at bytes = do
-  rest ← after_at (codes "ram ") bytes
-  low ← field_at (codes " ") rest
-  high ← field_at (codes "\npool ") low.1
-  pool ← field_at (codes "\nhart 0 {\nstart pc ") high.1
-  pc ← field_at (codes " priv m\nbody {\n") pool.1
-  Some (record { ram = record { low = low.0; high = high.0 }; pool = pool.0; start_pc = pc.0 }, pc.1)
+abbrev pub wishes_view : List WishText → List WishPhrase
+wishes_view = map wish_view
 
--- the line of a leaf
-unfoldable pub leaf_at : List ℕ → Option (Leaf × List ℕ)
-leaf_at bytes = do
-  rest ← after_at (codes "do op in {addi}; rd in {") bytes
-  rd ← small_field_at (codes "}; rs1 in {") rest
-  rs1 ← small_field_at (codes "}; imm in {") rd.1
-  imm ← field_at (codes "}\n") rs1.1
-  Some (record { rd = rd.0; rs1 = rs1.0; imm = imm.0 }, imm.1)
-
--- leaves are read one after another, and rest stands behind them
-abbrev pub ReadsLeaves : List ℕ → List Leaf → List ℕ → Type 0
-ReadsLeaves bytes [] rest = bytes ≡ rest
-ReadsLeaves bytes (l ∷ ls) rest = (behind : List ℕ) × (leaf_at bytes ≡ Some (l, behind)) × ReadsLeaves behind ls rest
+abbrev pub phrase : Statement → Phrase
+phrase (statements.Ram lo hi) = Ram lo hi
+phrase (statements.Pool fs) = Pool fs.items
+phrase (statements.Tables fs) = Tables fs.items
+phrase (statements.Flags bs) = Flags bs.items
+phrase (statements.Vectors s) = Vectors (set_view s)
+phrase (statements.Set w s) = Set w.now (set_view s)
+phrase (statements.Name w s) = Name w.now (set_view s)
+phrase (statements.Data a w) = Data a w
+phrase (statements.Hart n) = Hart n
+phrase (statements.Start pc p) = Start pc p
+phrase (statements.Csr w v) = Csr w.now v
+phrase (statements.Reg n v) = Reg n v
+phrase statements.Body = Body
+phrase (statements.Do ws) = Do (wishes_view ws.items)
+phrase (statements.Fault os) = Fault os.items
+phrase statements.Seq = Seq
+phrase (statements.Repeat n) = Repeat n
+phrase statements.Choose = Choose
+phrase (statements.Way w) = Way w
+phrase (statements.Label w) = Label w.now
+phrase statements.Close = Close

@@ -1,35 +1,56 @@
-// Why a text is refused.
+// Why a text is not read.
 ghost use Rattle.std.specs.Prelude.{◌≡◌};
-ghost use Rattle.tpl_parse.specs.declared.error.ParseError.TheVariants.{OutOfMemory};
+ghost use Rattle.tpl_ast.specs.declared.fault.Kind.TheVariants.{Unexpected};
+ghost use Rattle.tpl_parse.specs.Answers.{trouble_of};
+ghost use Rattle.tpl_parse.specs.declared.error.Trouble.TheVariants.{Memory};
 
+use crate::stop::Stop;
+use dom_set::OutOfMemory;
 use std::alloc::AllocError;
 use thiserror::Error;
-
-/// The kind of the fault of a text that isn't of the form. It always stands on line 0.
-pub const NOT_BUILT: u8 = 13;
-
-/// What is wrong with a text, and on which line, where line 0 is the text as a whole.
-#[derive(Clone, Copy, Debug, PartialEq, Eq)]
-pub struct Fault {
-    pub line: u32,
-    pub kind: u8,
-}
+use tpl_ast::{Fault, Kind};
 
 /// Why a text was not read.
-#[derive(Debug, Drop, PartialEq, Eq, Error)]
+#[derive(Clone, Copy, Debug, PartialEq, Eq, Error)]
 pub enum ParseError {
-    /// What is wrong with the text.
-    #[error("template line {}: fault {}", .0.line, .0.kind)]
+    /// The text is no template.
+    #[error("template line {}: fault {}", .0.line, .0.kind as u8)]
     Fault(Fault),
     /// Memory ran out, which says nothing about the text.
     #[error("out of memory")]
     OutOfMemory,
 }
 
-impl From<AllocError> for ParseError {
-    ghost from_gives = { λ _ e. e ≡ OutOfMemory };
+/// Why a line was not read.
+#[derive(Clone, Copy, Debug, PartialEq, Eq)]
+pub(crate) enum Trouble {
+    Memory,
+    Fault(Kind),
+}
 
-    fn from(_e: AllocError) -> ParseError {
-        ParseError::OutOfMemory
+impl From<OutOfMemory> for Trouble {
+    ghost from_gives = { λ _ e. e ≡ Memory };
+
+    fn from(_: OutOfMemory) -> Trouble {
+        Trouble::Memory
+    }
+}
+
+impl From<AllocError> for Trouble {
+    ghost from_gives = { λ _ e. e ≡ Memory };
+
+    fn from(_: AllocError) -> Trouble {
+        Trouble::Memory
+    }
+}
+
+impl From<Stop> for Trouble {
+    ghost from_gives = { λ s e. e ≡ trouble_of s };
+
+    fn from(stop: Stop) -> Trouble {
+        match stop {
+            Stop::Memory => Trouble::Memory,
+            Stop::Unexpected => Trouble::Fault(Kind::Unexpected),
+        }
     }
 }

@@ -1,17 +1,32 @@
-//! The text of a template, what it says, and the parser that reads it: exactly the texts of the form
-//! are read, each as the one template that it says, and every other text is refused.
+//! The parser of templates: a text's lines, tokens and statements, and what is wrong with the first faulty line.
 #![tactic(auto)]
 
-mod allowed;
+mod atoms;
+mod blocks;
+mod body;
+mod cursor;
+mod entries;
 mod error;
-mod items;
+mod heads;
+mod judge;
+mod lines;
+mod names;
 mod number;
-mod reading;
-mod template;
+mod order;
+mod parser;
+mod place;
+mod ram;
+mod read;
+mod sets;
+mod starts;
+mod statement;
+mod stop;
 #[cfg(test)]
 mod tests;
+mod text;
+mod token;
+mod wishes;
+mod word;
 
-pub use error::{Fault, NOT_BUILT, ParseError};
-pub use items::Items;
-pub use reading::{MAX_TEXT, parse, parses_are_unique};
-pub use template::{Leaf, Region, Template};
+pub use error::ParseError;
+pub use read::parse;

@@ -6,7 +6,7 @@ use Rattle.std.proofs.Math.ListN.{get_or}
 use Rattle.std.specs.List.{flat_map, enumerate_from, zip}
 use Rattle.rv_hart.specs.declared.record.Record.{Record}
 use Rattle.tpl_admit.specs.declared.certificate.Cert.{Cert}
-use Rattle.tpl_admit.specs.declared.certificate.HartState.{HartState}
+use Rattle.tpl_ast.specs.declared.template.HartState.{HartState}
 use Rattle.tpl_admit.specs.Starts.{trace_of, final_of, no_state}
 use Rattle.trace_text.specs.Report.{hart_text, harts_text, word_line, words_text}
 use Rattle.trace_text.proofs.Numbered.{numbered_more}

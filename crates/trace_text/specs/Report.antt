@@ -4,7 +4,7 @@ use Rattle.std.specs.List.{flat_map, zip, enumerate_from}
 use Rattle.std.specs.Fmt.{decimal}
 use Rattle.rv_hart.specs.declared.record.Record.{Record}
 use Rattle.tpl_admit.specs.declared.certificate.Cert.{Cert}
-use Rattle.tpl_admit.specs.declared.certificate.HartState.{HartState}
+use Rattle.tpl_ast.specs.declared.template.HartState.{HartState}
 use Rattle.tpl_admit.specs.Starts.{trace_of, final_of}
 use Rattle.trace_text.specs.Numbers.{hex8, letter, place_name}
 use Rattle.trace_text.specs.Steps.{steps_text}

@@ -6,7 +6,7 @@ use rv_hart::{Access, Accesses, Outcome, Priv, Record, Role};
 use std::alloc::{AllocError, Global};
 use std::test::Fail;
 use tpl_admit::{Cert, HartState};
-use tpl_parse::{Items, Region, Template};
+use tpl_form::{Items, Region, Template};
 
 const ONE_STEP: &str = "harts 1
 hart 0 pc 80000000 priv m mstatus 00000000 medeleg 00000000 satp 00000000

@@ -9,12 +9,12 @@ ghost use Rattle.elf_image.specs.Checks.{is_lazy, is_access, is_place, are_place
 
 use crate::reading::headers::Table;
 use crate::runs::Run;
-use rv_csr::{REGISTERS, Register, legal, row_of};
+use rv_csr::{FIRST_KEY, REGISTERS, Register, legal, row_of};
 use rv_hart::Record;
 use rv_script::Access;
 use std::cmp::min;
 use tpl_admit::HartState;
-use tpl_parse::{Items, Region};
+use tpl_form::{Items, Region};
 
 /// How many words all loads may have.
 pub const MAX_WORDS: u64 = 60_000;
@@ -43,7 +43,7 @@ fn is_legal_place(place: (u32, u32)) -> bool
     requires { place.0 < 0x2000 }
     ensures { result ≡ is_legal_place place }
 {
-    place.0 < 32 || legal(place.0.saturating_sub(0x1000) as u16, place.1)
+    place.0 < 32 || legal(place.0.saturating_sub(FIRST_KEY) as u16, place.1)
 }
 
 #[tactic(auto, unfolding(crate::specs::Checks::is_place))]

@@ -10,7 +10,7 @@ use rv_hart::{Outcome, Priv, Record};
 use rv_script::{Access, Accesses, Role};
 use std::alloc::Global;
 use tpl_admit::HartState;
-use tpl_parse::Items;
+use tpl_form::Items;
 
 /// How many accesses a record may have.
 const MAX_ACCESSES: u32 = 8;

@@ -10,7 +10,7 @@ use crate::writing::entry_of;
 use byte_format::{PieceError, word_of};
 use std::alloc::Global;
 use tpl_admit::HartState;
-use tpl_parse::{Items, Region};
+use tpl_form::{Items, Region};
 
 /// A word that lies at an address.
 #[tactic(auto, unfolding(crate::specs::PartReaders::placed_at))]

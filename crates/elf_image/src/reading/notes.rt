@@ -15,7 +15,7 @@ use byte_format::{PieceError, after, after_word, padded_of, word_of};
 use rv_hart::Record;
 use std::alloc::Global;
 use tpl_admit::HartState;
-use tpl_parse::Items;
+use tpl_form::Items;
 
 /// What the notes tell, but for the records and the template, which are still bytes.
 #[derive(Drop)]

@@ -9,7 +9,7 @@ use rv_hart::{Outcome, Priv, Record};
 use rv_script::{Access, Role};
 use std::alloc::AllocError;
 use tpl_admit::HartState;
-use tpl_parse::Items;
+use tpl_form::Items;
 
 /// The number of a privilege (Privileged, 1.2).
 fn level(p: Priv) -> u8

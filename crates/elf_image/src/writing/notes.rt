@@ -8,7 +8,7 @@ use byte_format::{put_padding, put_size, put_word};
 use rv_hart::Record;
 use std::alloc::{AllocError, Global};
 use tpl_admit::{Cert, HartState};
-use tpl_parse::Items;
+use tpl_form::Items;
 
 /// A note: its type, and the bytes of its desc.
 #[derive(Drop)]

@@ -1,5 +1,5 @@
 use Rattle.std.proofs.Common.{◌≡◌, map, take, drop}
-use Rattle.tpl_parse.specs.Form.{AreLeavesFit}
+use Rattle.tpl_form.specs.Form.{AreLeavesFit}
 use Rattle.gen_engine.specs.Plan.{leaf_word}
 use Rattle.gen_engine.proofs.code.words_of.Given as goal
 

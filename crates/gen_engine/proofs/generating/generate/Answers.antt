@@ -1,5 +1,5 @@
 use Rattle.std.proofs.Common.{ℕ, List, map, sym, ap, subst, ◌∙◌, ◌≤◌, ◌+◌, ◌*◌, length}
-use Rattle.tpl_parse.specs.declared.template.Leaf.{Leaf}
+use Rattle.tpl_form.specs.declared.template.Leaf.{Leaf}
 use Rattle.tpl_admit.specs.declared.certificate.Cert.{Cert}
 use Rattle.tpl_admit.specs.Sizes.{certificate_size}
 use Rattle.tpl_admit.specs.Validity.{IsValid}

@@ -1,6 +1,6 @@
 use Rattle.std.proofs.Common.{ℕ, List, ap, ◌∙◌, subst}
 use Rattle.rv_hart.specs.declared.record.Record.{Record}
-use Rattle.tpl_admit.specs.declared.certificate.HartState.{HartState}
+use Rattle.tpl_ast.specs.declared.template.HartState.{HartState}
 use Rattle.tpl_admit.specs.Starts.{found, fixed_in, word_of, first_memory}
 use Rattle.replay_check.specs.Replay.{TakesAll, StraysAt}
 use Rattle.replay_check.proofs.Ends.{replayed_right, replayed_end, replayed_wrong}

@@ -1,5 +1,5 @@
 use Rattle.std.proofs.Common.{◌≡◌, ℕ, drop}
-use Rattle.tpl_parse.specs.declared.template.Region.{Region}
+use Rattle.tpl_ast.specs.declared.template.Region.{Region}
 use Rattle.tpl_admit.specs.Starts.{found}
 use Rattle.replay_check.specs.Knowledge.{known_of, fixed_now}
 use Rattle.replay_check.proofs.Keys.{or_else, AreLeft}

@@ -1,6 +1,6 @@
 use Rattle.std.proofs.Common.{ℕ, Option}
 use Rattle.rv_mem.specs.Part.{part_at}
-use Rattle.tpl_parse.specs.declared.template.Region.{Region}
+use Rattle.tpl_ast.specs.declared.template.Region.{Region}
 use Rattle.replay_check.specs.Memory.{Shows}
 use Rattle.replay_check.proofs.Traces.{IsUpTo}
 use Rattle.replay_check.proofs.stepping.take_all.Given as goal

@@ -1,4 +1,4 @@
-use Rattle.std.proofs.Common.{◌≡◌, ◌∙◌, refl, ap}
+use Rattle.std.proofs.Common.{◌∙◌, refl, ap}
 use Rattle.trace_text.specs.Verdicts.{verdict_text}
 use Rattle.tool_top.proofs.making.replay_texts.Goals as goal
 

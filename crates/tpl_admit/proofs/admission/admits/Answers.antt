@@ -1,6 +1,6 @@
 use Rattle.std.proofs.Common.{List, sym, subst, ◌∙◌, true≢false}
 use Rattle.rv_hart.specs.declared.record.Record.{Record}
-use Rattle.tpl_parse.specs.declared.template.Leaf.{Leaf}
+use Rattle.tpl_form.specs.declared.template.Leaf.{Leaf}
 use Rattle.tpl_admit.specs.Admission.{AreMet}
 use Rattle.tpl_admit.specs.Unmet.{FailsFrom}
 use Rattle.tpl_admit.proofs.Failures.{told_least, least_of_start, least_of_met}

@@ -1,6 +1,6 @@
 use Rattle.std.proofs.Common.{◌≡◌, ◌<◌, ℕ, length, get_or, refl, arith, ap, ◌∙◌, Some}
 use Rattle.std.proofs.lemmas.List.{drop_all, drop_more}
-use Rattle.tpl_parse.specs.declared.template.Leaf.{Leaf}
+use Rattle.tpl_form.specs.declared.template.Leaf.{Leaf}
 use Rattle.tpl_admit.proofs.Leaves.{split_at, met_to_failure, met_to_leaf, fails_told}
 use Rattle.tpl_admit.proofs.admission.first_unmet.Goals as goal
 

@@ -1,9 +1,19 @@
-use Rattle.std.proofs.Common.{◌∙◌, sym, drop-cons, ◌*◌, ◌+◌}
-use Rattle.tpl_parse.proofs.Digits.{too_large, digit_taken}
+use Rattle.std.proofs.Common.{◌+◌, ◌*◌, ◌^◌, ◌≤◌, sym, ◌∙◌, ap, arith, drop-cons, drop, get_or, suc}
+use Rattle.tpl_ast.specs.Numbers.{digit_of, value_of}
+use Rattle.tpl_parse.proofs.Digits.{too_large, too_large_before}
 use Rattle.tpl_parse.proofs.number.whole.Goals as goal
 
-pub returns-then-value : goal.returns-then-value
-returns-then-value c =
-    let here = drop-cons c.loop-rest.rest.now 0 0 c.in-len1-up.len_at_least in
-    let read = digit_taken c.args.base c.loop-rest.value c.loop-rest.rest.now _ c.in-Some.d _ here c.in-Some.ensures.found.0 c.in-Some.ensures.found.1 in
-    too_large c.args.base (c.args.base * c.loop-rest.value + c.in-Some.d) _ c.args.bytes.now c.requires.low c.if-value.true (sym read ∙ c.loop-rest.invariant.read)
+pub returns-in_err-checked_mul : goal.returns-in_err-checked_mul
+returns-in_err-checked_mul c =
+    let i = c.loop-d.d-index in
+    let here = drop-cons c.args.digits.now i 0 c.loop-d-test.true in
+    rw c.from_residual.ensures (too_large_before c.args.base c.loop-d.value _ (get_or c.args.digits.now i 0) (drop (suc i) c.args.digits.now) c.requires (omega (arith, c.in_err-checked_mul.ensures))
+    (ap (λ ds. value_of c.args.base c.loop-d.value ds) (sym here) ∙ c.loop-d.invariant.read))
+
+pub returns-in_err-value : goal.returns-in_err-value
+returns-in_err-value c =
+    let i = c.loop-d.d-index in
+    let here = drop-cons c.args.digits.now i 0 c.loop-d-test.true in
+    let large : 2 ^ 32 ≤ c.loop-d.value * c.args.base + digit_of (get_or c.args.digits.now i 0) = omega (arith, c.in_err-value.ensures, c.in_ok-checked_mul.ensures.1, c.digit.ensures) in
+    rw c.from_residual-in_err-value.ensures (too_large c.args.base (c.loop-d.value * c.args.base + digit_of (get_or c.args.digits.now i 0)) _ (drop (suc i) c.args.digits.now) c.requires large
+    (ap (λ ds. value_of c.args.base c.loop-d.value ds) (sym here) ∙ c.loop-d.invariant.read))

@@ -1,6 +1,4 @@
-use Rattle.std.proofs.Common.{◌≡◌, ◌∙◌, refl, sym, ap, List, ℕ, [], ◌∷◌, map, codes, string_bytes, arith, rules}
-use Rattle.tool_top.specs.declared.words.Command.{Command}
-use Rattle.tool_top.specs.Words.{IsCommand}
+use Rattle.std.proofs.Common.{◌≡◌, ◌∙◌, refl, sym, ap, map, codes, string_bytes, arith, rules}
 use Rattle.tool_top.proofs.WordLemmas.{one, three, same_one, same_three, seeded_found, seeded_only}
 use Rattle.tool_top.proofs.words.ArgList.command.Goals as goal
 

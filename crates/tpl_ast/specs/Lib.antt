@@ -1,0 +1,14 @@
+pub mod Numbers
+pub mod Words
+pub mod Lines
+pub mod Tokens
+pub mod Phrases
+pub mod Grammar
+pub mod Sets
+pub mod Judging
+pub mod Bodies
+pub mod Lengths
+pub mod Depths
+pub mod Parsing
+pub mod Expansion
+pub mod Laws

@@ -1,0 +1,51 @@
+// Where a line stands.
+ghost use Rattle.std.specs.Prelude.{◌≡◌};
+ghost use Rattle.tpl_ast.specs.Parsing.{is_begin, is_ended, is_head, is_inside, is_settings};
+ghost use Rattle.tpl_parse.specs.Places.{place_view};
+
+/// What may come next.
+#[derive(Clone, Copy, Debug, PartialEq, Eq)]
+pub enum Place {
+    /// A statement of the head, or a hart.
+    Head,
+    /// A hart's `start`.
+    Begin,
+    /// Its CSRs and registers, and then its body.
+    Settings,
+    /// Items of a body.
+    Inside,
+    /// The brace that ends the hart.
+    Ended,
+}
+
+impl Place {
+    pub fn is_head(self) -> bool
+        ensures { result ≡ is_head (place_view self) }
+    {
+        matches!(self, Place::Head)
+    }
+
+    pub fn is_begin(self) -> bool
+        ensures { result ≡ is_begin (place_view self) }
+    {
+        matches!(self, Place::Begin)
+    }
+
+    pub fn is_settings(self) -> bool
+        ensures { result ≡ is_settings (place_view self) }
+    {
+        matches!(self, Place::Settings)
+    }
+
+    pub fn is_inside(self) -> bool
+        ensures { result ≡ is_inside (place_view self) }
+    {
+        matches!(self, Place::Inside)
+    }
+
+    pub fn is_ended(self) -> bool
+        ensures { result ≡ is_ended (place_view self) }
+    {
+        matches!(self, Place::Ended)
+    }
+}
