@@ -1,0 +1,9 @@
+pub mod Addresses
+pub mod Branches
+pub mod Firsts
+pub mod Fitted
+pub mod Numbers
+pub mod Operations
+pub mod PageCounts
+pub mod Products
+pub mod Bools

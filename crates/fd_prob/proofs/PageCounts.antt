@@ -1,0 +1,117 @@
+-- Counting pages that hold an address.
+use Rattle.std.proofs.Common.{◌≡◌, ℕ, zero, suc, ◌+◌, ◌-◌, ◌*◌, ◌/◌, ◌<◌, ◌≤◌, ◌^◌, Bool, true, false, List, [], ◌∷◌, Some, None, filter, find, length, nat_le, arith, refl, sym, ap, ◌∙◌, length-append, add-one, ◌==◌, ◌||◌, cond, subst, slice_index}
+use Rattle.std.specs.List.Sorted.{IsStrictlyIncreasing}
+use Rattle.std.proofs.lemmas.Bool.Decides.{nat_tests}
+use Rattle.std.proofs.lemmas.Option.{same_Some}
+use Rattle.fd_prob.proofs.Firsts.{passes}
+use Rattle.std.proofs.lemmas.List.Elements.{filter-append}
+use Rattle.dom_set.specs.Elements.{numbers_below}
+use Rattle.fd_prob.specs.Spaces.{has_page, pages_below}
+
+abbrev tail : List ℕ → ℕ → ℕ
+tail xs n = length (filter (has_page xs) (n ∷ []))
+
+one_more : (xs : List ℕ) (n : ℕ) → pages_below (suc n) xs ≡ pages_below n xs + tail xs n
+unfolding numbers_below
+one_more xs n =
+    ap length (filter-append (has_page xs) (numbers_below n) (n ∷ [])) ∙ length-append (filter (has_page xs) (numbers_below n)) (filter (has_page xs) (n ∷ []))
+
+held : (xs : List ℕ) (n : ℕ) → has_page xs n ≡ true → tail xs n ≡ 1
+held xs n is = rw is refl
+
+empty : (xs : List ℕ) (n : ℕ) → has_page xs n ≡ false → tail xs n ≡ 0
+empty xs n is = rw is refl
+
+-- one page more
+pub next_held : (xs : List ℕ) (n : ℕ) → has_page xs n ≡ true → pages_below (suc n) xs ≡ pages_below n xs + 1
+next_held xs n is = one_more xs n ∙ ap (λ (k : ℕ). pages_below n xs + k) (held xs n is)
+
+pub next_empty : (xs : List ℕ) (n : ℕ) → has_page xs n ≡ false → pages_below (suc n) xs ≡ pages_below n xs
+next_empty xs n is = omega (arith, one_more xs n, empty xs n is)
+
+-- pages without an address
+pub gap : (xs : List ℕ) (n k : ℕ) → ((q : ℕ) → n ≤ q → q < n + k → has_page xs q ≡ false) → pages_below (n + k) xs ≡ pages_below n xs
+gap xs n zero none = let e : n + 0 ≡ n = omega arith in ap (λ (m : ℕ). pages_below m xs) e
+gap xs n (suc k) none =
+    let e : n + suc k ≡ suc (n + k) = omega arith in
+    ap (λ (m : ℕ). pages_below m xs) e ∙ next_empty xs (n + k) (none (n + k) (omega arith) (omega arith)) ∙ gap xs n k (λ q low high. none q low (omega arith))
+
+less : (m q : ℕ) → m < q → (m == q) ≡ false
+less m q h = grind (arith, nat_tests)
+
+greater : (m q : ℕ) → q < m → (m == q) ≡ false
+greater m q h = grind (arith, nat_tests)
+
+or_none : (a b : Bool) → a ≡ false → b ≡ false → (a || b) ≡ false
+or_none a b e f = rw (e, f) refl
+
+or_right : (a b : Bool) → b ≡ true → (a || b) ≡ true
+or_right true b e = refl
+or_right false b e = e
+
+rest : (y : ℕ) (ys : List ℕ) → IsStrictlyIncreasing (y ∷ ys) → IsStrictlyIncreasing ys
+rest y ys s k h =
+    let e : suc k + 1 ≡ suc (k + 1) = omega arith in
+    let P : ℕ → Type 0 = λ m. slice_index ys k < slice_index (y ∷ ys) m in
+    subst P e (s (suc k) (omega (arith, h)))
+
+next : (y z : ℕ) (zs : List ℕ) → IsStrictlyIncreasing (y ∷ z ∷ zs) → y < z
+next y z zs s = s 0 (omega arith)
+
+above : (y q : ℕ) (ys : List ℕ) → IsStrictlyIncreasing (y ∷ ys) → q < y / 4096 → has_page ys q ≡ false
+above y q [] s h = refl
+above y q (z ∷ zs) s h =
+    let more : q < z / 4096 = omega (arith, h, next y z zs s) in
+    or_none (z / 4096 == q) (has_page zs q) (greater (z / 4096) q more) (above z q zs (rest y (z ∷ zs) s) more)
+
+-- the first address from a page's start on is in no page of those between
+pub between : (xs : List ℕ) (from x q : ℕ) → IsStrictlyIncreasing xs → find (λ y. nat_le from y) xs ≡ Some x → from ≤ q * 4096 → q < x / 4096 → has_page xs q ≡ false
+between [] from x q s is low high = refl
+between (y ∷ ys) from x q s is low high =
+    elim (nat_le from y) as (λ b. nat_le from y ≡ b → cond b (Some y) (find (λ z. nat_le from z) ys) ≡ Some x → has_page (y ∷ ys) q ≡ false) [
+      | true ↦ λ t e.
+          let same : y ≡ x = same_Some y x e in
+          let past : q < y / 4096 = subst (λ (z : ℕ). q < z / 4096) (sym same) high in
+          or_none (y / 4096 == q) (has_page ys q) (greater (y / 4096) q past) (above y q ys s past)
+      | false ↦ λ t e.
+          let under : y < from = grind (arith, nat_tests) in
+          or_none (y / 4096 == q) (has_page ys q) (less (y / 4096) q (omega (arith, under, low))) (between ys from x q (rest y ys s) e low high)
+    ] refl is
+
+-- it is in its own
+pub own : (xs : List ℕ) (from x : ℕ) → find (λ y. nat_le from y) xs ≡ Some x → has_page xs (x / 4096) ≡ true
+own [] from x is = absurd (cc is)
+own (y ∷ ys) from x is =
+    elim (nat_le from y) as (λ b. cond b (Some y) (find (λ z. nat_le from z) ys) ≡ Some x → has_page (y ∷ ys) (x / 4096) ≡ true) [
+      | true ↦ λ e. let same : y ≡ x = same_Some y x e in rw same (grind (arith, nat_tests))
+      | false ↦ λ e. or_right (y / 4096 == x / 4096) (has_page ys (x / 4096)) (own ys from x e)
+    ] is
+
+-- where no address is found, there is none in later pages
+pub later : (xs : List ℕ) (from q : ℕ) → find (λ y. nat_le from y) xs ≡ None → from ≤ q * 4096 → has_page xs q ≡ false
+later [] from q is low = refl
+later (y ∷ ys) from q is low =
+    elim (nat_le from y) as (λ b. nat_le from y ≡ b → cond b (Some y) (find (λ z. nat_le from z) ys) ≡ None → has_page (y ∷ ys) q ≡ false) [
+      | true ↦ λ t e. absurd (cc e)
+      | false ↦ λ t e.
+          let under : y < from = grind (arith, nat_tests) in
+          or_none (y / 4096 == q) (has_page ys q) (less (y / 4096) q (omega (arith, under, low))) (later ys from q e low)
+    ] refl is
+
+-- the first address from a page's start on adds its page
+pub advance : (xs : List ℕ) (page x : ℕ) → IsStrictlyIncreasing xs → find (λ y. nat_le (page * 4096) y) xs ≡ Some x → pages_below (x / 4096 + 1) xs ≡ pages_below page xs + 1
+advance xs page x s is =
+    let reached : page * 4096 ≤ x = grind (arith, nat_tests, passes (λ y. nat_le (page * 4096) y) xs x is) in
+    let low : page ≤ x / 4096 = omega (arith, reached) in
+    let whole : page + (x / 4096 - page) ≡ x / 4096 = omega (arith, low) in
+    let skipped : pages_below (page + (x / 4096 - page)) xs ≡ pages_below page xs = gap xs page (x / 4096 - page) (λ q at_least under. between xs (page * 4096) x q s is (omega (arith, at_least)) (omega (arith, under, low))) in
+    ap (λ (n : ℕ). pages_below n xs) (add-one (x / 4096)) ∙ next_held xs (x / 4096) (own xs (page * 4096) x is) ∙ ap (λ (n : ℕ). n + 1) (sym (ap (λ (n : ℕ). pages_below n xs) whole) ∙ skipped)
+
+pub ending : (xs : List ℕ) (page : ℕ) → page ≤ 2 ^ 20 → find (λ y. nat_le (page * 4096) y) xs ≡ None → pages_below (2 ^ 20) xs ≡ pages_below page xs
+ending xs page within is =
+    let whole : page + (2 ^ 20 - page) ≡ 2 ^ 20 = omega (arith, within) in
+    sym (ap (λ (n : ℕ). pages_below n xs) whole) ∙ gap xs page (2 ^ 20 - page) (λ q at_least under. later xs (page * 4096) q is (omega (arith, at_least)))
+
+pub starting : (xs : List ℕ) → pages_below 0 xs ≡ 0
+unfolding numbers_below
+starting xs = refl

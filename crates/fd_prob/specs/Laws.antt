@@ -1,0 +1,26 @@
+-- What the tests of assignments say.
+use Rattle.std.specs.Prelude.{◌≡◌, ℕ, ◌↔◌, All, Any, IsTrue}
+use Rattle.dom_set.specs.Elements.{is_in}
+use Rattle.rv_isa.specs.declared.operation.Op.{Op}
+use Rattle.rv_isa.specs.Arithmetic.{IsTaken}
+use Rattle.fd_prob.specs.declared.problem.Assignment.{Assignment}
+use Rattle.fd_prob.specs.declared.problem.Case.{Case}
+use Rattle.fd_prob.specs.declared.problem.Problem.{Problem}
+use Rattle.fd_prob.specs.declared.slot.Slot.{Slot}
+use Rattle.fd_prob.specs.declared.slot.Slot.TheVariants as slots
+use Rattle.fd_prob.specs.Fitting.{domain_of, fits}
+use Rattle.fd_prob.specs.Relations.{goes_to_target, holds, op_numbered, value_of}
+
+-- an assignment has a case's operation, each value is in its domain there, and each relation of the case holds
+pub record IsOfCase (x : Assignment) (c : Case) : Type 0 where
+  pub op : value_of x slots.Op ≡ c.op
+  pub domains : (s : Slot) → IsTrue (is_in (domain_of c s) (value_of x s))
+  pub relations : All (λ r. IsTrue (holds (op_numbered c.op) x r)) c.rels
+
+-- what fits a problem is of one of its cases
+abbrev pub FittingIsOfACase : Type 0
+FittingIsOfACase = (p : Problem) (x : Assignment) → IsTrue (fits p x) ↔ Any (IsOfCase x) p.cases
+
+-- the condition of a branch is that of the table of instructions
+abbrev pub ConditionsAreTaken : Type 0
+ConditionsAreTaken = (op : Op) (a b : ℕ) → IsTrue (goes_to_target op a b) ↔ IsTaken op a b

@@ -1,0 +1,23 @@
+//! Problems: what a step may be, as domains of its variables and relations between them. An
+//! assignment gives each variable a value; it fits a problem where it is in the domains of one of the
+//! problem's cases and meets that case's relations. A problem's space bounds the work of a search.
+#![tactic(auto)]
+
+mod fitting;
+mod items;
+mod laws;
+mod pages;
+mod problem;
+mod relation;
+mod slot;
+mod spaces;
+#[cfg(test)]
+mod tests;
+
+pub use fitting::fits;
+pub use items::Items;
+pub use laws::fitting_laws;
+pub use problem::{Assignment, Case, Extra, Problem};
+pub use relation::{Quad, Rel};
+pub use slot::{SLOTS, Slot};
+pub use spaces::space;

@@ -1,0 +1,38 @@
+// The pages in which addresses lie.
+ghost use Rattle.std.specs.Prelude.{◌≡◌, ◌<◌, ◌≤◌, ◌^◌, IfSome, find, nat_le};
+ghost use Rattle.fd_prob.specs.Spaces.{pages_of};
+
+use dom_set::Set;
+
+/// The first element that is not below the number.
+#[tactic(auto, using(crate::proofs::Firsts::none_found, crate::proofs::Firsts::found))]
+fn first_not_below(set: &Set, from: u32) -> Option<u32>
+    ensures first { result ≡ find (λ x. nat_le from x) set.now }
+    ensures within { IfSome result (λ x. (from ≤ x) × (x < 2 ^ 32)) }
+{
+    match set.first_from(from) {
+        Some(x) => { if from <= x { Some(x) } else { None } }
+        None => None,
+    }
+}
+
+/// How many pages of 4,096 bytes hold an element.
+pub fn pages_of(set: &Set) -> u64
+    ensures { result ≡ pages_of set.now }
+{
+    // `size` also says that the elements ascend.
+    let _size = set.size();
+    let mut pages = 0;
+    let mut page = 0;
+    while page < PAGES {
+        let Some(x) = first_not_below(set, page * 4096) else {
+            return pages;
+        };
+        pages += 1;
+        page = x / 4096 + 1;
+    }
+    pages
+}
+
+/// How many pages there are.
+const PAGES: u32 = 0x10_0000;
