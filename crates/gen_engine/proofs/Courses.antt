@@ -58,7 +58,7 @@ one_leaf ram words pc regs l ls h knows b = go (slice_index_or regs l.rs1 None) 
         → Takes (fixed_at ram pc) (known_of regs words) h (zero_elsewhere words) (fetch_of pc (leaf_word l) ∷ []) (change_of pc regs l)
     go None e some = absurd (cc some)
     go (Some a) e some =
-        let answered = leaf_answered (fixed_at ram pc) (known_of regs words) l (leaf_word l) a refl b.there.1 b.aligned (encoded_below (leaf_word l) (instr_of l) (encoded l b.fit.0)) b.there.0 (leaf_decoded l b.fit.0) e in
+        let answered = leaf_answered (fixed_at ram pc) (known_of regs words) l (leaf_word l) a refl (omega (arith, b.small)) b.there.1 b.aligned (encoded_below (leaf_word l) (instr_of l) (encoded l b.fit.0)) b.there.0 (leaf_decoded l b.fit.0) e in
         let value : (a + l.imm) % 2 ^ 32 ≡ leaf_value regs l = ap (λ (o : Option ℕ). (unwrap_or o 0 + l.imm) % 2 ^ 32) (sym e) in
         takes (fixed_at ram pc) (known_of regs words) h (zero_elsewhere words) (fetch_of pc (leaf_word l) ∷ []) (change_of pc regs l) (has_known ram pc regs words knows h b.fixed b.shows b.zero_is)
         (answered ∙ ap (λ (n : ℕ). Does (fetch_of pc (leaf_word l) ∷ []) (retired pc (leaf_word l) (rd_told l.rd n))) value)

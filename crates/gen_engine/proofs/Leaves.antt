@@ -1,5 +1,5 @@
 -- The step of a leaf on a hart that stands before it.
-use Rattle.std.proofs.Common.{◌≡◌, ℕ, ◌+◌, ◌-◌, ◌/◌, ◌%◌, ◌^◌, ◌<◌, ◌≤◌, true, eqb, [], ◌∷◌, Option, Some, None, refl, sym, ap, ◌∙◌, inl, inr, ◌⊎◌, arith, if◌then◌else◌}
+use Rattle.std.proofs.Common.{◌≡◌, ℕ, ◌+◌, ◌-◌, ◌/◌, ◌%◌, ◌^◌, ◌<◌, ◌≤◌, true, false, eqb, [], ◌∷◌, Option, Some, None, refl, sym, ap, ◌∙◌, inl, inr, ◌⊎◌, arith}
 use Rattle.std.specs.Prelude.{slice_index_or}
 use Rattle.std.specs.Option.{unwrap_or, IsSome}
 use Rattle.std.proofs.lemmas.Bool.{cases_Bool, lt-ltb, le-ltb}
@@ -8,13 +8,12 @@ use Rattle.rv_isa.specs.Reading.{decoded}
 use Rattle.rv_isa.proofs.Codec.{read_encoded, encoded_below}
 use Rattle.rv_script.specs.declared.place.Place.TheVariants.{Reg, Word}
 use Rattle.rv_script.specs.Bytes.{word_address, part_of}
-use Rattle.rv_script.specs.Script.{Question.OfMemory, access_of, Script, Script.Outside, Label.Fetched, ◌>>=◌, read}
+use Rattle.rv_script.specs.Script.{Question.OfMemory, access_of, Script, Script.Done, Label.Fetched, ◌>>=◌, read}
 use Rattle.rv_script.specs.Folds.{Known, Answer.Does, answer_on, prefixed, noted, on_told}
 use Rattle.rv_mem.specs.declared.words.Seen.{Seen}
 use Rattle.rv_mem.specs.declared.words.Seen.TheVariants.{Known as KnownWord, Untouched, Vacant}
 use Rattle.rv_mem.specs.Seen.{known_word, is_there}
 use Rattle.rv_hart.specs.Effects.{seen_word_after, seen_after}
-use Rattle.rv_csr.specs.declared.cause.Cause.TheVariants.{FetchAccess}
 use Rattle.rv_csr.specs.declared.privilege.Priv.{Priv}
 use Rattle.rv_hart.specs.declared.hart.Hart.{Hart}
 use Rattle.rv_hart.specs.declared.record.Change.{Change}
@@ -23,8 +22,10 @@ use Rattle.rv_hart.specs.declared.record.Record.{Record}
 use Rattle.rv_hart.specs.declared.record.Stepped.TheVariants.{Did}
 use Rattle.rv_hart.specs.View.{known, fixed_of, shown}
 use Rattle.rv_hart.specs.Fixed.{Fixed}
-use Rattle.rv_hart.specs.Privileged.{rd_told, retired, trap}
-use Rattle.rv_hart.specs.Machine.{is_bare, immediate_row, instruction, script}
+use Rattle.rv_hart.specs.Privileged.{rd_told, retired}
+use Rattle.sv_walk.specs.declared.entry.Kind.TheVariants.{Fetch}
+use Rattle.sv_walk.specs.Translation.{Reached, At, is_translated, translated}
+use Rattle.rv_hart.specs.Machine.{fetch_view, arriving, at_address, immediate_row, instruction, fetched_at, script}
 use Rattle.tpl_form.specs.declared.template.Leaf.{Leaf}
 use Rattle.tpl_form.specs.Form.{IsFit}
 use Rattle.tpl_admit.specs.Admission.{instr_of}
@@ -47,14 +48,18 @@ pub row_answered : (f : Fixed) (k : Known) (word : ℕ) (l : Leaf) (a : ℕ) →
 unfolding immediate_row
 row_answered f k word l a there = rw there refl
 
+-- the address of an instruction in RAM, where no address is translated
+fetch_arrives : (f : Fixed) → is_translated (fetch_view f) ≡ false → f.pc < 2 ^ 32 → f.ram (f.pc / 4) ≡ true → translated f.ram (fetch_view f) Fetch f.pc ≡ Done (At f.pc)
+unfolding translated
+fetch_arrives f bare small there = rw (bare, lt-ltb f.pc (2 ^ 32) small, there) refl
+
 -- a leaf's instruction at the pc, with its source known
-pub leaf_answered : (f : Fixed) (k : Known) (l : Leaf) (word a : ℕ) → is_bare f.privilege f.satp ≡ true → f.ram (f.pc / 4) ≡ true → f.pc % 4 ≡ 0 → word < 2 ^ 32
+pub leaf_answered : (f : Fixed) (k : Known) (l : Leaf) (word a : ℕ) → is_translated (fetch_view f) ≡ false → f.pc < 2 ^ 32 → f.ram (f.pc / 4) ≡ true → f.pc % 4 ≡ 0 → word < 2 ^ 32
     → k (Word f.pc) ≡ Some word → decoded word ≡ Some (instr_of l) → k (Reg l.rs1) ≡ Some a
     → answer_on k (script f) ≡ Does (fetch_of f.pc word ∷ []) (retired f.pc word (rd_told l.rd ((a + l.imm) % 2 ^ 32)))
-unfolding script instruction
-leaf_answered f k l word a bare there aligned small fetches decodes source =
-    ap (λ b. answer_on k (if b then (if f.ram (f.pc / 4) then read Fetched f.pc 4 >>= (λ w. instruction f w (decoded w)) else trap f 0 FetchAccess f.pc) else Outside)) bare
-    ∙ ap (λ b. answer_on k (if b then read Fetched f.pc 4 >>= (λ w. instruction f w (decoded w)) else trap f 0 FetchAccess f.pc)) there
+unfolding script at_address fetched_at instruction
+leaf_answered f k l word a bare low there aligned small fetches decodes source =
+    ap (λ (s : Script Reached). answer_on k (s >>= arriving f 0 f.pc (fetched_at f))) (fetch_arrives f bare low there)
     ∙ fetched k f.pc word (λ w. instruction f w (decoded w)) aligned small fetches
     ∙ ap (λ o. prefixed (fetch_of f.pc word ∷ []) (answer_on k (instruction f word o))) decodes
     ∙ ap (λ answer. prefixed (fetch_of f.pc word ∷ []) answer) (row_answered f k word l a source)
@@ -86,7 +91,7 @@ answer_is h see l at = go (slice_index_or h.regs l.rs1 None) refl at.known
         → answer_on (known h see) (script (fixed_of h see)) ≡ Does (fetch_of h.pc (leaf_word l) ∷ []) (retired h.pc (leaf_word l) (leaf_write h.regs l))
     go None e some = absurd (cc some)
     go (Some a) e some =
-        let answered = leaf_answered (fixed_of h see) (known h see) l (leaf_word l) a (rw at.privilege refl) (ap is_there at.word) h.aligned
+        let answered = leaf_answered (fixed_of h see) (known h see) l (leaf_word l) a (rw at.privilege refl) (omega (arith, at.next)) (ap is_there at.word) h.aligned
         (encoded_below (leaf_word l) (instr_of l) (encoded l at.fit)) (ap known_word at.word) (leaf_decoded l at.fit) e in
         let value : (a + l.imm) % 2 ^ 32 ≡ leaf_value h.regs l = ap (λ (o : Option ℕ). (unwrap_or o 0 + l.imm) % 2 ^ 32) (sym e) in
         answered ∙ ap (λ (n : ℕ). Does (fetch_of h.pc (leaf_word l) ∷ []) (retired h.pc (leaf_word l) (rd_told l.rd n))) value

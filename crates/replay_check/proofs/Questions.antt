@@ -1,5 +1,5 @@
 -- The registers that the machine's steps ask for.
-use Rattle.std.proofs.Common.{◌≡◌, ℕ, ◌/◌, ◌%◌, ◌<◌, map, Bool, true, false, eqb, ◌∷◌, Option, Some, None, if◌then◌else◌, refl, subst, inl, inr}
+use Rattle.std.proofs.Common.{◌≡◌, ℕ, ◌%◌, ◌<◌, map, Bool, true, false, eqb, ◌∷◌, ◌||◌, Option, Some, None, if◌then◌else◌, refl, subst, inl, inr}
 use Rattle.rv_isa.specs.declared.instruction.Instr.{Instr}
 use Rattle.rv_isa.specs.declared.table.Row.{Row}
 use Rattle.rv_isa.specs.declared.table.Row.TheVariants.{R, I, Shift, S, B, U, J, Csr as CsrRow, CsrImmediate, FenceSets, AddressFence, Fixed as Whole, DefinedIllegal}
@@ -22,7 +22,11 @@ use Rattle.rv_script.specs.Script.{place_of, told, Script, Script.Ask, Script.Ou
 use Rattle.rv_script.specs.Folds.{Entry, Sight, asked_of}
 use Rattle.rv_hart.specs.declared.record.Change.{Change}
 use Rattle.rv_hart.specs.Fixed.{Fixed}
-use Rattle.rv_hart.specs.Machine.{is_bare, is_data_bare, jumped, upper_row, upper_pc_row, jump_row, jump_register_row, is_taken, branch_row, size_of, reached, load_row, store_row, immediate_row, register_row, fence_row, effect, instruction, script}
+use Rattle.sv_walk.specs.declared.entry.Kind.{Kind}
+use Rattle.sv_walk.specs.declared.entry.View.{View}
+use Rattle.sv_walk.specs.Entry.{is_invalid, is_pointer, is_reserved, is_unaligned, is_closed}
+use Rattle.sv_walk.specs.Translation.{Reached, At, Fails, is_in_ram, second_address, from_pointer, from_root, is_translated, root_address, translated}
+use Rattle.rv_hart.specs.Machine.{fetch_view, data_view, arriving, at_address, jumped, upper_row, upper_pc_row, jump_row, jump_register_row, is_taken, branch_row, size_of, reached, load_at, load_row, store_at, store_row, immediate_row, register_row, fence_row, effect, instruction, fetched_at, script}
 use Rattle.rv_hart.specs.Privileged.{trap, reads_csr, old_value, write_csr, csr_exchanged, csr_granted, csr_accessed, csr_row, csr_immediate_row, mret_row, is_withheld, sret_row, address_fence_row}
 use Rattle.rv_hart.specs.Whole.{WholeHart, sight_of}
 
@@ -102,10 +106,33 @@ address_fence_named f word = either_named (is_withheld Tvm f) _ _ (trap_named f 
 jumped_named : (f : Fixed) (word : ℕ) (rd : Option (ℕ × ℕ)) (target : ℕ) → AreNamed (jumped f word rd target)
 jumped_named f word rd target = either_named (eqb (target % 4) 0) _ _ tt (trap_named f word _ _)
 
-reached_named : (f : Fixed) (word addr size : ℕ) (misaligned outside : Cause) (access : Script Change) → AreNamed access → AreNamed (reached f word addr size misaligned outside access)
-reached_named f word addr size misaligned outside access named =
-    either_named (eqb (addr % size) 0) _ _
-    (either_named (is_data_bare f) _ _ (either_named (f.ram (addr / 4)) _ _ named (trap_named f word outside addr)) tt) (trap_named f word misaligned addr)
+pointer_named : (ram : ℕ → Bool) (v : View) (kind : Kind) (va entry : ℕ) → AreNamed (from_pointer ram v kind va entry)
+unfolding from_pointer
+pointer_named ram v kind va entry = either_named (is_in_ram ram (second_address va entry)) _ _ (tt, λ second. tt) tt
+
+root_named : (ram : ℕ → Bool) (v : View) (kind : Kind) (va entry : ℕ) → AreNamed (from_root ram v kind va entry)
+unfolding from_root
+root_named ram v kind va entry =
+    either_named (is_invalid entry) _ _ tt
+    (either_named (is_pointer entry) _ _ (either_named (is_reserved entry) _ _ tt (pointer_named ram v kind va entry))
+    (either_named (is_unaligned entry || is_closed v kind entry) _ _ tt tt))
+
+translated_named : (ram : ℕ → Bool) (v : View) (kind : Kind) (va : ℕ) → AreNamed (translated ram v kind va)
+unfolding translated
+translated_named ram v kind va =
+    either_named (is_translated v) _ _ (either_named (is_in_ram ram (root_address v va)) _ _ (tt, λ root. root_named ram v kind va _) tt) tt
+
+arriving_named : (f : Fixed) (word va : ℕ) (next : ℕ → Script Change) → ((pa : ℕ) → AreNamed (next pa)) → (r : Reached) → AreNamed (arriving f word va next r)
+arriving_named f word va next named (At pa) = named pa
+arriving_named f word va next named (Fails cause) = trap_named f word cause va
+
+at_address_named : (f : Fixed) (word : ℕ) (v : View) (kind : Kind) (va : ℕ) (next : ℕ → Script Change) → ((pa : ℕ) → AreNamed (next pa)) → AreNamed (at_address f word v kind va next)
+unfolding at_address
+at_address_named f word v kind va next named = then_named (translated f.ram v kind va) (arriving f word va next) (translated_named f.ram v kind va) (λ r. arriving_named f word va next named r)
+
+reached_named : (f : Fixed) (word : ℕ) (kind : Kind) (addr size : ℕ) (misaligned : Cause) (access : ℕ → Script Change) → ((pa : ℕ) → AreNamed (access pa)) → AreNamed (reached f word kind addr size misaligned access)
+reached_named f word kind addr size misaligned access named =
+    either_named (eqb (addr % size) 0) _ _ (at_address_named f word (data_view f) kind addr access named) (trap_named f word misaligned addr)
 
 upper_named : (f : Fixed) (word : ℕ) (i : Instr) → AreNamed (upper_row f word i)
 unfolding upper_row
@@ -127,13 +154,21 @@ branch_named : (f : Fixed) (word : ℕ) (i : Instr) → IsInRange i → AreNamed
 unfolding branch_row
 branch_named f word i r = (r.rs1, λ a. (r.rs2, λ b. either_named (is_taken i.op a b) _ _ (jumped_named f word None _) tt))
 
+load_at_named : (f : Fixed) (word : ℕ) (i : Instr) (pa : ℕ) → AreNamed (load_at f word i pa)
+unfolding load_at
+load_at_named f word i pa = (tt, λ v. tt)
+
 load_named : (f : Fixed) (word : ℕ) (i : Instr) → IsInRange i → AreNamed (load_row f word i)
 unfolding load_row
-load_named f word i r = (r.rs1, λ a. reached_named f word _ (size_of i.op) _ _ _ (tt, λ v. tt))
+load_named f word i r = (r.rs1, λ a. reached_named f word _ _ (size_of i.op) _ (load_at f word i) (load_at_named f word i))
+
+store_at_named : (f : Fixed) (word : ℕ) (i : Instr) (value pa : ℕ) → AreNamed (store_at f word i value pa)
+unfolding store_at
+store_at_named f word i value pa = (tt, λ v. tt)
 
 store_named : (f : Fixed) (word : ℕ) (i : Instr) → IsInRange i → AreNamed (store_row f word i)
 unfolding store_row
-store_named f word i r = (r.rs1, λ a. (r.rs2, λ b. reached_named f word _ (size_of i.op) _ _ _ (tt, λ v. tt)))
+store_named f word i r = (r.rs1, λ a. (r.rs2, λ b. reached_named f word _ _ (size_of i.op) _ (store_at f word i b) (store_at_named f word i b)))
 
 immediate_named : (f : Fixed) (word : ℕ) (i : Instr) → IsInRange i → AreNamed (immediate_row f word i)
 unfolding immediate_row
@@ -172,11 +207,13 @@ unfolding instruction
 instruction_named f word None e = tt
 instruction_named f word (Some i) e = effect_named (row_of i.op) f word i (fitting_in_range i (encoded_read word i e).fits)
 
+fetched_named : (f : Fixed) (pa : ℕ) → AreNamed (fetched_at f pa)
+unfolding fetched_at
+fetched_named f pa = (tt, λ v. instruction_named f _ (decoded _) refl)
+
 script_named : (f : Fixed) → AreNamed (script f)
 unfolding script
-script_named f =
-    either_named (is_bare f.privilege f.satp) _ _
-    (either_named (f.ram (f.pc / 4)) _ _ (tt, λ v. instruction_named f v (decoded v) refl) (trap_named f 0 _ _)) tt
+script_named f = at_address_named f 0 (fetch_view f) _ f.pc (fetched_at f) (fetched_named f)
 
 -- ---- what is asked
 

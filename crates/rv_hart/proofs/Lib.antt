@@ -6,3 +6,4 @@ pub mod Stores
 pub mod CsrPlaces
 pub mod Overlays
 pub mod Afters
+pub mod Reaches

@@ -5,5 +5,6 @@ pub mod Privileged
 pub mod Machine
 pub mod Whole
 pub mod View
+pub mod Reaching
 pub mod Effects
 pub mod Clauses

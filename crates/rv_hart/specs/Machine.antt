@@ -1,5 +1,5 @@
 -- The machine: what one instruction asks and does.
-use Rattle.std.specs.Prelude.{ℕ, ◌+◌, ◌-◌, ◌/◌, ◌%◌, ◌^◌, Bool, false, ◌||◌, not, nat_eq, nat_le, nat_lt, int_lt, if◌then◌else◌, Option, Some, None}
+use Rattle.std.specs.Prelude.{ℕ, ◌+◌, ◌-◌, ◌%◌, ◌^◌, Bool, false, not, nat_eq, nat_le, nat_lt, int_lt, if◌then◌else◌, Option, Some, None}
 use Rattle.rv_isa.specs.declared.instruction.Instr.{Instr}
 use Rattle.rv_isa.specs.declared.operation.Op.{Op}
 use Rattle.rv_isa.specs.declared.operation.Op.TheVariants.{Beq, Bne, Blt, Bge, Bltu, Bgeu, Lb, Lh, Lbu, Lhu, Sb, Sh}
@@ -10,23 +10,38 @@ use Rattle.rv_isa.specs.Encoding.{sign_extended}
 use Rattle.rv_isa.specs.Reading.{decoded}
 use Rattle.rv_isa.specs.Table.{row_of}
 use Rattle.rv_csr.specs.declared.cause.Cause.{Cause}
-use Rattle.rv_csr.specs.declared.cause.Cause.TheVariants.{FetchMisaligned, FetchAccess, LoadMisaligned, LoadAccess, StoreMisaligned, StoreAccess}
+use Rattle.rv_csr.specs.declared.cause.Cause.TheVariants.{FetchMisaligned, LoadMisaligned, StoreMisaligned}
 use Rattle.rv_csr.specs.declared.privilege.Priv.{Priv}
-use Rattle.rv_csr.specs.Privilege.{is_machine}
-use Rattle.rv_csr.specs.Status.{effective_privilege}
+use Rattle.rv_csr.specs.declared.status.Flag.TheVariants.{Mxr, Sum}
+use Rattle.rv_csr.specs.Status.{effective_privilege, is_set}
 use Rattle.rv_script.specs.Script.{Label.FromRs1, Label.FromRs2, Label.Fetched, Label.DataWord, Script, Script.Outside, Script.Done, ◌>>=◌, register, read, write}
+use Rattle.sv_walk.specs.declared.entry.Kind.{Kind}
+use Rattle.sv_walk.specs.declared.entry.Kind.TheVariants.{Fetch as ForFetch, Load as ForLoad, Store as ForStore}
+use Rattle.sv_walk.specs.declared.entry.View.{View}
+use Rattle.sv_walk.specs.Translation.{Reached, At, Fails, translated}
 use Rattle.rv_hart.specs.declared.record.Change.{Change}
 use Rattle.rv_hart.specs.declared.record.Control.TheVariants.{Stay}
 use Rattle.rv_hart.specs.Fixed.{Fixed}
 use Rattle.rv_hart.specs.Privileged.{rd_told, following, went, retired, trap, refused, call_row, break_row, csr_row, csr_immediate_row, mret_row, sret_row, address_fence_row}
 
--- addresses are not translated: in M, or where satp's MODE, its bit 31, is 0 (Privileged, 4.1.11)
-abbrev pub is_bare : Priv → ℕ → Bool
-is_bare privilege satp = is_machine privilege || nat_lt satp 0x80000000
+-- what the translation of a fetch goes by, and that of a load or store: the latter have the privilege MPP where MPRV is 1 (Privileged, 3.1.6.3)
+abbrev pub view_of : Fixed → Priv → View
+view_of f privilege = record { satp = f.satp; privilege = privilege; sum = is_set Sum f.mstatus; mxr = is_set Mxr f.mstatus }
 
--- the addresses of loads and stores are not translated: they have the privilege MPP where MPRV is 1 (Privileged, 3.1.6.3)
-abbrev pub is_data_bare : Fixed → Bool
-is_data_bare f = is_bare (effective_privilege f.mstatus f.privilege) f.satp
+abbrev pub fetch_view : Fixed → View
+fetch_view f = view_of f f.privilege
+
+abbrev pub data_view : Fixed → View
+data_view f = view_of f (effective_privilege f.mstatus f.privilege)
+
+-- an address that leads nowhere traps, and the trap value is the virtual address (Privileged, 3.1.16)
+abbrev pub arriving : Fixed → ℕ → ℕ → (ℕ → Script Change) → Reached → Script Change
+arriving f word va next (At pa) = next pa
+arriving f word va next (Fails cause) = trap f word cause va
+
+-- an address is translated, and then accessed
+unfoldable pub at_address : Fixed → ℕ → View → Kind → ℕ → (ℕ → Script Change) → Script Change
+at_address f word v kind va next = translated f.ram v kind va >>= arriving f word va next
 
 -- a jump; one to a target that is no multiple of 4 traps, and rd is not written (Unprivileged, 2.5)
 abbrev pub jumped : Fixed → ℕ → Option (ℕ × ℕ) → ℕ → Script Change
@@ -87,18 +102,19 @@ loaded Lb value = sign_extended 8 value
 loaded Lh value = sign_extended 16 value
 loaded _ value = value
 
--- so many bytes at an address are accessed as it stands: an address that is no multiple of their number traps before it is looked at, and
--- one outside RAM traps (Unprivileged, 2.6; Privileged, 3.6)
-abbrev pub reached : Fixed → ℕ → ℕ → ℕ → Cause → Cause → Script Change → Script Change
-reached f word addr size misaligned outside access =
-    if nat_eq (addr % size) 0
-    then (if is_data_bare f then (if f.ram (addr / 4) then access else trap f word outside addr) else Outside)
-    else trap f word misaligned addr
+-- an address that is no multiple of the size of its access traps before it is translated (Unprivileged, 2.6)
+abbrev pub reached : Fixed → ℕ → Kind → ℕ → ℕ → Cause → (ℕ → Script Change) → Script Change
+reached f word kind addr size misaligned access =
+    if nat_eq (addr % size) 0 then at_address f word (data_view f) kind addr access else trap f word misaligned addr
+
+-- a load from a physical address
+unfoldable pub load_at : Fixed → ℕ → Instr → ℕ → Script Change
+load_at f word i pa = do
+  value ← read DataWord pa (size_of i.op)
+  Done (retired f.pc word (rd_told i.rd (loaded i.op value)))
 
 abbrev pub load_from : Fixed → ℕ → Instr → ℕ → Script Change
-load_from f word i addr = reached f word addr (size_of i.op) LoadMisaligned LoadAccess (do
-  value ← read DataWord addr (size_of i.op)
-  Done (retired f.pc word (rd_told i.rd (loaded i.op value))))
+load_from f word i addr = reached f word ForLoad addr (size_of i.op) LoadMisaligned (load_at f word i)
 
 -- a load (Unprivileged, 2.6)
 unfoldable pub load_row : Fixed → ℕ → Instr → Script Change
@@ -106,10 +122,14 @@ load_row f word i = do
   a ← register FromRs1 i.rs1
   load_from f word i ((a + i.imm) % 2 ^ 32)
 
+-- a store to a physical address
+unfoldable pub store_at : Fixed → ℕ → Instr → ℕ → ℕ → Script Change
+store_at f word i value pa = do
+  stored ← write pa (size_of i.op) (value % 256 ^ size_of i.op)
+  Done (retired f.pc word None)
+
 abbrev pub store_to : Fixed → ℕ → Instr → ℕ → ℕ → Script Change
-store_to f word i addr value = reached f word addr (size_of i.op) StoreMisaligned StoreAccess (do
-  stored ← write addr (size_of i.op) (value % 256 ^ size_of i.op)
-  Done (retired f.pc word None))
+store_to f word i addr value = reached f word ForStore addr (size_of i.op) StoreMisaligned (store_at f word i value)
 
 -- a store of the low bytes of rs2 (Unprivileged, 2.6)
 unfoldable pub store_row : Fixed → ℕ → Instr → Script Change
@@ -175,13 +195,12 @@ unfoldable pub instruction : Fixed → ℕ → Option Instr → Script Change
 instruction f word None = Outside
 instruction f word (Some i) = effect (row_of i.op) f word i
 
--- one whole instruction: its fetch, and what the fetched word does; a fetch outside RAM traps (Privileged, 3.6)
+-- the fetch from a physical address, and what the fetched word does
+unfoldable pub fetched_at : Fixed → ℕ → Script Change
+fetched_at f pa = do
+  word ← read Fetched pa 4
+  instruction f word (decoded word)
+
+-- one whole instruction; where its fetch fails, no word is fetched (Privileged, 4.3.2)
 unfoldable pub script : Fixed → Script Change
-script f =
-    if is_bare f.privilege f.satp
-    then (if f.ram (f.pc / 4)
-    then (do
-      word ← read Fetched f.pc 4
-      instruction f word (decoded word))
-    else trap f 0 FetchAccess f.pc)
-    else Outside
+script f = at_address f 0 (fetch_view f) ForFetch f.pc (fetched_at f)

@@ -176,7 +176,7 @@ type Exchange = (
     &'static [(u16, u32)],
 );
 
-const EXCHANGES: [Exchange; 22] = [
+const EXCHANGES: [Exchange; 23] = [
     // csrrw x0, mscratch, x5, which does not read
     (0x3402_9073, Priv::M, &[], &[(5, 7)], None, &[(MSCRATCH, 7)]),
     // csrrwi x0, mscratch, 3
@@ -278,6 +278,14 @@ const EXCHANGES: [Exchange; 22] = [
     (
         0x1802_A0F3,
         Priv::S,
+        &[],
+        &[(5, 0x8008_0001)],
+        Some((1, 0)),
+        &[(SATP, 0x8008_0001)],
+    ),
+    (
+        0x1802_A0F3,
+        Priv::M,
         &[],
         &[(5, 0x8008_0001)],
         Some((1, 0)),

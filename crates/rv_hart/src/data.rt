@@ -1,10 +1,9 @@
 // The data of loads and stores.
 ghost use Rattle.std.specs.Prelude.{◌≡◌, ◌+◌, ◌-◌, ◌/◌, ◌%◌, ◌^◌, ◌<◌, ◌⊎◌};
 ghost use Rattle.rv_script.specs.Bytes.{part_of, word_address};
-ghost use Rattle.rv_hart.specs.Machine.{size_of, loaded, is_data_bare};
-ghost use Rattle.rv_hart.specs.View.{fixed_of};
+ghost use Rattle.rv_hart.specs.Machine.{size_of, loaded};
 
-use crate::{Hart, Priv, Seen, Words};
+use crate::{Seen, Words};
 use rv_isa::Op;
 
 /// How many bytes a load reads or a store writes.
@@ -59,12 +58,4 @@ pub fn word_of<M: Words>(m: &M, addr: u32) -> Seen
     ensures place { result ≡ M.at m.now (word_address addr / 4) }
 {
     m.word(addr - addr % 4)
-}
-
-/// Whether loads and stores take their addresses for physical ones.
-pub fn is_untranslated<M: Words>(h: &Hart, m: &M) -> bool
-    ensures { result ≡ is_data_bare (fixed_of h.now (M.at m.now)) }
-{
-    let privilege = h.csrs.effective_privilege(h.privilege);
-    matches!(privilege, Priv::M) || h.csrs.satp() < 0x8000_0000
 }

@@ -132,7 +132,7 @@ pub fn copy_of(hart: &Hart) -> Hart {
     }
 }
 
-/// All that a record says, with the first three accesses.
+/// All that a record says.
 #[derive(Clone, Copy, Debug, PartialEq, Eq)]
 pub struct Done {
     pub pc: u32,
@@ -140,7 +140,7 @@ pub struct Done {
     pub word: u32,
     pub outcome: Outcome,
     pub rd: Option<(u8, u32)>,
-    pub accesses: [Option<Access>; 3],
+    pub accesses: [Option<Access>; 6],
     pub next_pc: u32,
 }
 
@@ -166,6 +166,9 @@ pub fn told_by(stepped: &Stepped) -> Told {
                     accesses.get(0).copied(),
                     accesses.get(1).copied(),
                     accesses.get(2).copied(),
+                    accesses.get(3).copied(),
+                    accesses.get(4).copied(),
+                    accesses.get(5).copied(),
                 ],
                 next_pc: r.next_pc,
             })
@@ -176,12 +179,22 @@ pub fn told_by(stepped: &Stepped) -> Told {
 }
 
 /// The fetch of a word.
-fn fetched(pc: u32, word: u32) -> Option<Access> {
+pub fn fetched(pc: u32, word: u32) -> Option<Access> {
     Some(Access {
         role: Role::Fetch,
         addr: pc,
         size: 4,
         value: word,
+    })
+}
+
+/// The access to an entry of a page table.
+pub fn entry_of(addr: u32, value: u32) -> Option<Access> {
+    Some(Access {
+        role: Role::Walk,
+        addr,
+        size: 4,
+        value,
     })
 }
 
@@ -219,7 +232,7 @@ pub fn retired(
         word,
         outcome: Outcome::Retired,
         rd,
-        accesses: [fetched(hart.pc, word), data, None],
+        accesses: [fetched(hart.pc, word), data, None, None, None, None],
         next_pc,
     }
 }
@@ -236,7 +249,7 @@ pub fn trapped(hart: &Hart, word: u32, cause: u8, value: u32, to: Priv) -> Done 
         word,
         outcome: Outcome::Trap { cause, value, to },
         rd: None,
-        accesses: [fetched(hart.pc, word), None, None],
+        accesses: [fetched(hart.pc, word), None, None, None, None, None],
         next_pc,
     }
 }
@@ -244,7 +257,7 @@ pub fn trapped(hart: &Hart, word: u32, cause: u8, value: u32, to: Priv) -> Done 
 /// The record of a fetch that traps: no word, and no access.
 pub fn unfetched(hart: &Hart, cause: u8, to: Priv) -> Done {
     let mut done = trapped(hart, 0, cause, hart.pc, to);
-    done.accesses = [None; 3];
+    done.accesses = [None; 6];
     done
 }
 

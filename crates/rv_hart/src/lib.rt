@@ -11,12 +11,15 @@ mod hart;
 mod laws;
 mod looked;
 mod privileged;
+mod reaching;
 mod record;
 mod rows;
 mod stepping;
 mod storing;
 #[cfg(test)]
 mod tests;
+#[cfg(test)]
+mod translated_tests;
 #[cfg(test)]
 mod trap_tests;
 

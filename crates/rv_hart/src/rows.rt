@@ -1,26 +1,29 @@
 // What instructions do, row by row of the table of encodings.
-ghost use Rattle.std.specs.Prelude.{◌≡◌, ◌<◌, ◌%◌, All, IsTrue, length, true};
+ghost use Rattle.std.specs.Prelude.{◌≡◌, ◌<◌, ◌≤◌, ◌%◌, ◌/◌, All, IsTrue, length, true};
 ghost use Rattle.rv_script.specs.Folds.{answer_on, prefixed};
 ghost use Rattle.rv_isa.specs.Arithmetic.{is_alu, is_branch};
 ghost use Rattle.rv_isa.specs.Reading.{decoded};
 ghost use Rattle.rv_isa.specs.Table.{row_of};
 ghost use Rattle.rv_isa.specs.Encoding.{IsInRange};
-ghost use Rattle.rv_hart.specs.Machine.{instruction, immediate_row, register_row, upper_row, upper_pc_row, jump_row, jump_register_row, branch_row, load_row, load_from, store_row, store_to, fence_row, is_taken, jumped, size_of, is_data_bare, effect};
+ghost use Rattle.rv_mem.specs.Seen.{is_there};
+ghost use Rattle.rv_hart.specs.Machine.{instruction, immediate_row, register_row, upper_row, upper_pc_row, jump_row, jump_register_row, branch_row, load_row, load_from, store_row, store_to, fence_row, is_taken, jumped, size_of, load_at, store_at, effect};
 ghost use Rattle.rv_hart.specs.Changes.{IsSoundWrite};
 ghost use Rattle.rv_hart.specs.View.{known, fixed_of, looked};
 ghost use Rattle.rv_hart.specs.Effects.{IsInWord};
 ghost use Rattle.rv_hart.specs.Clauses.{IsSound};
 
-use crate::data::{extend, is_untranslated, low_bytes, part, size_of, word_of};
+use crate::data::{extend, low_bytes, part, size_of, word_of};
 use crate::looked::{Looked, go_to, rd_of, retire};
 use crate::privileged::{
     call, csr_immediate, csr_register, fence_addresses, refuse, return_from_machine,
     return_from_supervisor, trap,
 };
+use crate::reaching::{data_view, reach};
 use crate::{Control, Hart, Seen, Words};
 use rv_csr::Cause;
 use rv_isa::{Instr, Op, alu, decode, taken};
 use rv_script::{Access, Accesses, Place, Role};
+use sv_walk::Kind;
 
 /// An operation on a register and an immediate.
 #[tactic(auto, using(crate::proofs::Prefixes::prefixed_none), unfolding(crate::specs::Machine::immediate_row))]
@@ -121,25 +124,26 @@ fn branch<M: Words>(h: &Hart, m: &M, word: u32, i: &Instr, log: &Accesses) -> Lo
     }
 }
 
-/// A load from an address that is a multiple of its size.
-fn load_at<M: Words>(h: &Hart, m: &M, word: u32, i: &Instr, addr: u32, log: &mut Accesses) -> Looked
+/// A load from a physical address.
+#[tactic(auto, unfolding(crate::specs::Machine::load_at))]
+fn load_at<M: Words>(h: &Hart, m: &M, word: u32, i: &Instr, pa: u32, log: &mut Accesses) -> Looked
     requires rd { i.now.rd < 32 }
-    requires aligned { addr % size_of i.now.op ≡ 0 }
-    requires bare { is_data_bare (fixed_of h.now (M.at m.now)) ≡ true }
+    requires aligned { pa % size_of i.now.op ≡ 0 }
+    requires there { is_there (M.at m.now (pa / 4)) ≡ true }
     requires room { length log.old < 8 }
     ensures sound { IsSound h.now.privilege h.now.csrs result }
     ensures words { All IsInWord log.old → All IsInWord log.new }
-    ensures answer { looked log.new result ≡ prefixed log.old (answer_on (known h.now (M.at m.now)) (load_from (fixed_of h.now (M.at m.now)) word i.now addr)) }
+    ensures answer { looked log.new result ≡ prefixed log.old (answer_on (known h.now (M.at m.now)) (load_at (fixed_of h.now (M.at m.now)) word i.now pa)) }
 {
     let size = size_of(i.op);
-    match word_of(m, addr) {
-        Seen::Vacant => trap(h, m, word, Cause::LoadAccess, addr, log),
-        Seen::Untouched => Looked::Missing(Place::Word(addr - addr % 4)),
+    match word_of(m, pa) {
+        Seen::Vacant => unreachable!(),
+        Seen::Untouched => Looked::Missing(Place::Word(pa - pa % 4)),
         Seen::Known(data) => {
-            let value = part(data, addr, size);
+            let value = part(data, pa, size);
             log.push(Access {
                 role: Role::Load,
-                addr,
+                addr: pa,
                 size,
                 value,
             });
@@ -158,17 +162,17 @@ fn load_from<M: Words>(
     log: &mut Accesses,
 ) -> Looked
     requires rd { i.now.rd < 32 }
-    requires room { length log.old < 8 }
+    requires room { length log.old ≤ 5 }
     ensures sound { IsSound h.now.privilege h.now.csrs result }
     ensures words { All IsInWord log.old → All IsInWord log.new }
     ensures answer { looked log.new result ≡ prefixed log.old (answer_on (known h.now (M.at m.now)) (load_from (fixed_of h.now (M.at m.now)) word i.now addr)) }
 {
     if addr % u32::from(size_of(i.op)) != 0 {
-        trap(h, m, word, Cause::LoadMisaligned, addr, log)
-    } else if is_untranslated(h, m) {
-        load_at(h, m, word, i, addr, log)
-    } else {
-        Looked::Outside
+        return trap(h, m, word, Cause::LoadMisaligned, addr, log);
+    }
+    match reach(h, m, word, data_view(h, m), Kind::Load, addr, log) {
+        Ok(pa) => load_at(h, m, word, i, pa, log),
+        Err(looked) => looked,
     }
 }
 
@@ -176,7 +180,7 @@ fn load_from<M: Words>(
 #[tactic(auto, unfolding(crate::specs::Machine::load_row))]
 fn load<M: Words>(h: &Hart, m: &M, word: u32, i: &Instr, log: &mut Accesses) -> Looked
     requires ranges { IsInRange i.now }
-    requires room { length log.old < 8 }
+    requires room { length log.old ≤ 5 }
     ensures sound { IsSound h.now.privilege h.now.csrs result }
     ensures words { All IsInWord log.old → All IsInWord log.new }
     ensures answer { looked log.new result ≡ prefixed log.old (answer_on (known h.now (M.at m.now)) (load_row (fixed_of h.now (M.at m.now)) word i.now)) }
@@ -187,31 +191,32 @@ fn load<M: Words>(h: &Hart, m: &M, word: u32, i: &Instr, log: &mut Accesses) -> 
     }
 }
 
-/// A store of a value's low bytes at an address that is a multiple of its size.
+/// A store of a value's low bytes to a physical address.
+#[tactic(auto, unfolding(crate::specs::Machine::store_at))]
 fn store_at<M: Words>(
     h: &Hart,
     m: &M,
     word: u32,
     i: &Instr,
-    addr: u32,
     value: u32,
+    pa: u32,
     log: &mut Accesses,
 ) -> Looked
-    requires aligned { addr % size_of i.now.op ≡ 0 }
-    requires bare { is_data_bare (fixed_of h.now (M.at m.now)) ≡ true }
+    requires aligned { pa % size_of i.now.op ≡ 0 }
+    requires there { is_there (M.at m.now (pa / 4)) ≡ true }
     requires room { length log.old < 8 }
     ensures sound { IsSound h.now.privilege h.now.csrs result }
     ensures words { All IsInWord log.old → All IsInWord log.new }
-    ensures answer { looked log.new result ≡ prefixed log.old (answer_on (known h.now (M.at m.now)) (store_to (fixed_of h.now (M.at m.now)) word i.now addr value)) }
+    ensures answer { looked log.new result ≡ prefixed log.old (answer_on (known h.now (M.at m.now)) (store_at (fixed_of h.now (M.at m.now)) word i.now value pa)) }
 {
     let size = size_of(i.op);
-    match word_of(m, addr) {
-        Seen::Vacant => trap(h, m, word, Cause::StoreAccess, addr, log),
-        Seen::Untouched => Looked::Missing(Place::Word(addr - addr % 4)),
+    match word_of(m, pa) {
+        Seen::Vacant => unreachable!(),
+        Seen::Untouched => Looked::Missing(Place::Word(pa - pa % 4)),
         Seen::Known(_) => {
             log.push(Access {
                 role: Role::Store,
-                addr,
+                addr: pa,
                 size,
                 value: low_bytes(value, size),
             });
@@ -230,17 +235,17 @@ fn store_to<M: Words>(
     value: u32,
     log: &mut Accesses,
 ) -> Looked
-    requires { length log.old < 8 }
+    requires { length log.old ≤ 5 }
     ensures sound { IsSound h.now.privilege h.now.csrs result }
     ensures words { All IsInWord log.old → All IsInWord log.new }
     ensures answer { looked log.new result ≡ prefixed log.old (answer_on (known h.now (M.at m.now)) (store_to (fixed_of h.now (M.at m.now)) word i.now addr value)) }
 {
     if addr % u32::from(size_of(i.op)) != 0 {
-        trap(h, m, word, Cause::StoreMisaligned, addr, log)
-    } else if is_untranslated(h, m) {
-        store_at(h, m, word, i, addr, value, log)
-    } else {
-        Looked::Outside
+        return trap(h, m, word, Cause::StoreMisaligned, addr, log);
+    }
+    match reach(h, m, word, data_view(h, m), Kind::Store, addr, log) {
+        Ok(pa) => store_at(h, m, word, i, value, pa, log),
+        Err(looked) => looked,
     }
 }
 
@@ -248,7 +253,7 @@ fn store_to<M: Words>(
 #[tactic(auto, unfolding(crate::specs::Machine::store_row))]
 fn store<M: Words>(h: &Hart, m: &M, word: u32, i: &Instr, log: &mut Accesses) -> Looked
     requires ranges { IsInRange i.now }
-    requires room { length log.old < 8 }
+    requires room { length log.old ≤ 5 }
     ensures sound { IsSound h.now.privilege h.now.csrs result }
     ensures words { All IsInWord log.old → All IsInWord log.new }
     ensures answer { looked log.new result ≡ prefixed log.old (answer_on (known h.now (M.at m.now)) (store_row (fixed_of h.now (M.at m.now)) word i.now)) }
@@ -266,7 +271,7 @@ fn store<M: Words>(h: &Hart, m: &M, word: u32, i: &Instr, log: &mut Accesses) ->
 #[tactic(auto, using(crate::proofs::Prefixes::prefixed_none), unfolding(crate::specs::Machine::upper_row, crate::specs::Machine::upper_pc_row, crate::specs::Machine::jump_row, crate::specs::Machine::fence_row))]
 fn perform<M: Words>(h: &Hart, m: &M, word: u32, i: &Instr, log: &mut Accesses) -> Looked
     requires ranges { IsInRange i.now }
-    requires room { length log.old < 8 }
+    requires room { length log.old ≤ 5 }
     ensures sound { IsSound h.now.privilege h.now.csrs result }
     ensures words { All IsInWord log.old → All IsInWord log.new }
     ensures answer { looked log.new result ≡ prefixed log.old (answer_on (known h.now (M.at m.now)) (effect (row_of i.now.op) (fixed_of h.now (M.at m.now)) word i.now)) }
@@ -305,7 +310,7 @@ fn perform<M: Words>(h: &Hart, m: &M, word: u32, i: &Instr, log: &mut Accesses) 
 /// What the instruction word does.
 #[tactic(auto, unfolding(crate::specs::Machine::instruction))]
 pub fn execute<M: Words>(h: &Hart, m: &M, word: u32, log: &mut Accesses) -> Looked
-    requires { length log.old < 8 }
+    requires { length log.old ≤ 5 }
     ensures sound { IsSound h.now.privilege h.now.csrs result }
     ensures words { All IsInWord log.old → All IsInWord log.new }
     ensures answer { looked log.new result ≡ prefixed log.old (answer_on (known h.now (M.at m.now)) (instruction (fixed_of h.now (M.at m.now)) word (decoded word))) }

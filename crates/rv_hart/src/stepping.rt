@@ -1,9 +1,10 @@
 // The step of a hart.
-ghost use Rattle.std.specs.Prelude.{◌≡◌, ◌<◌, ◌%◌, ◌+◌, ◌^◌, ℕ, [], All, length, None, Some, IsTrue};
+ghost use Rattle.std.specs.Prelude.{◌≡◌, ◌<◌, ◌≤◌, ◌/◌, true, ◌%◌, ◌+◌, ◌^◌, ℕ, [], All, length, None, Some, IsTrue};
 ghost use Rattle.std.specs.Option.{ForSome};
 ghost use Rattle.rv_csr.specs.State.{IsLegal};
 ghost use Rattle.rv_script.specs.Folds.{answer_on, prefixed};
-ghost use Rattle.rv_hart.specs.Machine.{script, is_bare};
+ghost use Rattle.rv_mem.specs.Seen.{is_there};
+ghost use Rattle.rv_hart.specs.Machine.{script, fetched_at};
 ghost use Rattle.rv_mem.specs.declared.words.Seen.{Seen as ASeen};
 ghost use Rattle.rv_hart.specs.Changes.{IsSoundChange, csrs_after, outcome_of, privilege_after};
 ghost use Rattle.rv_hart.specs.Whole.{record_of};
@@ -13,18 +14,36 @@ ghost use Rattle.rv_hart.specs.Clauses.{IsMachineStep, IsLocalStep, IsAfter, IsS
 
 use crate::data::word_of;
 use crate::looked::Looked;
-use crate::privileged::trap;
+use crate::reaching::{fetch_view, reach};
 use crate::rows::execute;
 use crate::storing::apply_all;
 use crate::{Change, Control, Hart, Mem, Outcome, Priv, Record, Seen, Stepped, Words};
-use rv_csr::Cause;
 use rv_script::{Access, Accesses, Place, Role};
+use sv_walk::Kind;
 
-/// Whether a fetch takes the pc for a physical address.
-fn is_untranslated(h: &Hart) -> bool
-    ensures { result ≡ is_bare h.now.privilege h.now.csrs.satp }
+/// The fetch from a physical address, and what the fetched word does.
+#[tactic(auto, unfolding(crate::specs::Machine::fetched_at))]
+fn fetch_at<M: Words>(h: &Hart, m: &M, pa: u32, log: &mut Accesses) -> Looked
+    requires aligned { pa % 4 ≡ 0 }
+    requires there { is_there (M.at m.now (pa / 4)) ≡ true }
+    requires room { length log.old ≤ 2 }
+    ensures sound { IsSound h.now.privilege h.now.csrs result }
+    ensures words { All IsInWord log.old → All IsInWord log.new }
+    ensures answer { looked log.new result ≡ prefixed log.old (answer_on (known h.now (M.at m.now)) (fetched_at (fixed_of h.now (M.at m.now)) pa)) }
 {
-    matches!(h.privilege, Priv::M) || h.csrs.satp() < 0x8000_0000
+    match word_of(m, pa) {
+        Seen::Vacant => unreachable!(),
+        Seen::Untouched => Looked::Missing(Place::Word(pa)),
+        Seen::Known(word) => {
+            log.push(Access {
+                role: Role::Fetch,
+                addr: pa,
+                size: 4,
+                value: word,
+            });
+            execute(h, m, word, log)
+        }
+    }
 }
 
 /// What the next step would do, with its accesses in the log.
@@ -35,21 +54,9 @@ fn look_at<M: Words>(h: &Hart, m: &M, log: &mut Accesses) -> Looked
     ensures words { All IsInWord log.new }
     ensures answer { looked log.new result ≡ answer_on (known h.now (M.at m.now)) (script (fixed_of h.now (M.at m.now))) }
 {
-    if !is_untranslated(h) {
-        return Looked::Outside;
-    }
-    match word_of(m, h.pc) {
-        Seen::Vacant => trap(h, m, 0, Cause::FetchAccess, h.pc, log),
-        Seen::Untouched => Looked::Missing(Place::Word(h.pc)),
-        Seen::Known(word) => {
-            log.push(Access {
-                role: Role::Fetch,
-                addr: h.pc,
-                size: 4,
-                value: word,
-            });
-            execute(h, m, word, log)
-        }
+    match reach(h, m, 0, fetch_view(h, m), Kind::Fetch, h.pc, log) {
+        Ok(pa) => fetch_at(h, m, pa, log),
+        Err(looked) => looked,
     }
 }
 

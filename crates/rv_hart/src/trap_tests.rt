@@ -2,13 +2,11 @@
 ghost use Rattle.std.specs.Prelude.{◌<◌};
 
 use crate::fixtures::{
-    BEYOND, DATA, MEDELEG, MEPC, MSTATUS, MTVEC, NEXT, RAM, SATP, SEPC, STVEC, TO_MACHINE,
-    TO_SUPERVISOR, Told, assert_did, assert_lacks, assert_none, assert_retires, assert_traps,
-    hart_with, known, load_of, retired, saved_by, store_of, told_by, trapped, unfetched,
+    BEYOND, DATA, MEDELEG, MEPC, MSTATUS, MTVEC, RAM, SEPC, STVEC, TO_MACHINE, TO_SUPERVISOR, Told,
+    assert_did, assert_lacks, assert_none, assert_retires, assert_traps, hart_with, known, retired,
+    saved_by, told_by, trapped, unfetched,
 };
 use crate::{Place, Priv, look};
-use std::alloc::Global;
-use std::process::Abort;
 
 const ECALL: u32 = 0x0000_0073;
 
@@ -391,91 +389,4 @@ fn a_trap_needs_its_vector_last(rt: HostRuntime) {
     let mut memory = known(&rt, a, &[(RAM, 0)]);
     let told = Told::Missing(Place::Csr(0x305));
     assert_none(&rt, &mut hart, &mut memory, 0, told);
-}
-
-/// A load in a privilege with mstatus and satp, and whether it has a step.
-const TRANSLATED: [(Priv, u32, u32, bool); 12] = [
-    (Priv::M, 0x0002_0000, 0x8000_0000, false), // MPRV, and MPP is U
-    (Priv::M, 0x0002_0800, 0x8000_0000, false), // MPRV, and MPP is S
-    (Priv::M, 0x0002_1800, 0x8000_0000, true), // MPRV, and MPP is M
-    (Priv::M, 0x0000_0800, 0x8000_0000, true),
-    (Priv::M, 0x0002_0800, 0, true),
-    (Priv::M, 0x0002_0800, 0x800F_FFFF, false),
-    (Priv::S, 0, 0x8000_0000, false),
-    (Priv::U, 0, 0x8008_0001, false),
-    (Priv::S, 0x0002_1800, 0x8000_0000, false), // the fetch goes by the hart's privilege
-    (Priv::S, 0, 0, true),
-    (Priv::U, 0, 0, true),
-    (Priv::U, 0x0002_0800, 0, true),
-];
-
-/// Loads and stores a word where mstatus and satp are these.
-fn assert_reaches(
-    rt: &impl Abort,
-    alloc: Global,
-    from: Priv,
-    mstatus: u32,
-    satp: u32,
-    has_step: bool,
-) {
-    let csrs = [(MSTATUS, mstatus), (SATP, satp)];
-    let no_change: [(u16, u32); 0] = [];
-    // lw x6, 0(x5), and sw x5, 0(x5)
-    for (word, rd, data) in [
-        (0x0002_A303, Some((6, 9)), load_of(DATA, 4, 9)),
-        (0x0052_A023, None, store_of(DATA, 4, DATA)),
-    ] {
-        let mut hart = hart_with(rt, RAM, from, &csrs, &[(5, DATA)]);
-        let mut memory = known(rt, alloc, &[(RAM, word), (DATA, 9)]);
-        if has_step {
-            let done = retired(&hart, word, rd, data, NEXT);
-            assert_did(rt, &mut hart, &mut memory, done, from, &no_change);
-        } else {
-            assert_none(rt, &mut hart, &mut memory, word, Told::Outside);
-        }
-    }
-}
-
-#[test]
-fn data_goes_by_mpp_where_mprv_is_set(rt: HostRuntime) {
-    for (from, mstatus, satp, has_step) in TRANSLATED {
-        assert_reaches(&rt, rt.alloc(), from, mstatus, satp, has_step);
-    }
-    // A misaligned address traps before it would be translated.
-    let csrs = [
-        (MSTATUS, 0x0002_0800),
-        (SATP, 0x8000_0000),
-        (MTVEC, TO_MACHINE),
-    ];
-    let mut hart = hart_with(&rt, RAM, Priv::M, &csrs, &[(5, DATA + 2)]);
-    let (word, value, after) = (0x0002_A303, DATA + 2, 0x0002_1800);
-    assert_traps(&rt, rt.alloc(), &mut hart, word, 4, value, Priv::M, after);
-}
-
-#[test]
-fn nothing_is_fetched_through_translation(rt: HostRuntime) {
-    let none: [(u8, u32); 0] = [];
-    // The privilege, satp, the pc, whether the addi there is done.
-    for (from, satp, pc, has_step) in [
-        (Priv::S, 0x8000_0000, RAM, false),
-        (Priv::U, 0x8000_0000, RAM, false),
-        (Priv::U, 0x8008_0001, 0x9000_0000, false),
-        (Priv::S, 0x8008_0001, NEXT, false), // nothing is known there
-        (Priv::M, 0x8008_0001, RAM, true),
-        (Priv::S, 0, RAM, true),
-        (Priv::U, 0, RAM, true),
-    ] {
-        // MPRV, and MPP is M
-        let csrs = [(MSTATUS, 0x0002_1800), (SATP, satp), (MTVEC, TO_MACHINE)];
-        let mut hart = hart_with(&rt, pc, from, &csrs, &none);
-        let word = 0x0070_0293; // addi x5, x0, 7
-        let mut memory = known(&rt, rt.alloc(), &[(RAM, word)]);
-        if has_step {
-            let done = retired(&hart, word, Some((5, 7)), None, NEXT);
-            let no_change: [(u16, u32); 0] = [];
-            assert_did(&rt, &mut hart, &mut memory, done, from, &no_change);
-        } else {
-            assert_none(&rt, &mut hart, &mut memory, word, Told::Outside);
-        }
-    }
 }

@@ -1,3 +1,4 @@
 pub mod Parts
 pub mod Wholes
 pub mod Local
+pub mod Binds

@@ -2,8 +2,8 @@
 use Rattle.std.specs.Prelude.{◌≡◌, ℕ, ◌^◌, ◌<◌, true, List, Option, Some}
 use Rattle.rv_script.specs.Lists.{HasItem}
 use Rattle.rv_script.specs.Bytes.{covers, byte_at}
-use Rattle.rv_script.specs.Script.{Label, Question, Question.OfRegister, Question.OfCsr, Question.OfMemory, Question.ToMemory, role_of, Script}
-use Rattle.rv_script.specs.Folds.{Teller, Answer.Does, play, Entry, Sight, asked_of, result_of, notes_of, accesses_of, needs_of, first_missing, answer_by}
+use Rattle.rv_script.specs.Script.{Question, Question.OfRegister, Question.OfCsr, Question.OfMemory, Question.ToMemory, role_of, Script, ◌>>=◌}
+use Rattle.rv_script.specs.Folds.{Teller, Answer.Does, and_then, play, Entry, Sight, asked_of, result_of, notes_of, accesses_of, needs_of, first_missing, answer_by}
 
 -- a whole state has all that is told
 abbrev pub Extends : Teller → Sight → Type 0
@@ -43,3 +43,7 @@ LocalLaw s =
     (see other : Sight)
     → ((e : Entry) → HasItem (asked_of s see) e → IsSeenAlike e.question e.value (other e.question))
     → IsSame s see other
+
+-- one script and then another answer as one answer and then another
+abbrev pub BindLaw : {L A B : Type 0} → (Question → ℕ → Option L) → Script A → (A → Script B) → Type 0
+BindLaw note s next = (tell : Teller) → play note tell (s >>= next) ≡ and_then (play note tell s) (λ a. play note tell (next a))

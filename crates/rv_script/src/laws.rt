@@ -2,7 +2,7 @@
 ghost use Rattle.std.specs.Prelude.{ℕ};
 ghost use Rattle.std.specs.declared.option.Option.{Option};
 ghost use Rattle.rv_script.specs.Script.{Question, Script};
-ghost use Rattle.rv_script.specs.Laws.{WholeLaw, MoreLaw, LocalLaw};
+ghost use Rattle.rv_script.specs.Laws.{BindLaw, WholeLaw, MoreLaw, LocalLaw};
 
 /// The answer on known places is that of every whole state that has them: what it does, the first place
 /// that it needs and that isn't known, or that it has no step.
@@ -18,4 +18,10 @@ pub fn more_knowledge_changes_nothing<L, A>()
 /// A step rests on the registers and CSRs that it asks for and on the bytes that it looks at alone.
 pub fn steps_are_local<A>()
     ensures { (s : Script A) → LocalLaw s }
+{}
+
+/// One script and then another answer as one answer and then another.
+#[tactic(auto, using(crate::proofs::Binds::bound))]
+pub fn answers_go_on<L, A, B>()
+    ensures { (note : Question → ℕ → Option L) (s : Script A) (next : A → Script B) → BindLaw note s next }
 {}

@@ -11,6 +11,7 @@ mod tests;
 
 pub use access::{Access, Accesses, Role};
 pub use laws::{
-    answers_are_those_of_whole_states, more_knowledge_changes_nothing, steps_are_local,
+    answers_are_those_of_whole_states, answers_go_on, more_knowledge_changes_nothing,
+    steps_are_local,
 };
 pub use place::Place;

@@ -1,5 +1,5 @@
 -- What a walk says.
-use Rattle.std.specs.Prelude.{◌≡◌, ℕ, ◌/◌, ◌%◌, Bool, true, List, [], map, Option, Some, None}
+use Rattle.std.specs.Prelude.{◌≡◌, ℕ, ◌/◌, ◌%◌, ◌^◌, Bool, true, All, List, [], map, Option, Some, None}
 use Rattle.rv_mem.specs.declared.words.Seen.{Seen}
 use Rattle.rv_mem.specs.declared.words.Seen.TheVariants.{Untouched}
 use Rattle.rv_mem.specs.Seen.{known_word, is_there}
@@ -22,6 +22,17 @@ IsEnd at (Pa addr) = is_there (at (addr / 4)) ≡ true
 IsEnd at (Missing addr) = (addr % 4 ≡ 0) × (at (addr / 4) ≡ Untouched)
 IsEnd at (Fault cause) = Unit {0}
 IsEnd at EndsOutside = Unit {0}
+
+-- entries lie at multiples of 4
+abbrev pub AreAligned : List (ℕ × ℕ) → Type 0
+AreAligned entries = All (λ e. e.0 % 4 ≡ 0) entries
+
+-- a physical address keeps the offset in its page of 2 ^ 12 bytes
+abbrev pub KeepsOffset : ℕ → WalkEnd → Type 0
+KeepsOffset va (Pa addr) = addr % 2 ^ 12 ≡ va % 2 ^ 12
+KeepsOffset va (Fault cause) = Unit {0}
+KeepsOffset va (Missing addr) = Unit {0}
+KeepsOffset va EndsOutside = Unit {0}
 
 -- an entry that was read, as an access
 abbrev pub entry_access : ℕ × ℕ → Access

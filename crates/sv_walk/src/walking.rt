@@ -1,9 +1,9 @@
 // The walk.
-ghost use Rattle.std.specs.Prelude.{◌≡◌, ◌<◌, ◌%◌, ◌/◌, ◌^◌, ◌++◌, [], if◌then◌else◌, map, nat_lt, length};
+ghost use Rattle.std.specs.Prelude.{◌≡◌, ◌<◌, ◌≤◌, ◌+◌, ◌%◌, ◌/◌, ◌^◌, ◌++◌, [], if◌then◌else◌, map, nat_lt, length};
 ghost use Rattle.rv_mem.specs.declared.words.Seen.TheVariants.{Vacant as NoRam};
 ghost use Rattle.rv_script.specs.Folds.{answer_on, prefixed};
 ghost use Rattle.sv_walk.specs.Translation.{arrived, second_end, from_pointer, from_root, is_translated, translated};
-ghost use Rattle.sv_walk.specs.Clauses.{accesses_on, end_of, ended, entry_access, known_words, ram_of, AreRead, IsEnd, IsTranslation, IsWalk};
+ghost use Rattle.sv_walk.specs.Clauses.{accesses_on, end_of, ended, entry_access, known_words, ram_of, AreAligned, AreRead, IsEnd, KeepsOffset, IsTranslation, IsWalk};
 
 use crate::ending::{Walk, WalkEnd};
 use crate::entries::Entries;
@@ -27,6 +27,7 @@ fn word_at<M: Words>(m: &M, addr: u64) -> Seen
 fn arrive<M: Words>(m: &M, kind: Kind, addr: u64) -> WalkEnd
     ensures value { result ≡ end_of (arrived (ram_of (M.at m.now)) kind addr) }
     ensures end { IsEnd (M.at m.now) result }
+    ensures offset { KeepsOffset addr result }
 {
     match word_at(m, addr - addr % 4) {
         Seen::Vacant => WalkEnd::Fault(kind.access_cause()),
@@ -39,6 +40,7 @@ fn arrive<M: Words>(m: &M, kind: Kind, addr: u64) -> WalkEnd
 fn end_at_second<M: Words>(m: &M, v: View, kind: Kind, va: u32, entry: u32) -> WalkEnd
     ensures value { result ≡ end_of (second_end (ram_of (M.at m.now)) v kind va entry) }
     ensures end { IsEnd (M.at m.now) result }
+    ensures offset { KeepsOffset va result }
 {
     if is_invalid(entry) || is_pointer(entry) || is_closed(v, kind, entry) {
         return WalkEnd::Fault(kind.page_cause());
@@ -62,6 +64,9 @@ fn walk_pointer<M: Words>(
 ) -> WalkEnd
     requires { length ptes.old < 2 }
     ensures end { IsEnd (M.at m.now) result }
+    ensures offset { KeepsOffset va result }
+    ensures aligned { AreAligned ptes.old → AreAligned ptes.new }
+    ensures few { length ptes.new ≤ length ptes.old + 1 }
     ensures answer { ended ptes.new result ≡ prefixed (map entry_access ptes.old) (answer_on (known_words (M.at m.now)) (from_pointer (ram_of (M.at m.now)) v kind va entry)) }
     ensures read { map entry_access ptes.new ≡ map entry_access ptes.old ++ accesses_on (known_words (M.at m.now)) (from_pointer (ram_of (M.at m.now)) v kind va entry) }
 {
@@ -88,6 +93,9 @@ fn walk_root<M: Words>(
 ) -> WalkEnd
     requires { length ptes.old < 2 }
     ensures end { IsEnd (M.at m.now) result }
+    ensures offset { KeepsOffset va result }
+    ensures aligned { AreAligned ptes.old → AreAligned ptes.new }
+    ensures few { length ptes.new ≤ length ptes.old + 1 }
     ensures answer { ended ptes.new result ≡ prefixed (map entry_access ptes.old) (answer_on (known_words (M.at m.now)) (from_root (ram_of (M.at m.now)) v kind va entry)) }
     ensures read { map entry_access ptes.new ≡ map entry_access ptes.old ++ accesses_on (known_words (M.at m.now)) (from_root (ram_of (M.at m.now)) v kind va entry) }
 {
@@ -122,6 +130,9 @@ fn is_translated(v: View) -> bool
 fn translate<M: Words>(m: &M, v: View, kind: Kind, va: u32, ptes: &mut Entries) -> WalkEnd
     requires { ptes.old ≡ [] }
     ensures end { IsEnd (M.at m.now) result }
+    ensures offset { KeepsOffset va result }
+    ensures aligned { AreAligned ptes.new }
+    ensures few { length ptes.new ≤ 2 }
     ensures answer { ended ptes.new result ≡ answer_on (known_words (M.at m.now)) (translated (ram_of (M.at m.now)) v kind va) }
     ensures read { map entry_access ptes.new ≡ accesses_on (known_words (M.at m.now)) (translated (ram_of (M.at m.now)) v kind va) }
 {
@@ -155,6 +166,13 @@ pub fn walk<M: Words>(m: &M, v: View, va: u32, kind: Kind) -> Walk
 
     // Pa is in RAM, and Missing carries a word of RAM that has no value yet.
     ensures end { IsEnd (M.at m.now) result.outcome }
+
+    // The offset in the page stays.
+    ensures offset { KeepsOffset va result.outcome }
+
+    // The entries lie at multiples of 4, and there are at most two.
+    ensures aligned { AreAligned result.ptes }
+    ensures few { length result.ptes ≤ 2 }
 {
     let mut ptes = Entries::new();
     let outcome = translate(m, v, kind, va, &mut ptes);
