@@ -1,6 +1,6 @@
 //! Problems: what a step may be, as domains of its variables and relations between them. An
 //! assignment gives each variable a value; it fits a problem where it is in the domains of one of the
-//! problem's cases and meets that case's relations. A problem's space bounds the work of a search.
+//! problem's cases and meets that case's relations. A problem's space is what a budget is compared with.
 #![tactic(auto)]
 
 mod fitting;
@@ -18,6 +18,6 @@ pub use fitting::fits;
 pub use items::Items;
 pub use laws::fitting_laws;
 pub use problem::{Assignment, Case, Extra, Problem};
-pub use relation::{Quad, Rel};
+pub use relation::{Quad, Rel, holds};
 pub use slot::{SLOTS, Slot};
 pub use spaces::space;

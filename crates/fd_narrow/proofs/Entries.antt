@@ -1,0 +1,77 @@
+-- What tables say of variables.
+use Rattle.std.proofs.Common.{◌≡◌, ℕ, ◌≤◌, ◌⊎◌, ⊎_elim, not, Bool, true, false, List, [], ◌∷◌, ◌++◌, Option, Some, None, IsTrue, length, slice_get, get_or, nat_lt, refl, sym, ap, ◌∙◌, subst, arith, eqb-true}
+use Rattle.std.specs.List.{filter}
+use Rattle.std.proofs.lemmas.Bool.{ltb-true}
+use Rattle.std.proofs.lemmas.Option.{slice_get_read}
+use Rattle.dom_set.specs.Elements.{is_in, is_within}
+use Rattle.fd_prob.specs.declared.slot.Slot.{Slot}
+use Rattle.fd_prob.specs.Relations.{agrees, is_held, value_of}
+use Rattle.fd_narrow.specs.Narrowing.{domain_in}
+use Rattle.fd_narrow.specs.Spans.{IsOfRanges}
+use Rattle.fd_narrow.specs.Steps.{IsValueIn, IsValueOutside, Leaves}
+use Rattle.fd_narrow.specs.Tables.{AreListed, AreRefused, is_listed, is_refused}
+use Rattle.fd_narrow.proofs.Compositions.{weakened}
+use Rattle.fd_narrow.proofs.Members.{is_in-filter, joined}
+use Rattle.fd_narrow.proofs.Sameness.{none_in}
+use Rattle.fd_narrow.proofs.Spans.{pushed_has, pushed_kept, pushed_splits, true_or_false}
+
+-- the entry that a read of the table gave
+pub entry_at : (table : List (Option ℕ)) (i v : ℕ) (e : Option ℕ) → e ≡ Some v → true ≡ nat_lt i (length table) → e ≡ get_or table i e → slice_get table i ≡ Some (Some v)
+entry_at table i v e is below at_i = slice_get_read table (length table) i e refl (ltb-true i (length table) (sym below)) at_i ∙ ap Some is
+
+at_place : (i j : ℕ) → (i ≤ j) × (j ≤ i) → i ≡ j
+at_place i j h = omega (arith, h.0, h.1)
+
+refused_pushed : (table : List (Option ℕ)) (values : List ℕ) (indices : List (ℕ × ℕ)) (i v : ℕ) → slice_get table i ≡ Some (Some v) → is_in values v ≡ false → AreRefused table values indices → AreRefused table values (indices ++ (i, i) ∷ [])
+refused_pushed table values indices i v entry out before j h = ⊎_elim
+    (λ k. before j k)
+    (λ k. subst (λ (n : ℕ). IsTrue (is_refused values (slice_get table n))) (at_place i j k) (subst (λ (e : Option (Option ℕ)). IsTrue (is_refused values e)) (sym entry) (ap not out)))
+    (pushed_splits indices (i, i) j h)
+
+pub refused_more : (table : List (Option ℕ)) (values : List ℕ) (indices new : List (ℕ × ℕ)) (i v : ℕ) → slice_get table i ≡ Some (Some v) → is_in values v ≡ false → AreRefused table values indices → new ≡ indices ++ (i, i) ∷ [] → AreRefused table values new
+refused_more table values indices new i v entry out before is = subst (AreRefused table values) (sym is) (refused_pushed table values indices i v entry out before)
+
+listed_kept : (e : Option (Option ℕ)) (values : List (ℕ × ℕ)) (span : ℕ × ℕ) → IsTrue (is_listed values e) → IsTrue (is_listed (values ++ span ∷ []) e)
+listed_kept (Some (Some v)) values span h = pushed_kept values span v h
+listed_kept (Some None) values span h = h
+listed_kept None values span h = h
+
+listed_pushed : (table : List (Option ℕ)) (indices values : List (ℕ × ℕ)) (i v : ℕ) → slice_get table i ≡ Some (Some v) → AreListed table indices values → AreListed table (indices ++ (i, i) ∷ []) (values ++ (v, v) ∷ [])
+listed_pushed table indices values i v entry before j h = ⊎_elim
+    (λ k. listed_kept (slice_get table j) values (v, v) (before j k))
+    (λ k. subst (λ (n : ℕ). IsTrue (is_listed (values ++ (v, v) ∷ []) (slice_get table n))) (at_place i j k) (subst (λ (e : Option (Option ℕ)). IsTrue (is_listed (values ++ (v, v) ∷ []) e)) (sym entry) (pushed_has values (v, v) v (omega arith) (omega arith))))
+    (pushed_splits indices (i, i) j h)
+
+pub listed_more : (table : List (Option ℕ)) (indices values more_indices more_values : List (ℕ × ℕ)) (i v : ℕ) → slice_get table i ≡ Some (Some v) → AreListed table indices values → more_indices ≡ indices ++ (i, i) ∷ [] → more_values ≡ values ++ (v, v) ∷ [] → AreListed table more_indices more_values
+listed_more table indices values more_indices more_values i v entry before is is_values = subst (λ (d : List (ℕ × ℕ)). AreListed table d more_values) (sym is) (subst (λ (d : List (ℕ × ℕ)). AreListed table (indices ++ (i, i) ∷ []) d) (sym is_values) (listed_pushed table indices values i v entry before))
+
+not_both : (e : Option (Option ℕ)) (values : List ℕ) (v : ℕ) → IsTrue (is_refused values e) → IsTrue (agrees e v) → IsTrue (is_in values v) → ⊥
+not_both (Some (Some w)) values v refused held there = cc (ap (is_in values) (eqb-true w v held), refused_out (is_in values w) refused, there) where
+  refused_out : (b : Bool) → IsTrue (not b) → b ≡ false
+  refused_out true h = absurd (cc h)
+  refused_out false h = refl
+not_both (Some None) values v refused held there = absurd (cc refused)
+not_both None values v refused held there = absurd (cc refused)
+
+pub index_narrows : (a b : List (List ℕ)) (index value : Slot) (table : List (Option ℕ)) (values set : List ℕ) (ranges : List (ℕ × ℕ)) → values ≡ domain_in a value → AreRefused table values ranges → IsOfRanges ranges set → Leaves (IsValueOutside index set) a b → Leaves (λ x. IsTrue (is_held x index value table)) a b
+index_narrows a b index value table values set ranges at_value refused is leaves = weakened (IsValueOutside index set) (λ x. IsTrue (is_held x index value table)) a b
+    (λ x inside held small. ⊎_elim
+    (λ k. absurd (not_both (slice_get table (value_of x index)) values (value_of x value) (refused (value_of x index) (is.within (value_of x index) k)) held (subst (λ (d : List ℕ). IsTrue (is_in d (value_of x value))) (sym at_value) (inside value))))
+    (λ k. k)
+    (true_or_false (is_in set (value_of x index)))) leaves
+
+listed_value : (e : Option (Option ℕ)) (values : List (ℕ × ℕ)) (v : ℕ) → IsTrue (is_listed values e) → IsTrue (agrees e v) → IsTrue (is_within values v)
+listed_value (Some (Some w)) values v listed held = subst (λ (n : ℕ). IsTrue (is_within values n)) (eqb-true w v held) listed
+listed_value (Some None) values v listed held = absurd (cc listed)
+listed_value None values v listed held = absurd (cc listed)
+
+-- where nothing is left without it, it has all
+all_found : (found set missing : List ℕ) → missing ≡ filter (λ v. not (is_in found v)) set → length missing ≡ 0 → (v : ℕ) → IsTrue (is_in set v) → IsTrue (is_in found v)
+all_found found set missing is none v h = ⊎_elim
+    (λ k. k)
+    (λ k. absurd (cc (none_in missing none v, subst (λ (b : Bool). IsTrue b) (sym (ap (λ (d : List ℕ). is_in d v) is ∙ is_in-filter (λ w. not (is_in found w)) set v)) (joined (not (is_in found v)) (is_in set v) (ap not k) h))))
+    (true_or_false (is_in found v))
+
+pub entry_narrows : (a b : List (List ℕ)) (index value : Slot) (table : List (Option ℕ)) (set found missing values : List ℕ) (indices listed : List (ℕ × ℕ)) → set ≡ domain_in a index → AreListed table indices listed → IsOfRanges indices found → missing ≡ filter (λ v. not (is_in found v)) set → length missing ≡ 0 → IsOfRanges listed values → Leaves (IsValueIn value values) a b → Leaves (λ x. IsTrue (is_held x index value table)) a b
+entry_narrows a b index value table set found missing values indices listed at_index entries is_found is none is_values leaves = weakened (IsValueIn value values) (λ x. IsTrue (is_held x index value table)) a b
+    (λ x inside held small. is_values.all (value_of x value) small (listed_value (slice_get table (value_of x index)) listed (value_of x value) (entries (value_of x index) (is_found.within (value_of x index) (all_found found set missing is none (value_of x index) (subst (λ (d : List ℕ). IsTrue (is_in d (value_of x index))) (sym at_index) (inside index))))) held)) leaves

@@ -1,0 +1,54 @@
+-- What the targets of jumps say of variables.
+use Rattle.std.proofs.Common.{◌≡◌, ◌==◌, ℕ, ◌+◌, ◌-◌, ◌%◌, ◌<◌, ◌^◌, ◌&&◌, ◌||◌, ◌⊎◌, not, Bool, true, false, List, [], ◌∷◌, IsTrue, inl, inr, refl, ap, ◌∙◌, subst, arith, eq-eqb}
+use Rattle.std.specs.List.{filter}
+use Rattle.std.proofs.lemmas.Bool.{cases_lt}
+use Rattle.dom_set.specs.Elements.{elements_of, is_in, is_within}
+use Rattle.dom_set.specs.Laws.{ElementsPass, IsInTests}
+use Rattle.fd_prob.specs.declared.problem.Assignment.{Assignment}
+use Rattle.fd_prob.specs.declared.slot.Slot.TheVariants as slots
+use Rattle.fd_prob.specs.Relations.{value_of}
+use Rattle.fd_narrow.specs.Spans.{IsOfRanges}
+use Rattle.fd_narrow.specs.Steps.{Leaves}
+use Rattle.fd_narrow.specs.Targets.{HasEven, HasOddToo}
+use Rattle.fd_narrow.proofs.Compositions.{followed, weakened}
+use Rattle.fd_narrow.proofs.Members.{is_in-elements_of, is_in-filter, joined}
+use Rattle.fd_narrow.proofs.Spans.{pushed_has}
+
+-- what is outside both is in neither
+gone : (a b c : Bool) → IsTrue (a || b) → (not (not b && (not a && c)) && true) ≡ true
+gone true true c h = refl
+gone true false c h = refl
+gone false true c h = refl
+gone false false c h = absurd (cc h)
+
+all_words : (all : List ℕ) → IsOfRanges ((0, 2 ^ 32 - 1) ∷ []) all → (v : ℕ) → v < 2 ^ 32 → is_in all v ≡ true
+all_words all is v small = is.all v small (pushed_has [] (0, 2 ^ 32 - 1) v (omega arith) (omega arith))
+
+pub either_has : (all first second others neither made : List ℕ) → IsOfRanges ((0, 2 ^ 32 - 1) ∷ []) all → others ≡ filter (λ v. not (is_in first v)) all → neither ≡ filter (λ v. not (is_in second v)) others → made ≡ filter (λ v. not (is_in neither v)) all → (v : ℕ) → v < 2 ^ 32 → IsTrue (is_in first v || is_in second v) → IsTrue (is_in made v)
+either_has all first second others neither made is is_others is_neither is_made v small h =
+    let at_others : is_in others v ≡ (not (is_in first v) && is_in all v) = ap (λ (d : List ℕ). is_in d v) is_others ∙ is_in-filter (λ w. not (is_in first w)) all v in
+    let at_neither : is_in neither v ≡ (not (is_in second v) && is_in others v) = ap (λ (d : List ℕ). is_in d v) is_neither ∙ is_in-filter (λ w. not (is_in second w)) others v in
+    let at_made : is_in made v ≡ (not (is_in neither v) && is_in all v) = ap (λ (d : List ℕ). is_in d v) is_made ∙ is_in-filter (λ w. not (is_in neither w)) all v in
+    at_made ∙ ap (λ (b : Bool). not b && is_in all v) (at_neither ∙ ap (λ (b : Bool). not (is_in second v) && b) at_others) ∙ ap (λ (b : Bool). not (not (is_in second v) && (not (is_in first v) && is_in all v)) && b) (all_words all is v small) ∙ gone (is_in first v) (is_in second v) (is_in all v) h
+
+module _ (pass : ElementsPass) (tests : IsInTests) where
+  pub even_has : (set evens even : List ℕ) → evens ≡ elements_of (λ x. x % 2 == 0 && is_within ((0, 2 ^ 32 - 1) ∷ []) x) → even ≡ filter (is_in evens) set → HasEven set even
+  even_has set evens even is_evens is v small zeroth h =
+      let here : is_in evens v ≡ true = ap (λ (d : List ℕ). is_in d v) is_evens ∙ is_in-elements_of pass tests (λ x. x % 2 == 0 && is_within ((0, 2 ^ 32 - 1) ∷ []) x) v small ∙ joined (v % 2 == 0) (is_within ((0, 2 ^ 32 - 1) ∷ []) v) (eq-eqb (v % 2) 0 zeroth) (pushed_has [] (0, 2 ^ 32 - 1) v (omega arith) (omega arith)) in
+      ap (λ (d : List ℕ). is_in d v) is ∙ is_in-filter (is_in evens) set v ∙ joined (is_in evens v) (is_in set v) here h
+
+parity : (v : ℕ) → (v % 2 ≡ 0) ⊎ (v % 2 ≡ 1)
+parity v = elim (cases_lt (v % 2) 1) [ inl h ↦ inl (omega (arith, h)) | inr h ↦ inr (omega (arith, h)) ]
+
+pub indirect_narrows : (a b c : List (List ℕ)) (set sums : List ℕ) → HasOddToo set sums → Leaves (λ x. IsTrue (is_in sums ((value_of x slots.A + value_of x slots.Imm) % 2 ^ 32))) a b → Leaves (λ x. IsTrue (is_in sums ((value_of x slots.Imm + value_of x slots.A) % 2 ^ 32))) b c → Leaves (λ x. IsTrue (is_in set ((value_of x slots.A + value_of x slots.Imm) % 2 ^ 32 - (value_of x slots.A + value_of x slots.Imm) % 2 ^ 32 % 2))) a c
+indirect_narrows a b c set sums has one two =
+    let P : Assignment → Type 0 = λ x. IsTrue (is_in set ((value_of x slots.A + value_of x slots.Imm) % 2 ^ 32 - (value_of x slots.A + value_of x slots.Imm) % 2 ^ 32 % 2)) in
+    let in_sums : (x : Assignment) → P x → IsTrue (is_in sums ((value_of x slots.A + value_of x slots.Imm) % 2 ^ 32)) = λ x h. has ((value_of x slots.A + value_of x slots.Imm) % 2 ^ 32) (below (value_of x slots.A + value_of x slots.Imm)) h in
+    followed P a b c
+    (weakened (λ x. IsTrue (is_in sums ((value_of x slots.A + value_of x slots.Imm) % 2 ^ 32))) P a b (λ x inside h. in_sums x h) one)
+    (weakened (λ x. IsTrue (is_in sums ((value_of x slots.Imm + value_of x slots.A) % 2 ^ 32))) P b c (λ x inside h. subst (λ (n : ℕ). IsTrue (is_in sums (n % 2 ^ 32))) (turned (value_of x slots.A) (value_of x slots.Imm)) (in_sums x h)) two) where
+      below : (n : ℕ) → n % 2 ^ 32 < 2 ^ 32
+      below n = omega arith
+
+      turned : (m n : ℕ) → m + n ≡ n + m
+      turned m n = omega arith

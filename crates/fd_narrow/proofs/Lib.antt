@@ -1,0 +1,13 @@
+pub mod Members
+pub mod Replacing
+pub mod Outcomes
+pub mod Spans
+pub mod Compositions
+pub mod Sameness
+pub mod Entries
+pub mod Totals
+pub mod Ranks
+pub mod RowParts
+pub mod Jumps
+pub mod Subsets
+pub mod Operands

@@ -1,0 +1,15 @@
+use Rattle.std.proofs.Common.{ℕ, ◌-◌, true, Option, subst, arith}
+use Rattle.std.specs.Prelude.{IfSome}
+use Rattle.fd_narrow.specs.Narrowing.{domain_in}
+use Rattle.fd_narrow.specs.Orders.{HasEnds, IsOrdered, IsRanked}
+use Rattle.fd_narrow.specs.Steps.{Leaves}
+use Rattle.fd_narrow.proofs.Ranks.{before_cut}
+use Rattle.fd_narrow.proofs.Outcomes.{on_ok}
+use Rattle.fd_narrow.proofs.domains.Domains.cut_before.Goals as goal
+
+pub returns-in-Some : goal.returns-in-Some
+returns-in-Some c =
+    let has = subst (λ (o : Option (ℕ × ℕ)). IfSome o (HasEnds c.args.order (domain_in c.args.self.now c.args.t))) c.in-Some.is c.in_ok-span.ensures in
+    on_ok c.cut_ranks.result (Leaves (IsRanked c.args.order c.args.s 0 c.saturating_sub.result) c.args.self.now c.cut_ranks.new.self) (Leaves (IsOrdered c.args.order c.args.s c.args.t true) c.args.self.now c.cut_ranks.new.self)
+    (before_cut c.args.self.now c.cut_ranks.new.self c.args.s c.args.t c.args.order c.in-Some.span c.saturating_sub.result (omega (arith, c.saturating_sub.ensures)) has)
+    c.cut_ranks.ensures

@@ -1,0 +1,15 @@
+use Rattle.std.proofs.Common.{ℕ, ◌-◌, ◌^◌, false, Option, subst}
+use Rattle.std.specs.Prelude.{IfSome}
+use Rattle.fd_narrow.specs.Narrowing.{domain_in}
+use Rattle.fd_narrow.specs.Orders.{HasEnds, IsOrdered, IsRanked}
+use Rattle.fd_narrow.specs.Steps.{Leaves}
+use Rattle.fd_narrow.proofs.Ranks.{from_cut}
+use Rattle.fd_narrow.proofs.Outcomes.{on_ok}
+use Rattle.fd_narrow.proofs.domains.Domains.cut_from.Goals as goal
+
+pub returns-in-Some : goal.returns-in-Some
+returns-in-Some c =
+    let has = subst (λ (o : Option (ℕ × ℕ)). IfSome o (HasEnds c.args.order (domain_in c.args.self.now c.args.t))) c.in-Some.is c.in_ok-span.ensures in
+    on_ok c.cut_ranks.result (Leaves (IsRanked c.args.order c.args.s c.in-Some.span.0 (2 ^ 32 - 1)) c.args.self.now c.cut_ranks.new.self) (Leaves (IsOrdered c.args.order c.args.s c.args.t false) c.args.self.now c.cut_ranks.new.self)
+    (from_cut c.args.self.now c.cut_ranks.new.self c.args.s c.args.t c.args.order c.in-Some.span has)
+    c.cut_ranks.ensures

@@ -1,0 +1,12 @@
+use Rattle.fd_narrow.specs.Steps.{Leaves}
+use Rattle.fd_narrow.specs.Writes.{IsLegalOperand}
+use Rattle.fd_narrow.proofs.Compositions.{followed}
+use Rattle.fd_narrow.proofs.Outcomes.{on_ok}
+use Rattle.fd_narrow.proofs.domains.Domains.narrow_operand.Goals as goal
+
+pub returns : goal.returns
+returns c =
+    let P = IsLegalOperand c.args.csr c.args.change c.args.zero c.args.slot in
+    on_ok c.narrow_old.result (Leaves P c.narrow_by_old.new.self c.narrow_old.new.self) (Leaves P c.args.self.now c.narrow_old.new.self)
+    (followed P c.args.self.now c.narrow_by_old.new.self c.narrow_old.new.self (followed P c.args.self.now c.narrow_set_bits.new.self c.narrow_by_old.new.self c.in_ok-narrow_set_bits.ensures c.in_ok-narrow_by_old.ensures))
+    c.narrow_old.ensures

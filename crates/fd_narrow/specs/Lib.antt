@@ -1,0 +1,9 @@
+pub mod Narrowing
+pub mod Steps
+pub mod Spans
+pub mod Tables
+pub mod Orders
+pub mod Parts
+pub mod Targets
+pub mod Legal
+pub mod Writes

@@ -1,0 +1,144 @@
+// Tables of values.
+ghost use Rattle.std.specs.Prelude.{IsTrue, IfOk, OnOk};
+ghost use Rattle.fd_prob.specs.Relations.{is_held};
+ghost use Rattle.fd_narrow.specs.Steps.{Leaves};
+ghost use Rattle.fd_narrow.specs.Tables.{AreListed, AreRefused};
+
+use crate::domains::Domains;
+use crate::ranges::{Span, words_of};
+use dom_set::{OutOfMemory, Set};
+use fd_prob::Slot;
+use std::alloc::Global;
+
+/// Indices of a table, and values that it has there.
+#[derive(Drop)]
+struct Entries {
+    indices: Vec<Span>,
+    values: Vec<Span>,
+}
+
+/// A word above which the table has no index that counts.
+fn end_of(table: &[Option<u32>]) -> u32 {
+    u32::try_from(table.len()).unwrap_or(u32::MAX)
+}
+
+/// Adds the index, if the table has a value there that is not in the set.
+fn push_refused(
+    indices: &mut Vec<Span>,
+    i: u32,
+    table: &[Option<u32>],
+    values: &Set,
+) -> Result<(), OutOfMemory>
+    requires { AreRefused table.now values.now indices.old.items }
+    ensures { OnOk result (AreRefused table.now values.now indices.new.items) }
+{
+    match table.get(i as usize) {
+        Some(Some(value)) => {
+            if values.has(*value) {
+                return Ok(());
+            }
+            indices.push((i, i))?;
+            Ok(())
+        }
+        Some(None) => Ok(()),
+        None => Ok(()),
+    }
+}
+
+/// The indices at which the table has a value that is not in the set.
+fn refused_indices(
+    alloc: Global,
+    table: &[Option<u32>],
+    values: &Set,
+) -> Result<Vec<Span>, OutOfMemory>
+    ensures { IfOk result (λ r. AreRefused table.now values.now r.items) }
+{
+    let mut refused = Vec::new(alloc);
+    for i in 0..end_of(table) {
+        push_refused(&mut refused, i, table, values)?;
+    }
+    Ok(refused)
+}
+
+/// Adds the index and the value that the table has there, if it has one.
+fn push_entry(entries: &mut Entries, i: u32, table: &[Option<u32>]) -> Result<(), OutOfMemory>
+    requires { AreListed table.now entries.old.indices.items entries.old.values.items }
+    ensures { OnOk result (AreListed table.now entries.new.indices.items entries.new.values.items) }
+{
+    match table.get(i as usize) {
+        Some(Some(value)) => {
+            entries.values.push((*value, *value))?;
+            entries.indices.push((i, i))?;
+            Ok(())
+        }
+        Some(None) => Ok(()),
+        None => Ok(()),
+    }
+}
+
+/// The indices of the set at which the table has a value, and these values.
+fn entries_among(alloc: Global, table: &[Option<u32>], among: &Set) -> Result<Entries, OutOfMemory>
+    ensures { IfOk result (λ r. AreListed table.now r.indices.items r.values.items) }
+{
+    let mut entries = Entries {
+        indices: Vec::new(alloc),
+        values: Vec::new(alloc),
+    };
+    for i in 0..end_of(table) {
+        if among.has(i) {
+            push_entry(&mut entries, i, table)?;
+        }
+    }
+    Ok(entries)
+}
+
+impl Domains {
+    /// Takes the indices away at which the table has a value that the variable can't have.
+    fn narrow_index(
+        &mut self,
+        alloc: Global,
+        index: Slot,
+        value: Slot,
+        table: &[Option<u32>],
+    ) -> Result<(), OutOfMemory>
+        ensures { OnOk result (Leaves (λ x. IsTrue (is_held x index value table.now)) self.old self.new) }
+    {
+        let refused = refused_indices(alloc, table, self.domain(value))?;
+        let indices = words_of(alloc, &refused)?;
+        self.take(alloc, index, &indices)
+    }
+
+    /// Cuts the variable to the values of the table, where it has one at each index that is left.
+    fn narrow_entry(
+        &mut self,
+        alloc: Global,
+        index: Slot,
+        value: Slot,
+        table: &[Option<u32>],
+    ) -> Result<(), OutOfMemory>
+        ensures { OnOk result (Leaves (λ x. IsTrue (is_held x index value table.now)) self.old self.new) }
+    {
+        let entries = entries_among(alloc, table, self.domain(index))?;
+        let found = words_of(alloc, &entries.indices)?;
+        let missing = self.domain(index).minus(alloc, &found)?;
+        if missing.size() > 0 {
+            return Ok(());
+        }
+        let values = words_of(alloc, &entries.values)?;
+        self.cut(alloc, value, &values)
+    }
+
+    /// Where the table has a value at the index, the variable has that value.
+    pub(crate) fn narrow_held(
+        &mut self,
+        alloc: Global,
+        index: Slot,
+        value: Slot,
+        table: &[Option<u32>],
+    ) -> Result<(), OutOfMemory>
+        ensures { OnOk result (Leaves (λ x. IsTrue (is_held x index value table.now)) self.old self.new) }
+    {
+        self.narrow_index(alloc, index, value, table)?;
+        self.narrow_entry(alloc, index, value, table)
+    }
+}

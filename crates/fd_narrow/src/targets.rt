@@ -1,0 +1,100 @@
+// Where branches and jumps go.
+ghost use Rattle.std.specs.Prelude.{ℕ, ◌+◌, ◌-◌, ◌%◌, ◌^◌, ◌<◌, ◌||◌, IfOk, IsTrue, OnOk};
+ghost use Rattle.dom_set.specs.Elements.{is_in};
+ghost use Rattle.fd_prob.specs.Relations.{has_target, value_of};
+ghost use Rattle.fd_prob.specs.declared.slot.Slot.TheVariants as slots;
+ghost use Rattle.fd_narrow.specs.Steps.{Leaves};
+ghost use Rattle.fd_narrow.specs.Targets.{HasEven, HasOddToo};
+
+use crate::domains::Domains;
+use crate::ranges::{differences, shifted, words_of};
+use dom_set::{OutOfMemory, Set, set_laws};
+use fd_prob::Slot;
+use rv_isa::Op;
+use std::alloc::Global;
+
+/// What is in one of the sets.
+fn either(alloc: Global, first: &Set, second: &Set) -> Result<Set, OutOfMemory>
+    ensures { IfOk result (λ set. (v : ℕ) → v < 2 ^ 32 → IsTrue (is_in first.now v || is_in second.now v) → IsTrue (is_in set v)) }
+{
+    let all = words_of(alloc, &[(0, u32::MAX)])?;
+    let others = all.minus(alloc, first)?;
+    let neither = others.minus(alloc, second)?;
+    let either = all.minus(alloc, &neither)?;
+    Ok(either)
+}
+
+/// The even elements.
+fn even_of(alloc: Global, set: &Set) -> Result<Set, OutOfMemory>
+    ensures { IfOk result (HasEven set.now) }
+{
+    set_laws();
+    let evens = Set::from_ranges(alloc, &[(0, u32::MAX)], 2)?;
+    let even = set.and(alloc, &evens)?;
+    Ok(even)
+}
+
+/// The words that are elements when bit 0 is cleared.
+fn with_odd(alloc: Global, set: &Set) -> Result<Set, OutOfMemory>
+    ensures { IfOk result (HasOddToo set.now) }
+{
+    let even = even_of(alloc, set)?;
+    let odd = shifted(alloc, &even, 1)?;
+    let both = either(alloc, &even, &odd)?;
+    Ok(both)
+}
+
+impl Domains {
+    /// The pc plus the immediate is in the set.
+    fn narrow_jump(&mut self, alloc: Global, pc: u32, set: &Set) -> Result<(), OutOfMemory>
+        ensures { OnOk result (Leaves (λ x. IsTrue (is_in set.now ((pc + value_of x slots.Imm) % 2 ^ 32))) self.old self.new) }
+    {
+        let immediates = shifted(alloc, set, 0u32.wrapping_sub(pc))?;
+        self.cut(alloc, Slot::Imm, &immediates)
+    }
+
+    /// Cuts the first variable to what leads into the set when the second is added.
+    fn narrow_addend(
+        &mut self,
+        alloc: Global,
+        s: Slot,
+        t: Slot,
+        sums: &Set,
+    ) -> Result<(), OutOfMemory>
+        ensures { OnOk result (Leaves (λ x. IsTrue (is_in sums.now ((value_of x s + value_of x t) % 2 ^ 32))) self.old self.new) }
+    {
+        let addends = differences(alloc, sums, self.domain(t))?;
+        self.cut(alloc, s, &addends)
+    }
+
+    /// The value of rs1 plus the immediate, with bit 0 cleared, is in the set.
+    fn narrow_indirect(&mut self, alloc: Global, set: &Set) -> Result<(), OutOfMemory>
+        ensures { OnOk result (Leaves (λ x. IsTrue (is_in set.now ((value_of x slots.A + value_of x slots.Imm) % 2 ^ 32 - (value_of x slots.A + value_of x slots.Imm) % 2 ^ 32 % 2))) self.old self.new) }
+    {
+        let sums = with_odd(alloc, set)?;
+        self.narrow_addend(alloc, Slot::A, Slot::Imm, &sums)?;
+        self.narrow_addend(alloc, Slot::Imm, Slot::A, &sums)
+    }
+
+    /// The operation is a branch or a jump, and from the pc its target is in the set.
+    pub(crate) fn narrow_target(
+        &mut self,
+        alloc: Global,
+        op: Op,
+        pc: u32,
+        set: &Set,
+    ) -> Result<(), OutOfMemory>
+        ensures { OnOk result (Leaves (λ x. IsTrue (has_target op x pc set.now)) self.old self.new) }
+    {
+        match op {
+            Op::Jalr => self.narrow_indirect(alloc, set),
+            Op::Jal | Op::Beq | Op::Bne | Op::Blt | Op::Bge | Op::Bltu | Op::Bgeu => {
+                self.narrow_jump(alloc, pc, set)
+            }
+            _ => {
+                self.empty(alloc, Slot::Imm);
+                Ok(())
+            }
+        }
+    }
+}

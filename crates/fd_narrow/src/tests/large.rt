@@ -1,0 +1,294 @@
+//! Problems with domains of all words, and the words that are legal for each register.
+
+use super::{
+    ALL, Domain, Kind, REGISTER, Ranges, SIGNED, SUM, TWO_ROWS, domains_of, narrowed, set_of,
+};
+use fd_prob::{Items, Rel, Slot};
+use rv_isa::Op;
+use std::alloc::Global;
+use std::process::Abort;
+use std::test::Fail;
+
+/// An operation, domains, relations, and a variable with its domain after them.
+type Large = (Op, &'static [Domain], &'static [Kind], Slot, Ranges);
+
+const ANY: Domain = (Slot::A, ALL);
+
+const LARGE: [Large; 24] = [
+    (
+        Op::Add,
+        &[ANY, (Slot::B, &[(5, 9)])],
+        &[Kind::Same(Slot::A, Slot::B)],
+        Slot::A,
+        &[(5, 9)],
+    ),
+    (
+        Op::Add,
+        &[ANY, (Slot::B, &[(7, 7)])],
+        &[Kind::Differ(Slot::A, Slot::B)],
+        Slot::A,
+        &[(0, 6), (8, u32::MAX)],
+    ),
+    (
+        Op::Lw,
+        &[
+            (Slot::A, &[(0x1000, 0x1000)]),
+            (Slot::Imm, SIGNED),
+            (Slot::Ea, ALL),
+        ],
+        &[SUM],
+        Slot::Ea,
+        &[(0x800, 0x17ff)],
+    ),
+    (
+        Op::Lw,
+        &[
+            ANY,
+            (Slot::Imm, SIGNED),
+            (Slot::Ea, &[(0x8000_0000, 0x8000_0fff)]),
+        ],
+        &[SUM],
+        Slot::A,
+        &[(0x7fff_f801, 0x8000_17ff)],
+    ),
+    (
+        Op::Lw,
+        &[ANY, (Slot::Imm, SIGNED), (Slot::Ea, ALL)],
+        &[SUM],
+        Slot::A,
+        ALL,
+    ),
+    (
+        Op::Lw,
+        &[
+            (Slot::A, &[(0x8000_0000, 0x8000_0fff)]),
+            (Slot::Imm, SIGNED),
+            (Slot::Ea, &[(0x8000_17f0, 0x8000_2000)]),
+        ],
+        &[SUM],
+        Slot::Imm,
+        &[(0x7f1, 0x7ff)],
+    ),
+    (
+        Op::Blt,
+        &[ANY],
+        &[Kind::Taken(true)],
+        Slot::A,
+        &[(0x8000_0000, u32::MAX)],
+    ),
+    (
+        Op::Bge,
+        &[ANY],
+        &[Kind::Taken(true)],
+        Slot::A,
+        &[(0, 0x7fff_ffff)],
+    ),
+    (
+        Op::Blt,
+        &[(Slot::B, ALL)],
+        &[Kind::Taken(true)],
+        Slot::B,
+        &[(1, 0x7fff_ffff)],
+    ),
+    (
+        Op::Bltu,
+        &[ANY, (Slot::B, &[(5, 5)])],
+        &[Kind::Taken(true)],
+        Slot::A,
+        &[(0, 4)],
+    ),
+    (
+        Op::Bltu,
+        &[ANY, (Slot::B, &[(5, 5)])],
+        &[Kind::Taken(false)],
+        Slot::A,
+        &[(5, u32::MAX)],
+    ),
+    (
+        Op::Bgeu,
+        &[(Slot::A, &[(5, 5)]), (Slot::B, ALL)],
+        &[Kind::Taken(true)],
+        Slot::B,
+        &[(0, 5)],
+    ),
+    (
+        Op::Add,
+        &[(Slot::Rs1, &[(2, 2)]), ANY],
+        &[REGISTER],
+        Slot::A,
+        &[(7, 7)],
+    ),
+    (
+        Op::Add,
+        &[(Slot::Rs1, &[(0, 0), (2, 3)]), ANY],
+        &[REGISTER],
+        Slot::A,
+        &[(5, 5), (7, 7)],
+    ),
+    (
+        Op::Add,
+        &[(Slot::Rs1, &[(0, 3)]), ANY],
+        &[REGISTER],
+        Slot::A,
+        ALL,
+    ),
+    (
+        Op::Jal,
+        &[(Slot::Imm, ALL)],
+        &[Kind::Target(0x8000_0000, &[(0x8000_0000, 0x8000_0003)])],
+        Slot::Imm,
+        &[(0, 3)],
+    ),
+    (
+        Op::Jalr,
+        &[ANY],
+        &[Kind::Target(0, &[(0x2000, 0x2000)])],
+        Slot::A,
+        &[(0x2000, 0x2001)],
+    ),
+    (
+        Op::Jalr,
+        &[ANY, (Slot::Imm, SIGNED)],
+        &[Kind::Target(0, &[(0x2000, 0x2000)])],
+        Slot::A,
+        &[(0x1801, 0x2801)],
+    ),
+    (
+        Op::Csrrw,
+        &[(Slot::Csr, &[(0x180, 0x180)]), ANY],
+        &[Kind::Writes],
+        Slot::A,
+        &[(0, 0), (0x8000_0000, 0x800f_ffff)],
+    ),
+    (
+        Op::Csrrs,
+        &[
+            (Slot::Csr, &[(0x305, 0x305)]),
+            (Slot::Rs1, &[(1, 1)]),
+            (Slot::OldCsr, ALL),
+            (Slot::A, &[(3, 9)]),
+        ],
+        &[Kind::Writes],
+        Slot::A,
+        &[(4, 4), (8, 8)],
+    ),
+    (
+        Op::Csrrs,
+        &[
+            (Slot::Csr, &[(0x140, 0x140)]),
+            (Slot::Rs1, &[(1, 1)]),
+            (Slot::OldCsr, ALL),
+            (Slot::A, &[(3, 9)]),
+        ],
+        &[Kind::Writes],
+        Slot::A,
+        &[(3, 9)],
+    ),
+    (
+        Op::Csrrc,
+        &[
+            (Slot::Csr, &[(0x305, 0x305)]),
+            (Slot::Rs1, &[(1, 1)]),
+            (Slot::OldCsr, ALL),
+            (Slot::A, &[(3, 9)]),
+        ],
+        &[Kind::Writes],
+        Slot::A,
+        &[(3, 9)],
+    ),
+    (
+        Op::Lw,
+        &[
+            (Slot::Ea, ALL),
+            (Slot::FirstPte, &[(6, 6)]),
+            (Slot::SecondPte, &[(8, 8)]),
+        ],
+        &[TWO_ROWS],
+        Slot::Ea,
+        &[(4, 4)],
+    ),
+    (
+        Op::Lw,
+        &[
+            ANY,
+            (Slot::B, ALL),
+            (Slot::Imm, &[(4, 4)]),
+            (Slot::Ea, &[(104, 107)]),
+        ],
+        &[Kind::Same(Slot::A, Slot::B), SUM],
+        Slot::B,
+        &[(100, 103)],
+    ),
+];
+
+fn is_left(alloc: Global, row: Large) -> Result<bool, Fail> {
+    let after = narrowed(alloc, row.0, row.1, row.2)?;
+    let wanted = set_of(alloc, row.4)?;
+    Ok(*after.domain(row.3) == wanted)
+}
+
+#[test]
+fn large_domains_are_cut_by_their_bounds(rt: HostRuntime) -> Result<(), Fail> {
+    for row in LARGE {
+        assert!(rt; is_left(rt.alloc(), row)?);
+    }
+    Ok(())
+}
+
+/// Addresses of control and status registers of S, and how many words are legal for them.
+const LEGAL_IN_S: [(u32, u64); 5] = [
+    (0x100, 32),
+    (0x105, 1 << 30),
+    (0x140, 1 << 32),
+    (0x142, 13),
+    (0x180, 1 + (1 << 20)),
+];
+
+/// The same of M, of mhartid, which has none, and of what is no register here.
+const LEGAL_IN_M: [(u32, u64); 7] = [
+    (0x300, 3072),
+    (0x302, 8192),
+    (0x305, 1 << 30),
+    (0x342, 14),
+    (0x343, 1 << 32),
+    (0xf14, 0),
+    (0x301, 0),
+];
+
+fn legal_count(alloc: Global, csr: u32) -> Result<u64, Fail> {
+    let mut domains = domains_of(alloc, &[ANY])?;
+    domains.set(Slot::Csr, set_of(alloc, &[(csr, csr)])?);
+    let mut rels = Items::new(alloc);
+    rels.push(Rel::Writes)?;
+    domains.narrow(alloc, Op::Csrrw, rels.as_slice())?;
+    Ok(domains.domain(Slot::A).size())
+}
+
+#[test]
+fn each_register_of_s_has_its_legal_words(rt: HostRuntime) -> Result<(), Fail> {
+    for (csr, count) in LEGAL_IN_S {
+        assert_eq!(rt; legal_count(rt.alloc(), csr)?, count);
+    }
+    Ok(())
+}
+
+#[test]
+fn each_register_of_m_has_its_legal_words(rt: HostRuntime) -> Result<(), Fail> {
+    for (csr, count) in LEGAL_IN_M {
+        assert_eq!(rt; legal_count(rt.alloc(), csr)?, count);
+    }
+    Ok(())
+}
+
+#[test]
+fn a_copy_is_narrowed_alone(rt: HostRuntime) -> Result<(), Fail> {
+    let alloc = rt.alloc();
+    let domains = domains_of(alloc, &[ANY])?;
+    let mut copy = domains.copy(alloc)?;
+    let rels: [Rel; 1] = [Rel::Same(Slot::A, Slot::B)];
+    copy.narrow(alloc, Op::Add, &rels)?;
+    assert_eq!(rt; copy.domain(Slot::A).size(), 1);
+    assert_eq!(rt; domains.domain(Slot::A).size(), 1 << 32);
+    assert_eq!(rt; domains.count(), 14);
+    Ok(())
+}

@@ -1,0 +1,14 @@
+pub mod Places
+pub mod Ranks
+pub mod Orders
+pub mod Searching
+pub mod Cuts
+pub mod Lists
+pub mod OneOperation
+pub mod AllOperations
+pub mod Allowed
+pub mod Pivoting
+pub mod Extensions
+pub mod Biases
+pub mod Mentions
+pub mod Freedom

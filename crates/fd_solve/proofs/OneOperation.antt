@@ -1,0 +1,91 @@
+-- Cases of one operation.
+use Rattle.std.proofs.Common.{◌≡◌, ◌≢◌, ℕ, ◌+◌, ◌<◌, ◌≤◌, true, List, length, get_or, Option, ◌⊎◌, inl, inr, refl, sym, ◌∙◌, subst, arith}
+use Rattle.std.proofs.lemmas.Bool.{cases_lt}
+use Rattle.dom_set.specs.Elements.{is_in}
+use Rattle.fd_narrow.specs.Narrowing.{IsInside, domain_in}
+use Rattle.fd_prob.specs.declared.problem.Assignment.{Assignment}
+use Rattle.fd_prob.specs.declared.problem.Case.{Case}
+use Rattle.fd_prob.specs.declared.slot.Slot.{Slot}
+use Rattle.fd_prob.specs.declared.slot.Slot.TheVariants as slots
+use Rattle.fd_prob.specs.Fitting.{domain_of}
+use Rattle.fd_prob.specs.Laws.{IsOfCase}
+use Rattle.fd_prob.specs.Order.{IsAssignment}
+use Rattle.fd_prob.specs.Relations.{value_of}
+use Rattle.fd_solve.specs.Search.{IsCut, IsLesser, IsMadeOf, IsMadeOfAny, IsMet, LeastOrNone}
+use Rattle.fd_solve.proofs.Lists.{any_default}
+use Rattle.fd_solve.proofs.Orders.{as_well, lesser_of_both}
+
+pub domain_is : (c : Case) (s : Slot) → domain_of c s ≡ domain_in c.doms s
+unfolding domain_of
+domain_is c s = refl
+
+-- what is inside the domains of the case is in each of them
+pub inside_of : (c : Case) (x : Assignment) → ((s : Slot) → is_in (domain_of c s) (value_of x s) ≡ true) → IsInside c.doms x
+inside_of c x each s = subst (λ (xs : List ℕ). is_in xs (value_of x s) ≡ true) (domain_is c s) (each s)
+
+pub each_of : (c : Case) (x : Assignment) → IsInside c.doms x → (s : Slot) → is_in (domain_of c s) (value_of x s) ≡ true
+each_of c x inside s = subst (λ (xs : List ℕ). is_in xs (value_of x s) ≡ true) (sym (domain_is c s)) (inside s)
+
+-- the domains of a case cut to its operation
+module _ (c : Case) (start : List (List ℕ)) (start_is : start ≡ c.doms) (op : ℕ) (op_is : op ≡ c.op) (cut : List (List ℕ)) (cuts : IsCut c start slots.Op op cut) where
+  made : (x : Assignment) → IsMet c cut x → IsMadeOf c x
+  made x met = (
+    met.words,
+    record {
+      op = cuts.value x met.inside ∙ op_is;
+      domains = each_of c x (subst (λ (ds : List (List ℕ)). IsInside ds x) start_is (cuts.within x met.inside));
+      relations = met.holding;
+    },
+  )
+
+  met : (x : Assignment) → IsMadeOf c x → IsMet c cut x
+  met x is = record {
+    words = is.0;
+    inside = cuts.keeps x (subst (λ (ds : List (List ℕ)). IsInside ds x) (sym start_is) (inside_of c x is.1.domains)) (is.1.op ∙ sym op_is) is.1.relations;
+    holding = is.1.relations;
+  }
+
+  pub least_made : (ps : List ℕ) (o : Option Assignment) → LeastOrNone ps (IsMet c cut) o → LeastOrNone ps (IsMadeOf c) o
+  least_made ps o least = as_well ps (IsMet c cut) (IsMadeOf c) made met o least
+
+-- the assignment has the operation and is of one of the first n cases
+abbrev pub IsMadeBefore : ℕ → List Case → ℕ → Assignment → Type 0
+IsMadeBefore op cases n x = IsAssignment x × (value_of x slots.Op ≡ op) × ((k : ℕ) × (c : Case) × (k < n) × (k < length cases) × (get_or cases k c ≡ c) × IsOfCase x c)
+
+pub none_before : (op : ℕ) (cases : List Case) (x : Assignment) → IsMadeBefore op cases 0 x → ⊥
+none_before op cases x is = omega (arith, is.2.2)
+
+pub made_of_any : (op : ℕ) (cases : List Case) (n : ℕ) → length cases ≤ n → (ps : List ℕ) (o : Option Assignment) → LeastOrNone ps (IsMadeBefore op cases n) o → LeastOrNone ps (IsMadeOfAny op cases) o
+made_of_any op cases n all ps o least = as_well ps (IsMadeBefore op cases n) (IsMadeOfAny op cases)
+    (λ y is. (is.0, is.1, (is.2.0, is.2.1, is.2.3, is.2.4, is.2.5)))
+    (λ y is. (is.0, is.1, (is.2.0, is.2.1, omega (arith, is.2.2, all), is.2.2, is.2.3, is.2.4)))
+    o least
+
+module _ (op : ℕ) (cases : List Case) (n : ℕ) (c : Case) (lt : n < length cases) (here : c ≡ get_or cases n c) where
+  wider : (x : Assignment) → IsMadeBefore op cases n x → IsMadeBefore op cases (n + 1) x
+  wider x is = (is.0, is.1, (is.2.0, is.2.1, omega (arith, is.2.2), is.2.3, is.2.4, is.2.5))
+
+  last_one : (x : Assignment) → value_of x slots.Op ≡ op → IsMadeOf c x → IsMadeBefore op cases (n + 1) x
+  last_one x e is = (is.0, e, (n, c, omega arith, lt, sym here, is.1))
+
+  -- of the first n, or of this one
+  split : (x : Assignment) → IsMadeBefore op cases (n + 1) x → IsMadeBefore op cases n x ⊎ IsMadeOf c x
+  split x is = elim (cases_lt is.2.0 n) [
+    | inl less ↦ inl (is.0, is.1, (is.2.0, is.2.1, less, is.2.3, is.2.4, is.2.5))
+    | inr from ↦
+        let e : is.2.0 ≡ n = omega (arith, from, is.2.2) in
+        let at_n : get_or cases n is.2.1 ≡ is.2.1 = subst (λ (k : ℕ). get_or cases k is.2.1 ≡ is.2.1) e is.2.4 in
+        let same : is.2.1 ≡ c = sym at_n ∙ any_default cases n is.2.1 c lt ∙ sym here in
+        inr (is.0, subst (IsOfCase x) same is.2.5)
+  ]
+
+  pub one_more_case : c.op ≡ op → (ps : List ℕ) (best other o : Option Assignment) → LeastOrNone ps (IsMadeBefore op cases n) best → LeastOrNone ps (IsMadeOf c) other → IsLesser ps best other o → LeastOrNone ps (IsMadeBefore op cases (n + 1)) o
+  one_more_case same ps best other o before here_too is = as_well ps (λ y. IsMadeBefore op cases n y ⊎ IsMadeOf c y) (IsMadeBefore op cases (n + 1))
+      (λ y either. elim either [ inl old ↦ wider y old | inr new ↦ last_one y (new.1.op ∙ same) new ])
+      (λ y all. split y all)
+      o (lesser_of_both ps (IsMadeBefore op cases n) (IsMadeOf c) best other o before here_too is)
+
+  pub no_more_case : c.op ≢ op → (ps : List ℕ) (best : Option Assignment) → LeastOrNone ps (IsMadeBefore op cases n) best → LeastOrNone ps (IsMadeBefore op cases (n + 1)) best
+  no_more_case differ ps best before = as_well ps (IsMadeBefore op cases n) (IsMadeBefore op cases (n + 1)) (λ y is. wider y is)
+      (λ y all. elim (split y all) [ inl old ↦ old | inr new ↦ absurd (differ (sym new.1.op ∙ all.1)) ])
+      best before

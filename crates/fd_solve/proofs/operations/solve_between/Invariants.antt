@@ -1,0 +1,5 @@
+use Rattle.fd_solve.specs.Search.{NoneBetween}
+use Rattle.fd_solve.proofs.operations.solve_between.Given as goal
+
+abbrev pub invariant-loop-op : goal.invariant-loop-op
+invariant-loop-op l = NoneBetween l.p l.from l.op

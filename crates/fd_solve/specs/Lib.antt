@@ -1,0 +1,4 @@
+pub mod Answers
+pub mod Search
+pub mod Taking
+pub mod Free
