@@ -1,4 +1,4 @@
--- Numbers that stand for a privilege, a role, an outcome or a register.
+-- Numbers that stand for a privilege, a role, an outcome, a register or a reason.
 use Rattle.std.proofs.Common.{◌≡◌, ℕ, ◌^◌, ◌<◌, ◌≤◌, ◌⊎◌, Bool, true, false, cond, ltb, eqb, Some, None, refl, sym, ap, subst, ◌∙◌, arith, inl, inr}
 use Rattle.std.specs.declared.option.Option.{Option}
 use Rattle.std.proofs.lemmas.Bool.{eqb-true, ltb-true, lt-ltb}
@@ -11,11 +11,13 @@ use Rattle.rv_csr.specs.declared.privilege.Priv.{Priv}
 use Rattle.rv_csr.specs.declared.privilege.Priv.TheVariants.{U, S, M}
 use Rattle.rv_hart.specs.declared.record.Outcome.{Outcome}
 use Rattle.rv_hart.specs.declared.record.Outcome.TheVariants.{Retired, Trap}
+use Rattle.tpl_admit.specs.declared.dropped.Why.{Why}
+use Rattle.tpl_admit.specs.declared.dropped.Why.TheVariants.{NoneFits, Spent}
 use Rattle.tpl_admit.specs.WellFormed.{IsOutcome, IsWritten}
 use Rattle.byte_format.specs.Readers.{◌>>=◌}
 use Rattle.byte_format.proofs.Bytes.{bind_some, where_true}
-use Rattle.elf_image.specs.Spelling.{level, role_number, outcome_number, taker_number, trap_value, rd_number, rd_value}
-use Rattle.elf_image.specs.ItemReaders.{priv_of, role_of, outcome_of, rd_of}
+use Rattle.elf_image.specs.Spelling.{level, role_number, outcome_number, taker_number, trap_value, rd_number, rd_value, why_number}
+use Rattle.elf_image.specs.ItemReaders.{priv_of, role_of, outcome_of, rd_of, why_of}
 use Rattle.elf_image.proofs.Booleans.{apart}
 use Rattle.elf_image.proofs.Keys.{cause_small}
 
@@ -67,6 +69,21 @@ role_fits Fetch = omega arith
 role_fits Walk = omega arith
 role_fits Load = omega arith
 role_fits Store = omega arith
+
+pub why_from : (n : ℕ) (w : Why) → why_of n ≡ Some w → why_number w ≡ n
+why_from n w e =
+    elim (chosen (eqb n 0) (Some NoneFits) (cond (eqb n 1) (Some Spent) None) (Some w) e) [
+      | inl h ↦ ap why_number (sym (same_Some _ _ h.1)) ∙ sym (eqb-true n 0 h.0)
+      | inr g ↦ let h = cond_some (eqb n 1) Spent w g.1 in ap why_number (sym h.1) ∙ sym (eqb-true n 1 h.0)
+    ]
+
+pub why_back : (w : Why) → why_of (why_number w) ≡ Some w
+why_back NoneFits = refl
+why_back Spent = refl
+
+pub why_fits : (w : Why) → why_number w < 2 ^ 32
+why_fits NoneFits = omega arith
+why_fits Spent = omega arith
 
 cause_not : (n : ℕ) → is_cause n ≡ true → eqb n 255 ≡ false
 cause_not n h = let small = cause_small n h in apart n 255 (λ e. absurd (omega arith))

@@ -1,4 +1,4 @@
--- The laws of states and records.
+-- The laws of states, records and dropped biases.
 use Rattle.std.proofs.Common.{◌≡◌, ℕ, ◌+◌, ◌*◌, ◌%◌, ◌^◌, ◌<◌, ◌≤◌, Bool, true, false, cond, ltb, eqb, List, [], ◌∷◌, ◌++◌, length, Some, refl, sym, ap, subst, arith, inl, inr}
 use Rattle.std.specs.declared.option.Option.{Option}
 use Rattle.std.specs.Prelude.{◌||◌}
@@ -11,6 +11,7 @@ use Rattle.rv_csr.specs.declared.privilege.Priv.{Priv}
 use Rattle.rv_hart.specs.declared.record.Record.{Record}
 use Rattle.rv_hart.specs.declared.record.Outcome.{Outcome}
 use Rattle.tpl_ast.specs.declared.template.HartState.{HartState}
+use Rattle.tpl_admit.specs.declared.dropped.Dropped.{Dropped}
 use Rattle.tpl_admit.specs.Starts.{is_key, ArePlaces}
 use Rattle.tpl_admit.specs.WellFormed.{is_legal_place, IsState, IsAccess, IsRecord}
 use Rattle.byte_format.specs.Numbers.{byte, half, word}
@@ -18,12 +19,12 @@ use Rattle.byte_format.specs.Readers.{◌>>=◌}
 use Rattle.byte_format.proofs.Bytes.{bind_some}
 use Rattle.byte_format.proofs.Laws.{Reads, reads_byte, reads_word, reads_both, reads_ahead, reads_as, reads_where, reads_fits}
 use Rattle.byte_format.proofs.Groups.{AreCountable, reads_counted, reads_few}
-use Rattle.elf_image.specs.Spelling.{level, role_number, outcome_number, taker_number, trap_value, rd_number, rd_value, pair_spelling, fixed_spelling, state_spelling, access_spelling, record_place, record_marks, record_values, record_spelling, trace_spelling}
+use Rattle.elf_image.specs.Spelling.{level, role_number, outcome_number, taker_number, trap_value, rd_number, rd_value, pair_spelling, fixed_spelling, state_spelling, access_spelling, record_place, record_marks, record_values, record_spelling, trace_spelling, why_number, drop_spelling}
 use Rattle.elf_image.specs.Checks.{is_state, is_fixed, is_place, are_places, is_access}
-use Rattle.elf_image.specs.ItemReaders.{priv_of, role_of, outcome_of, rd_of, priv_at, pair_at, state_of, state_at, access_of, access_at, place_at, marks_at, values_at, record_of, record_at, trace_at}
+use Rattle.elf_image.specs.ItemReaders.{priv_of, role_of, outcome_of, rd_of, priv_at, pair_at, state_of, state_at, access_of, access_at, place_at, marks_at, values_at, record_of, record_at, trace_at, why_of, dropped_of, drop_at}
 use Rattle.elf_image.proofs.Booleans.{equal, and_true, both_true, or_true, no_then, yes_then}
 use Rattle.elf_image.proofs.Keys.{key_small}
-use Rattle.elf_image.proofs.Cases.{priv_from, priv_back, level_fits, role_from, role_back, role_fits, outcome_from, outcome_back, outcome_fits, rd_from, rd_back, rd_fits}
+use Rattle.elf_image.proofs.Cases.{priv_from, priv_back, level_fits, role_from, role_back, role_fits, outcome_from, outcome_back, outcome_fits, rd_from, rd_back, rd_fits, why_from, why_back, why_fits}
 
 -- two words
 pub record FitsPair (p : ℕ × ℕ) : Type 0 where
@@ -217,3 +218,23 @@ reads_record = reads_as record_of record_parts IsRecord
 pub reads_trace : Reads (List Record) trace_at trace_spelling (AreCountable Record IsRecord)
 unfolding trace_at trace_spelling
 reads_trace = reads_counted reads_record
+
+-- ---- dropped biases
+
+pub record FitsDrop (d : Dropped) : Type 0 where
+  pub hart_fits : d.hart < 2 ^ 32
+  pub step_fits : d.step < 2 ^ 32
+  pub atom_fits : d.atom < 2 ^ 32
+
+drop_parts : Dropped → ℕ × (ℕ × (ℕ × ℕ))
+drop_parts d = (d.hart, (d.step, (d.atom, why_number d.why)))
+
+pub reads_drop : Reads Dropped drop_at drop_spelling FitsDrop
+unfolding drop_at drop_spelling drop_parts
+reads_drop = reads_as dropped_of drop_parts FitsDrop
+    (λ t d f e.
+    let r = bind_some (why_of t.1.1.1) (λ why. Some (record { hart = t.0; step = t.1.0; atom = t.1.1.0; why = why })) d e in
+    subst (λ (z : Dropped). (drop_parts z ≡ t) × FitsDrop z) (same_Some _ _ r.2)
+    (ap (λ (n : ℕ). (t.0, (t.1.0, (t.1.1.0, n)))) (why_from t.1.1.1 r.0 r.1), record { hart_fits = f.0; step_fits = f.1.0; atom_fits = f.1.1.0 }))
+    (λ d f. (rw (why_back d.why) refl, (f.hart_fits, (f.step_fits, (f.atom_fits, why_fits d.why)))))
+    (reads_both reads_word (reads_both reads_word (reads_both reads_word reads_word)))

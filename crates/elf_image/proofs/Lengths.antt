@@ -8,6 +8,7 @@ use Rattle.std.proofs.lemmas.Bool.{eqb-true}
 use Rattle.rv_script.specs.declared.access.Access.{Access}
 use Rattle.rv_hart.specs.declared.record.Record.{Record}
 use Rattle.tpl_admit.specs.declared.certificate.Cert.{Cert}
+use Rattle.tpl_admit.specs.declared.dropped.Dropped.{Dropped}
 use Rattle.tpl_ast.specs.declared.template.HartState.{HartState}
 use Rattle.tpl_admit.specs.Sizes.{runs_behind, run_count, state_bytes, record_bytes, trace_bytes, note_bytes, notes_bytes, file_size}
 use Rattle.tpl_admit.specs.WellFormed.{IsWellFormed}
@@ -17,7 +18,7 @@ use Rattle.elf_image.specs.declared.runs.Run.{Run}
 use Rattle.elf_image.specs.declared.writing.headers.Segment.{Segment}
 use Rattle.elf_image.specs.Runs.{address_of, runs_from, runs_of}
 use Rattle.elf_image.specs.Headers.{e_ident, elf_kind, elf_places, elf_counts, elf_header, segment_place, segment_size, program_header, note_segment, load_segment, load_headers, headers_end, program_headers, all_headers}
-use Rattle.elf_image.specs.Spelling.{pair_spelling, fixed_spelling, state_spelling, access_spelling, record_place, record_marks, record_values, record_spelling, trace_spelling}
+use Rattle.elf_image.specs.Spelling.{pair_spelling, fixed_spelling, state_spelling, access_spelling, record_place, record_marks, record_values, record_spelling, trace_spelling, drop_spelling}
 use Rattle.elf_image.specs.Notes.{start_desc, traces_desc, final_desc, rest_desc, note_name, note, Notes, list_notes, notes_of, notes_in, notes_spelling}
 use Rattle.elf_image.specs.File.{entry_of, runs_in, load_spelling, file_bytes}
 
@@ -82,21 +83,32 @@ length-final_desc states last =
     let n = length-word (length last) in
     simp length-append (omega arith)
 
-pub length-rest_desc : length rest_desc ≡ 12
-unfolding rest_desc word
-length-rest_desc = refl
+length-drop : (d : Dropped) → length (drop_spelling d) ≡ 16
+unfolding drop_spelling word
+length-drop d = refl
+
+pub length-rest_desc : (choices : List ℕ) (names : List (ℕ × ℕ)) (dropped : List Dropped) → length (rest_desc choices names dropped) ≡ 12 + 4 * length choices + (8 * length names + 16 * length dropped)
+unfolding rest_desc counted
+length-rest_desc choices names dropped =
+    let a = each word 4 length-word choices in
+    let b = each pair_spelling 8 length-pair names in
+    let d = each drop_spelling 16 length-drop dropped in
+    let p = length-word (length choices) in
+    let q = length-word (length names) in
+    let r = length-word (length dropped) in
+    simp length-append (omega arith)
 
 -- as many bytes as five notes have
 pub length-listed : (n : Notes) → length (notes_spelling (list_notes n))
-    ≡ note_bytes (length (start_desc n.start)) + (note_bytes (length n.traces) + (note_bytes (length (final_desc n.finals n.last)) + (note_bytes (length n.text) + note_bytes (length rest_desc))))
+    ≡ note_bytes (length (start_desc n.start)) + (note_bytes (length n.traces) + (note_bytes (length (final_desc n.finals n.last)) + (note_bytes (length n.text) + note_bytes (length (rest_desc n.choices n.names n.dropped)))))
 unfolding notes_spelling
 length-listed n =
     let start = length-note NT_START (start_desc n.start) in
     let traces = length-note NT_TRACES n.traces in
     let final = length-note NT_FINAL (final_desc n.finals n.last) in
     let template = length-note NT_TEMPLATE n.text in
-    let other = length-note NT_REST rest_desc in
-    five (note NT_START (start_desc n.start)) (note NT_TRACES n.traces) (note NT_FINAL (final_desc n.finals n.last)) (note NT_TEMPLATE n.text) (note NT_REST rest_desc)
+    let other = length-note NT_REST (rest_desc n.choices n.names n.dropped) in
+    five (note NT_START (start_desc n.start)) (note NT_TRACES n.traces) (note NT_FINAL (final_desc n.finals n.last)) (note NT_TEMPLATE n.text) (note NT_REST (rest_desc n.choices n.names n.dropped))
     ∙ rw (start, traces, final, template, other) refl
   where
     five : (a b c d e : List ℕ) → length (a ++ (b ++ (c ++ (d ++ (e ++ []))))) ≡ length a + (length b + (length c + (length d + length e)))
@@ -104,7 +116,7 @@ length-listed n =
 
 pub length-notes : (c : Cert) → length (notes_spelling (notes_in c)) ≡ notes_bytes c
 length-notes c =
-    length-listed (notes_of c) ∙ rw (length-start_desc c.start, length-traces_desc c.traces, length-final_desc c.finals c.last, length-rest_desc) refl
+    length-listed (notes_of c) ∙ rw (length-start_desc c.start, length-traces_desc c.traces, length-final_desc c.finals c.last, length-rest_desc c.choices c.names c.dropped) refl
 
 -- the notes are no longer than the file
 pub notes_fit : (c : Cert) → IsWellFormed c → length (notes_spelling (notes_in c)) ≤ 8388608

@@ -2,8 +2,9 @@
 use Rattle.std.proofs.Common.{◌≡◌, ℕ, ◌+◌, ◌*◌, ◌^◌, ◌<◌, ◌≤◌, Bool, true, false, cond, eqb, suc, List, [], ◌∷◌, ◌++◌, length, map, refl, sym, ap, subst, ◌∙◌, append_assoc, arith}
 use Rattle.std.specs.List.{AllByRecursion}
 use Rattle.rv_hart.specs.declared.record.Record.{Record}
-use Rattle.tpl_form.specs.declared.template.Template.{Template}
-use Rattle.tpl_form.specs.Form.{Parses}
+use Rattle.tpl_ast.specs.declared.template.Template.{Template}
+use Rattle.tpl_ast.specs.Parsing.{Parses}
+use Rattle.tpl_ast.specs.Laws.{TemplatesAreSound}
 use Rattle.tpl_admit.specs.declared.certificate.Cert.{Cert}
 use Rattle.tpl_ast.specs.declared.template.HartState.{HartState}
 use Rattle.tpl_admit.specs.Sizes.{runs_behind, run_count, file_size}
@@ -18,6 +19,7 @@ use Rattle.elf_image.specs.File.{entry_of, runs_in, load_spelling, file_bytes}
 use Rattle.elf_image.specs.Parts.{IsHead, IsTable, AreNotes, UpToHead, UpToTable, UpToNotes, UpToRecords, UpToTemplate, cert_of, IsFile}
 use Rattle.elf_image.proofs.Lengths.{length-runs, length-file, notes_fit}
 use Rattle.elf_image.proofs.RunLaws.{addresses_back, runs_back, length-words, ascending_runs, words_ascend, some_offset}
+use Rattle.elf_image.proofs.RestLaws.{named_values}
 
 -- ---- the file of a well-formed certificate
 
@@ -25,10 +27,10 @@ split_file : (c : Cert) → file_bytes c ≡ elf_header (entry_of c.start) (1 + 
 unfolding file_bytes all_headers
 split_file c = append_assoc (elf_header (entry_of c.start) (1 + length (runs_in c))) (program_headers (length (notes_spelling (notes_in c))) (runs_in c)) (notes_spelling (notes_in c) ++ load_spelling c.words)
 
-entry_fits : (c : Cert) → length c.start ≡ 1 → AllByRecursion IsState c.start → entry_of c.start < 2 ^ 32
-entry_fits c one states = first c.start one states
+entry_fits : (c : Cert) → 1 ≤ length c.start → AllByRecursion IsState c.start → entry_of c.start < 2 ^ 32
+entry_fits c some states = first c.start some states
   where
-    first : (ss : List HartState) → length ss ≡ 1 → AllByRecursion IsState ss → entry_of ss < 2 ^ 32
+    first : (ss : List HartState) → 1 ≤ length ss → AllByRecursion IsState ss → entry_of ss < 2 ^ 32
     first [] e is = absurd (omega arith)
     first (s ∷ ss) e is = is.0.pc
 
@@ -57,10 +59,10 @@ is_head_of : (c : Cert) → IsWellFormed c → IsHead (file_bytes c) (record { e
 is_head_of c w =
     let count = runs_few c in
     let size = length-file c in
-    record { text = split_file c; size = subst (λ (n : ℕ). n ≤ 8388608) (sym size) w.size; entry = entry_fits c w.harts w.start; some = omega arith; most = omega (arith, w.words_count) }
+    record { text = split_file c; size = subst (λ (n : ℕ). n ≤ 8388608) (sym size) w.size; entry = entry_fits c w.some_harts w.start; some = omega arith; most = omega (arith, w.words_count) }
 
-is_table_of : (c : Cert) (rest : List ℕ) → IsWellFormed c → IsTable (1 + length (runs_in c)) (program_headers (length (notes_spelling (notes_in c))) (runs_in c) ++ rest) (record { notes = length (notes_spelling (notes_in c)); runs = runs_in c }) rest
-is_table_of c rest w =
+is_table_of : TemplatesAreSound → (c : Cert) (rest : List ℕ) → IsWellFormed c → IsTable (1 + length (runs_in c)) (program_headers (length (notes_spelling (notes_in c))) (runs_in c) ++ rest) (record { notes = length (notes_spelling (notes_in c)); runs = runs_in c }) rest
+is_table_of sound c rest w =
     let count = runs_few c in
     let words = run_words c in
     let small = notes_small c w in
@@ -71,7 +73,7 @@ is_table_of c rest w =
       text = refl;
       count = refl;
       notes = omega arith;
-      runs = ascending_runs (map address_of c.words) 0 (words_ascend c.template.ram 0 c.words w.template.allowed.high w.words);
+      runs = ascending_runs (map address_of c.words) 0 (words_ascend c.template.ram 0 c.words (sound c.template.text c.template w.template).ram w.words);
       total = few;
       offsets = some_offset (runs_in c) start (52 + 32 * 60001 + 8388608 + 4 * 60000) few (omega arith) (omega arith);
     }
@@ -79,17 +81,32 @@ is_table_of c rest w =
 are_notes_of : (c : Cert) (rest : List ℕ) → IsWellFormed c → AreNotes (record { notes = length (notes_spelling (notes_in c)); runs = runs_in c }) (notes_spelling (notes_in c) ++ rest) (notes_of c) rest
 are_notes_of c rest w =
     let words = run_words c in
-    record { text = refl; size = refl; harts = w.harts; start = w.start; finals_count = w.finals_count; finals = w.finals; last_count = w.last_count ∙ words; last = w.last }
+    record {
+      text = refl;
+      size = refl;
+      some_harts = w.some_harts;
+      harts = w.harts;
+      start = w.start;
+      finals_count = w.finals_count;
+      finals = w.finals;
+      last_count = w.last_count ∙ words;
+      last = w.last;
+      choices_count = w.choices_count;
+      choices = w.choices;
+      names = named_values c.template.names 0 c.names w.names;
+      dropped_count = w.dropped_count;
+      dropped = w.dropped;
+    }
 
 -- the file of a well-formed certificate tells it
-pub is_file : (c : Cert) → IsWellFormed c → IsFile (file_bytes c) c
-is_file c w =
+pub is_file : TemplatesAreSound → (c : Cert) → IsWellFormed c → IsFile (file_bytes c) c
+is_file sound c w =
     let bytes : List ℕ = file_bytes c in
     let one : UpToHead bytes = record { head = record { entry = entry_of c.start; phnum = 1 + length (runs_in c) }; rest = program_headers (length (notes_spelling (notes_in c))) (runs_in c) ++ (notes_spelling (notes_in c) ++ load_spelling c.words); is = is_head_of c w } in
-    let two : UpToTable bytes = record { one = one; table = record { notes = length (notes_spelling (notes_in c)); runs = runs_in c }; rest = notes_spelling (notes_in c) ++ load_spelling c.words; is = is_table_of c (notes_spelling (notes_in c) ++ load_spelling c.words) w } in
+    let two : UpToTable bytes = record { one = one; table = record { notes = length (notes_spelling (notes_in c)); runs = runs_in c }; rest = notes_spelling (notes_in c) ++ load_spelling c.words; is = is_table_of sound c (notes_spelling (notes_in c) ++ load_spelling c.words) w } in
     let three : UpToNotes bytes = record { two = two; notes = notes_of c; rest = load_spelling c.words; is = are_notes_of c (load_spelling c.words) w } in
     let four : UpToRecords bytes = record { three = three; traces = c.traces; is = record { text = refl; count = w.traces_count; records = w.traces; steps = w.steps } } in
-    let five : UpToTemplate bytes = record { four = four; template = c.template; is = w.template } in
+    let five : UpToTemplate bytes = record { four = four; template = c.template; is = record { parses = w.template; harts = w.template_harts; names = w.names } } in
     record { five = five; words = c.words; is = record { text = refl; places = sym (addresses_back (map address_of c.words)); in_ram = w.words; entry_is = refl }; same = refl }
 
 -- ---- what a file tells
@@ -107,7 +124,7 @@ made bytes r1 r2 r3 c head table h t is_head is_table notes loads =
 -- ---- values that are put together from their fields
 
 abbrev notes_with : Notes → List ℕ → List ℕ → Notes
-notes_with n traces text = record { start = n.start; traces = traces; finals = n.finals; last = n.last; text = text }
+notes_with n traces text = record { start = n.start; traces = traces; finals = n.finals; last = n.last; text = text; choices = n.choices; names = n.names; dropped = n.dropped }
 
 same_notes : (n : Notes) (traces : List (List Record)) (t : Template) (words : List (ℕ × ℕ)) → n.traces ≡ traces_desc traces → t.text ≡ n.text → n ≡ notes_of (cert_of n traces t words)
 same_notes n traces t words e text = ap (λ (z : List ℕ). notes_with n z n.text) e ∙ ap (λ (z : List ℕ). notes_with n (traces_desc traces) z) (sym text)
@@ -133,7 +150,7 @@ of_file bytes c f =
     let two = three.two in
     let one = two.one in
     let d : Cert = cert_of three.notes four.traces five.template f.words in
-    let notes_are : three.notes ≡ notes_of d = same_notes three.notes four.traces five.template f.words four.is.text five.is.text in
+    let notes_are : three.notes ≡ notes_of d = same_notes three.notes four.traces five.template f.words four.is.text five.is.parses.text in
     let runs_are : two.table.runs ≡ runs_in d = sym (ap runs_of f.is.places ∙ runs_back two.table.runs 0 two.is.runs) in
     let size_is : two.table.notes ≡ length (notes_spelling (notes_in d)) = sym three.is.size ∙ ap (λ (n : Notes). length (notes_spelling (list_notes n))) notes_are in
     let table_is : two.table ≡ record { notes = length (notes_spelling (notes_in d)); runs = runs_in d } = same_table two.table (length (notes_spelling (notes_in d))) (runs_in d) size_is runs_are in
@@ -144,6 +161,7 @@ of_file bytes c f =
     let words : length f.words ≡ total_words two.table.runs = length-words f.words two.table.runs f.is.places in
     let well : IsWellFormed d = record {
       size = size;
+      some_harts = three.is.some_harts;
       harts = three.is.harts;
       start = three.is.start;
       finals_count = three.is.finals_count;
@@ -155,6 +173,12 @@ of_file bytes c f =
       words = f.is.in_ram;
       last_count = three.is.last_count ∙ sym words;
       last = three.is.last;
-      template = subst (λ (text : List ℕ). Parses text five.template) (sym five.is.text) five.is;
+      template = subst (λ (text : List ℕ). Parses text five.template) (sym five.is.parses.text) five.is.parses;
+      template_harts = five.is.harts;
+      choices_count = three.is.choices_count;
+      choices = three.is.choices;
+      names = five.is.names;
+      dropped_count = three.is.dropped_count;
+      dropped = three.is.dropped;
     } in
     subst (λ (x : Cert). IsWellFormed x × (bytes ≡ file_bytes x)) (sym f.same) (well, bytes_are)

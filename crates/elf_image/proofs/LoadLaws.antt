@@ -128,6 +128,6 @@ reads_words runs = record {
   again = λ ws rest fits. words_again runs ws rest fits;
 }
 
-pub reads_image : (ram : Region) (runs : List Run) → Reads Words (image_at ram runs) load_spelling (λ ws. FitWords (addresses_of runs) ws × IsTrue (are_in ram ws))
+pub reads_image : (ram : List Region) (runs : List Run) → Reads Words (image_at ram runs) load_spelling (λ ws. FitWords (addresses_of runs) ws × IsTrue (are_in ram ws))
 unfolding image_at
 reads_image ram runs = reads_where (are_in ram) (reads_words runs)

@@ -1,11 +1,17 @@
 -- Each part of a file: what is read of it is right, and what is right is read.
-use Rattle.std.proofs.Common.{◌≡◌, ℕ, ◌+◌, ◌-◌, ◌^◌, ◌<◌, ◌≤◌, Bool, true, false, cond, ltb, leb, eqb, List, [], ◌++◌, length, Some, refl, sym, ap, subst, ◌∙◌, arith}
+use Rattle.std.proofs.Common.{◌≡◌, ℕ, ◌+◌, ◌-◌, ◌^◌, ◌<◌, ◌≤◌, Bool, true, false, cond, ltb, leb, eqb, List, [], ◌++◌, length, map, Some, None, Ok, Err, refl, sym, ap, subst, ◌∙◌, arith}
+use Rattle.std.specs.declared.result.Result.{Result}
+use Rattle.std.proofs.lemmas.List.{length-map}
+use Rattle.std.proofs.lemmas.Option.{same_Some}
 use Rattle.std.proofs.lemmas.Bool.{ltb-false, le-ltb, eqb-true}
 use Rattle.rv_hart.specs.declared.record.Record.{Record}
 use Rattle.tpl_ast.specs.declared.template.Region.{Region}
 use Rattle.tpl_ast.specs.declared.template.HartState.{HartState}
+use Rattle.tpl_ast.specs.declared.template.Template.{Template}
+use Rattle.tpl_ast.specs.declared.fault.Fault.{Fault}
+use Rattle.tpl_ast.specs.Parsing.{Said, said_by, parses, hart_lines}
 use Rattle.byte_format.specs.Readers.{whole}
-use Rattle.byte_format.proofs.Bytes.{IsBytes, bytes_rest, bytes_front, unless_true, where_true}
+use Rattle.byte_format.proofs.Bytes.{IsBytes, bytes_rest, bytes_front, bind_some, unless_true, where_true}
 use Rattle.byte_format.proofs.Laws.{whole_takes, whole_again}
 use Rattle.elf_image.specs.declared.elf.TheConstants.{NT_START, NT_TRACES, NT_FINAL, NT_TEMPLATE, NT_REST}
 use Rattle.elf_image.specs.declared.runs.Run.{Run}
@@ -15,13 +21,14 @@ use Rattle.elf_image.specs.Runs.{addresses_of, total_words}
 use Rattle.elf_image.specs.Headers.{program_header, note_segment, load_headers, headers_end, program_headers}
 use Rattle.elf_image.specs.Notes.{start_desc, final_desc, rest_desc, note, notes_spelling, Notes, list_notes}
 use Rattle.elf_image.specs.File.{entry_of}
-use Rattle.elf_image.specs.Parts.{AreRuns, IsHead, IsTable, AreNotes, AreRecords, AreLoads}
-use Rattle.elf_image.specs.Checks.{is_head, are_runs, is_table}
-use Rattle.elf_image.specs.PartReaders.{header_at, sized_header_at, table_at, segment_notes_at, traces_at, image_at, loaded_at}
-use Rattle.elf_image.proofs.Booleans.{equal, at_most, is_at_most, no_then, yes_then}
+use Rattle.elf_image.specs.Parts.{AreRuns, IsHead, IsTable, AreNotes, AreRecords, AreValues, IsTemplate, AreLoads}
+use Rattle.elf_image.specs.Checks.{is_head, are_runs, is_table, are_named, is_fit}
+use Rattle.elf_image.specs.PartReaders.{header_at, sized_header_at, table_at, segment_notes_at, traces_at, said_in, template_at, image_at, loaded_at}
+use Rattle.elf_image.proofs.Booleans.{equal, at_most, is_at_most, and_true, both_true, no_then, yes_then}
 use Rattle.elf_image.proofs.HeaderLaws.{reads_header, reads_table}
 use Rattle.elf_image.proofs.RunLaws.{AreAscending, runs_take, runs_pass, offsets_take, offsets_fit, runs_ascend, words_in, words_fit, words_start}
 use Rattle.elf_image.proofs.NoteLaws.{FitNotes, reads_segment_notes, desc_bytes, FitTraces, reads_traces}
+use Rattle.elf_image.proofs.RestLaws.{FitRest, named_take, named_back}
 use Rattle.elf_image.proofs.LoadLaws.{FitWords, reads_image}
 
 -- ---- part 1
@@ -94,12 +101,29 @@ pub notes_take : (t : Table) (bytes : List ℕ) (x : Notes × List ℕ) → t.no
 notes_take t bytes x small few fits e =
     let m = (reads_segment_notes t.notes (total_words t.runs) small (omega arith)).takes bytes x fits e in
     let f = m.1.0 in
-    record { text = m.0; size = m.1.1; harts = f.harts; start = f.start; finals_count = f.finals_count; finals = f.finals; last_count = f.last_count; last = f.last }
+    let o = f.others in
+    record {
+      text = m.0;
+      size = m.1.1;
+      some_harts = f.some_harts;
+      harts = f.harts;
+      start = f.start;
+      finals_count = f.finals_count;
+      finals = f.finals;
+      last_count = f.last_count;
+      last = f.last;
+      choices_count = o.choices_count;
+      choices = o.choices_words;
+      names = o.names_ascend;
+      dropped_count = o.dropped_count;
+      dropped = o.dropped_ascend;
+    }
 
 pub notes_again : (t : Table) (bytes : List ℕ) (n : Notes) (rest : List ℕ) → t.notes < 2 ^ 32 → total_words t.runs ≤ 60000
     → AreNotes t bytes n rest → segment_notes_at t.notes (total_words t.runs) bytes ≡ Some (n, rest)
 notes_again t bytes n rest small few is =
-    let f : FitNotes (total_words t.runs) n = record { harts = is.harts; start = is.start; finals_count = is.finals_count; finals = is.finals; last_count = is.last_count; last = is.last } in
+    let o : FitRest (length n.start) n.choices n.names n.dropped = record { choices_count = is.choices_count; choices_words = is.choices; names_ascend = is.names; dropped_count = is.dropped_count; dropped_ascend = is.dropped } in
+    let f : FitNotes (total_words t.runs) n = record { some_harts = is.some_harts; harts = is.harts; start = is.start; finals_count = is.finals_count; finals = is.finals; last_count = is.last_count; last = is.last; others = o } in
     ap (segment_notes_at t.notes (total_words t.runs)) is.text ∙ (reads_segment_notes t.notes (total_words t.runs) small (omega arith)).again n rest (f, is.size)
 
 -- the records consist of bytes
@@ -107,7 +131,7 @@ pub traces_bytes : (bytes : List ℕ) (n : Notes) (rest : List ℕ) → IsBytes 
 unfolding notes_spelling
 traces_bytes bytes n rest fits e =
     let all = bytes_front bytes (notes_spelling (list_notes n)) rest fits e in
-    let others : List ℕ = note NT_FINAL (final_desc n.finals n.last) ++ (note NT_TEMPLATE n.text ++ (note NT_REST rest_desc ++ [])) in
+    let others : List ℕ = note NT_FINAL (final_desc n.finals n.last) ++ (note NT_TEMPLATE n.text ++ (note NT_REST (rest_desc n.choices n.names n.dropped) ++ [])) in
     desc_bytes NT_TRACES n.traces others (bytes_rest (notes_spelling (list_notes n)) (note NT_START (start_desc n.start)) (note NT_TRACES n.traces ++ others) all refl)
 
 -- ---- part 4
@@ -122,9 +146,38 @@ records_again n traces is =
     let f : FitTraces (length n.start) traces = record { count = is.count; records = is.records; steps = is.steps } in
     ap (whole (traces_at (length n.start))) is.text ∙ whole_again (reads_traces (length n.start)) traces f
 
+-- ---- part 5
+
+said_ok : (r : Result Said Fault) (s : Said) → said_in r ≡ Some s → r ≡ Ok s
+said_ok (Ok x) s e = ap (λ (y : Said). Ok y) (same_Some x s e)
+said_ok (Err f) s e = absurd cc
+
+pub template_takes : (n : Notes) (t : Template) → AreValues 0 n.names → t.text ≡ n.text → template_at n ≡ Some (said_by t) → IsTemplate n t
+unfolding template_at is_fit
+template_takes n t values text e =
+    let a = bind_some (said_in (parses n.text)) (λ s. cond (is_fit n s) (Some s) None) (said_by t) e in
+    let b = where_true (is_fit n a.0) (Some a.0) (said_by t) a.2 in
+    let same : a.0 ≡ said_by t = same_Some _ _ b.1 in
+    let fit : is_fit n (said_by t) ≡ true = subst (λ (s : Said). is_fit n s ≡ true) same b.0 in
+    let both = and_true (eqb (length (map hart_lines t.harts)) (length n.start)) (are_named t.names n.names) fit in
+    record {
+      parses = record { text = text; says = said_ok (parses n.text) (said_by t) (a.1 ∙ ap (λ (s : Said). Some s) same) };
+      harts = sym (length-map t.harts hart_lines) ∙ eqb-true _ _ both.0;
+      names = named_take t.names 0 n.names values both.1;
+    }
+
+template_fits : (n : Notes) (t : Template) → IsTemplate n t → is_fit n (said_by t) ≡ true
+unfolding is_fit
+template_fits n t is =
+    both_true (eqb (length (map hart_lines t.harts)) (length n.start)) (are_named t.names n.names) (equal _ _ (length-map t.harts hart_lines ∙ is.harts)) (named_back t.names 0 n.names is.names)
+
+pub template_again : (n : Notes) (t : Template) → IsTemplate n t → template_at n ≡ Some (said_by t)
+unfolding template_at
+template_again n t is = rw (is.parses.says, template_fits n t is) refl
+
 -- ---- part 6
 
-pub loads_take : (entry : ℕ) (runs : List Run) (start : List HartState) (ram : Region) (bytes : List ℕ) (words : List (ℕ × ℕ)) → AreRuns 0 runs → IsBytes bytes
+pub loads_take : (entry : ℕ) (runs : List Run) (start : List HartState) (ram : List Region) (bytes : List ℕ) (words : List (ℕ × ℕ)) → AreRuns 0 runs → IsBytes bytes
     → loaded_at entry runs start ram bytes ≡ Some words → AreLoads entry runs start ram bytes words
 unfolding loaded_at
 loads_take entry runs start ram bytes words is fits e =
@@ -133,7 +186,7 @@ loads_take entry runs start ram bytes words is fits e =
     let ascend = subst (λ (as' : List ℕ). AreAscending 0 as') (sym m.1.0.places) (runs_ascend runs 0 is) in
     record { text = m.0; places = m.1.0.places; in_ram = words_start ram 0 words ascend m.1.1 m.1.0.each; entry_is = eqb-true _ _ g.0 }
 
-pub loads_again : (entry : ℕ) (runs : List Run) (start : List HartState) (ram : Region) (bytes : List ℕ) (words : List (ℕ × ℕ))
+pub loads_again : (entry : ℕ) (runs : List Run) (start : List HartState) (ram : List Region) (bytes : List ℕ) (words : List (ℕ × ℕ))
     → AreLoads entry runs start ram bytes words → loaded_at entry runs start ram bytes ≡ Some words
 unfolding loaded_at
 loads_again entry runs start ram bytes words is =

@@ -1,10 +1,12 @@
 -- Runs, the addresses of their words, and the words themselves tell each other.
 use Rattle.std.proofs.Common.{◌≡◌, ℕ, zero, suc, ◌+◌, ◌*◌, ◌%◌, ◌^◌, ◌<◌, ◌≤◌, Bool, true, false, cond, ltb, leb, eqb, List, [], ◌∷◌, ◌++◌, length, map, refl, sym, ap, subst, ◌∙◌, arith, inl, inr}
+use Rattle.std.specs.Prelude.{◌&&◌}
 use Rattle.std.specs.List.{list_all, AllByRecursion}
 use Rattle.std.proofs.lemmas.Bool.{cases_eq, ltb-true, ltb-false, le-ltb, lt-ltb, eqb-true}
 use Rattle.std.proofs.lemmas.List.{length-append, length-map}
 use Rattle.std.proofs.lemmas.List.Sums.{sum_by-cons}
 use Rattle.tpl_ast.specs.declared.template.Region.{Region}
+use Rattle.tpl_ast.specs.Laws.{IsFramed}
 use Rattle.tpl_admit.specs.Starts.{is_in, AreStartWords}
 use Rattle.byte_format.proofs.Groups.{FitChain}
 use Rattle.elf_image.specs.declared.runs.Run.{Run}
@@ -12,7 +14,7 @@ use Rattle.elf_image.specs.Runs.{address_of, runs_from, runs_of, addresses, addr
 use Rattle.elf_image.specs.Parts.{AreRuns, AreOffsets}
 use Rattle.elf_image.specs.Checks.{are_runs, are_in}
 use Rattle.elf_image.specs.PartReaders.{next_offset}
-use Rattle.elf_image.proofs.Booleans.{equal, apart, at_most, is_at_most, and_true, both_true, no_then, yes_then}
+use Rattle.elf_image.proofs.Booleans.{equal, apart, at_most, is_at_most, and_true, both_true, or_true, no_then, yes_then}
 use Rattle.elf_image.proofs.HeaderLaws.{FitsRun}
 
 abbrev run : ℕ → ℕ → Run
@@ -193,23 +195,31 @@ ascending_runs (a ∷ rest) low is =
 
 -- ---- words that are given a value
 
-pub words_ascend : (ram : Region) (low : ℕ) (words : List (ℕ × ℕ)) → ram.high ≤ 0xFFFFF000 → AreStartWords ram low words → AreAscending low (map address_of words)
-words_ascend ram low [] high is = tt
-words_ascend ram low (w ∷ ws) high is =
-    let within = and_true (leb ram.low w.0) (ltb w.0 ram.high) is.2 in
-    let below : w.0 < ram.high = ltb-true _ _ within.1 in
-    (is.0, is.1, omega arith, words_ascend ram (w.0 + 4) ws high is.4)
+-- no region reaches the last frame
+below_last : (ram : List Region) (a : ℕ) → AllByRecursion IsFramed ram → is_in ram a ≡ true → a < 0xFFFFF000
+below_last [] a framed e = absurd cc
+below_last (r ∷ rs) a framed e =
+    elim (or_true (leb r.low a && ltb a r.high) (is_in rs a) e) [
+      | inl here ↦ let below : a < r.high = ltb-true _ _ (and_true (leb r.low a) (ltb a r.high) here).1 in omega (arith, framed.0.most)
+      | inr other ↦ below_last rs a framed.1 other
+    ]
 
-pub words_in : (ram : Region) (low : ℕ) (words : List (ℕ × ℕ)) → AreStartWords ram low words → are_in ram words ≡ true
+pub words_ascend : (ram : List Region) (low : ℕ) (words : List (ℕ × ℕ)) → AllByRecursion IsFramed ram → AreStartWords ram low words → AreAscending low (map address_of words)
+words_ascend ram low [] framed is = tt
+words_ascend ram low (w ∷ ws) framed is =
+    let below = below_last ram w.0 framed is.2 in
+    (is.0, is.1, omega arith, words_ascend ram (w.0 + 4) ws framed is.4)
+
+pub words_in : (ram : List Region) (low : ℕ) (words : List (ℕ × ℕ)) → AreStartWords ram low words → are_in ram words ≡ true
 unfolding are_in
 words_in ram low [] is = refl
 words_in ram low (w ∷ ws) is = both_true (is_in ram w.0) (list_all (λ x. is_in ram x.0) ws) is.2 (words_in ram (w.0 + 4) ws is.4)
 
-pub words_fit : (ram : Region) (low : ℕ) (words : List (ℕ × ℕ)) → AreStartWords ram low words → AllByRecursion (λ w. w.1 < 2 ^ 32) words
+pub words_fit : (ram : List Region) (low : ℕ) (words : List (ℕ × ℕ)) → AreStartWords ram low words → AllByRecursion (λ w. w.1 < 2 ^ 32) words
 words_fit ram low [] is = tt
 words_fit ram low (w ∷ ws) is = (is.3, words_fit ram (w.0 + 4) ws is.4)
 
-pub words_start : (ram : Region) (low : ℕ) (words : List (ℕ × ℕ)) → AreAscending low (map address_of words) → are_in ram words ≡ true → AllByRecursion (λ w. w.1 < 2 ^ 32) words → AreStartWords ram low words
+pub words_start : (ram : List Region) (low : ℕ) (words : List (ℕ × ℕ)) → AreAscending low (map address_of words) → are_in ram words ≡ true → AllByRecursion (λ w. w.1 < 2 ^ 32) words → AreStartWords ram low words
 unfolding are_in
 words_start ram low [] is within fits = tt
 words_start ram low (w ∷ ws) is within fits =

@@ -1,4 +1,4 @@
--- The states of harts and their records, as they are read.
+-- The states of harts, their records and dropped biases, as they are read.
 use Rattle.std.specs.Prelude.{ℕ, List, Option, Some, None, ◌==◌, nat_lt, if◌then◌else◌}
 use Rattle.rv_csr.specs.Causes.{is_cause}
 use Rattle.rv_script.specs.declared.access.Access.{Access}
@@ -10,6 +10,9 @@ use Rattle.rv_hart.specs.declared.record.Record.{Record}
 use Rattle.rv_hart.specs.declared.record.Outcome.{Outcome}
 use Rattle.rv_hart.specs.declared.record.Outcome.TheVariants.{Retired, Trap}
 use Rattle.tpl_ast.specs.declared.template.HartState.{HartState}
+use Rattle.tpl_admit.specs.declared.dropped.Dropped.{Dropped}
+use Rattle.tpl_admit.specs.declared.dropped.Why.{Why}
+use Rattle.tpl_admit.specs.declared.dropped.Why.TheVariants.{NoneFits, Spent}
 use Rattle.byte_format.specs.Numbers.{half}
 use Rattle.byte_format.specs.Readers.{◌>>=◌, byte_at, word_at, both, ahead, as_at, where_at, counted_at, few_at}
 use Rattle.elf_image.specs.Checks.{is_access, is_state}
@@ -29,6 +32,9 @@ outcome_of cause taker value =
 
 abbrev pub rd_of : ℕ → ℕ → Option (Option (ℕ × ℕ))
 rd_of n value = if n == 0 then (if value == 0 then Some None else None) else (if nat_lt n 32 then Some (Some (n, value)) else None)
+
+abbrev pub why_of : ℕ → Option Why
+why_of n = if n == 0 then Some NoneFits else (if n == 1 then Some Spent else None)
 
 -- ---- items
 
@@ -69,3 +75,9 @@ record_at = as_at record_of (both place_at (both marks_at (both values_at (few_a
 -- the records of one hart
 unfoldable pub trace_at : List ℕ → Option (List Record × List ℕ)
 trace_at = counted_at record_at
+
+abbrev pub dropped_of : ℕ × (ℕ × (ℕ × ℕ)) → Option Dropped
+dropped_of t = why_of t.1.1.1 >>= λ why. Some (record { hart = t.0; step = t.1.0; atom = t.1.1.0; why = why })
+
+unfoldable pub drop_at : List ℕ → Option (Dropped × List ℕ)
+drop_at = as_at dropped_of (both word_at (both word_at (both word_at word_at)))

@@ -9,3 +9,4 @@ pub mod ItemReaders
 pub mod PartReaders
 pub mod Views
 pub mod Whole
+pub mod Told

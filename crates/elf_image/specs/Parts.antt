@@ -3,12 +3,12 @@ use Rattle.std.specs.Prelude.{◌≡◌, ℕ, ◌+◌, ◌*◌, ◌%◌, ◌^◌
 use Rattle.std.specs.List.{AllByRecursion}
 use Rattle.rv_hart.specs.declared.record.Record.{Record}
 use Rattle.tpl_ast.specs.declared.template.Region.{Region}
-use Rattle.tpl_form.specs.declared.template.Template.{Template}
-use Rattle.tpl_form.specs.Form.{Parses}
+use Rattle.tpl_ast.specs.declared.template.Template.{Template}
+use Rattle.tpl_ast.specs.Parsing.{Parses}
 use Rattle.tpl_admit.specs.declared.certificate.Cert.{Cert}
 use Rattle.tpl_ast.specs.declared.template.HartState.{HartState}
 use Rattle.tpl_admit.specs.Starts.{AreStartWords}
-use Rattle.tpl_admit.specs.WellFormed.{IsWord, IsState, IsRecord}
+use Rattle.tpl_admit.specs.WellFormed.{IsWord, IsState, IsRecord, AreNamed, AreDropped}
 use Rattle.elf_image.specs.declared.runs.Run.{Run}
 use Rattle.elf_image.specs.declared.reading.headers.Head.{Head}
 use Rattle.elf_image.specs.declared.reading.headers.Table.{Table}
@@ -46,16 +46,27 @@ pub record IsTable (phnum : ℕ) (bytes : List ℕ) (t : Table) (rest : List ℕ
   pub total : total_words t.runs ≤ 60000
   pub offsets : AreOffsets (headers_end phnum + t.notes) t.runs
 
+-- words as values of names from an index on, by ascending index
+abbrev pub AreValues : ℕ → List (ℕ × ℕ) → Type 0
+AreValues from [] = Unit {0}
+AreValues from (e ∷ es) = (from ≤ e.0) × IsWord e.0 × IsWord e.1 × AreValues (e.0 + 1) es
+
 -- part 3: the notes, but for what the second and the fourth hold
 pub record AreNotes (t : Table) (bytes : List ℕ) (n : Notes) (rest : List ℕ) : Type 0 where
   pub text : bytes ≡ notes_spelling (list_notes n) ++ rest
   pub size : length (notes_spelling (list_notes n)) ≡ t.notes
-  pub harts : length n.start ≡ 1
+  pub some_harts : 1 ≤ length n.start
+  pub harts : length n.start ≤ 4
   pub start : AllByRecursion IsState n.start
   pub finals_count : length n.finals ≡ length n.start
   pub finals : AllByRecursion IsState n.finals
   pub last_count : length n.last ≡ total_words t.runs
   pub last : AllByRecursion IsWord n.last
+  pub choices_count : length n.choices ≤ 8192
+  pub choices : AllByRecursion IsWord n.choices
+  pub names : AreValues 0 n.names
+  pub dropped_count : length n.dropped ≤ 262144
+  pub dropped : AreDropped (length n.start) 0 n.dropped
 
 -- part 4: the records of every hart
 pub record AreRecords (n : Notes) (traces : List (List Record)) : Type 0 where
@@ -64,12 +75,14 @@ pub record AreRecords (n : Notes) (traces : List (List Record)) : Type 0 where
   pub records : AllByRecursion (λ t. AllByRecursion IsRecord t) traces
   pub steps : sum_by (λ t. length t) traces ≤ 8192
 
--- part 5: the template
-abbrev pub IsTemplate : Notes → Template → Type 0
-IsTemplate n t = Parses n.text t
+-- part 5: the template, with as many harts as start, and with the names of the values
+pub record IsTemplate (n : Notes) (t : Template) : Type 0 where
+  pub parses : Parses n.text t
+  pub harts : length t.harts ≡ length n.start
+  pub names : AreNamed t.names 0 n.names
 
 -- part 6: the words of the runs, which lie in memory, and the entry
-pub record AreLoads (entry : ℕ) (runs : List Run) (start : List HartState) (ram : Region) (bytes : List ℕ) (words : List (ℕ × ℕ)) : Type 0 where
+pub record AreLoads (entry : ℕ) (runs : List Run) (start : List HartState) (ram : List Region) (bytes : List ℕ) (words : List (ℕ × ℕ)) : Type 0 where
   pub text : bytes ≡ load_spelling words
   pub places : map address_of words ≡ addresses_of runs
   pub in_ram : AreStartWords ram 0 words
@@ -107,7 +120,7 @@ pub record UpToTemplate (bytes : List ℕ) : Type 0 where
 -- ---- the whole file
 
 abbrev pub cert_of : Notes → List (List Record) → Template → List (ℕ × ℕ) → Cert
-cert_of n traces template words = record { start = n.start; words = words; traces = traces; finals = n.finals; last = n.last; template = template }
+cert_of n traces template words = record { start = n.start; words = words; traces = traces; finals = n.finals; last = n.last; template = template; choices = n.choices; names = n.names; dropped = n.dropped }
 
 -- the words that stand behind the notes
 abbrev pub HasLoads : {bytes : List ℕ} → UpToTemplate bytes → List (ℕ × ℕ) → Type 0

@@ -1,4 +1,4 @@
--- The states of harts and their records, as they stand in the notes.
+-- The states of harts, their records and dropped biases, as they stand in the notes.
 use Rattle.std.specs.Prelude.{ℕ, List, [], ◌∷◌, ◌++◌, Option, Some, None}
 use Rattle.rv_script.specs.declared.access.Access.{Access}
 use Rattle.rv_script.specs.declared.access.Role.{Role}
@@ -9,6 +9,9 @@ use Rattle.rv_hart.specs.declared.record.Record.{Record}
 use Rattle.rv_hart.specs.declared.record.Outcome.{Outcome}
 use Rattle.rv_hart.specs.declared.record.Outcome.TheVariants.{Retired, Trap}
 use Rattle.tpl_ast.specs.declared.template.HartState.{HartState}
+use Rattle.tpl_admit.specs.declared.dropped.Dropped.{Dropped}
+use Rattle.tpl_admit.specs.declared.dropped.Why.{Why}
+use Rattle.tpl_admit.specs.declared.dropped.Why.TheVariants.{NoneFits, Spent}
 use Rattle.byte_format.specs.Numbers.{byte, half, word, pieces, counted}
 
 -- the number of a privilege (Privileged, 1.2)
@@ -17,7 +20,7 @@ level U = 0
 level S = 1
 level M = 3
 
--- key and value
+-- key and value, or a name's index and its value
 unfoldable pub pair_spelling : ℕ × ℕ → List ℕ
 pair_spelling p = word p.0 ++ word p.1
 
@@ -74,3 +77,11 @@ record_spelling r = pieces (record_place r ∷ record_marks r ∷ record_values 
 -- the records of one hart
 unfoldable pub trace_spelling : List Record → List ℕ
 trace_spelling records = counted record_spelling records
+
+-- why a bias was dropped
+abbrev pub why_number : Why → ℕ
+why_number NoneFits = 0
+why_number Spent = 1
+
+unfoldable pub drop_spelling : Dropped → List ℕ
+drop_spelling d = pieces (word d.hart ∷ word d.step ∷ word d.atom ∷ word (why_number d.why) ∷ [])

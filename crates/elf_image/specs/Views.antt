@@ -7,7 +7,7 @@ use Rattle.elf_image.specs.declared.reading.Front.{Front}
 use Rattle.elf_image.specs.Notes.{Notes}
 
 abbrev pub notes_view : NoteDescs → Notes
-notes_view n = record { start = n.start; traces = n.traces.now; finals = n.finals; last = n.last; text = n.text.now }
+notes_view n = record { start = n.start; traces = n.traces.now; finals = n.finals; last = n.last; text = n.text.now; choices = n.choices; names = n.names; dropped = n.dropped }
 
 -- the first four parts, and the bytes behind the notes
 pub record FrontParts : Type 0 where

@@ -3,9 +3,9 @@ use Rattle.std.specs.Prelude.{◌≡◌, ℕ, List, length, Option, Some, None, 
 use Rattle.byte_format.specs.declared.error.PieceError.{PieceError}
 use Rattle.byte_format.specs.declared.error.PieceError.TheVariants as pieces
 use Rattle.byte_format.specs.Readers.{whole}
-use Rattle.tpl_form.specs.declared.error.ParseError.{ParseError}
-use Rattle.tpl_form.specs.declared.error.ParseError.TheVariants.{Fault}
-use Rattle.tpl_form.specs.declared.error.ParseError.TheVariants as templates
+use Rattle.tpl_parse.specs.declared.error.ParseError.{ParseError}
+use Rattle.tpl_parse.specs.declared.error.ParseError.TheVariants.{Fault}
+use Rattle.tpl_parse.specs.declared.error.ParseError.TheVariants as templates
 use Rattle.tpl_admit.specs.declared.certificate.Cert.{Cert}
 use Rattle.elf_image.specs.declared.error.ReadError.{ReadError}
 use Rattle.elf_image.specs.declared.error.ReadError.TheVariants.{Malformed, OutOfMemory}

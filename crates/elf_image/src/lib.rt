@@ -1,6 +1,6 @@
 //! A certificate as the bytes of an ELF file, which an emulator loads as an executable. The words of
 //! memory are its loads, and a segment of notes holds the rest. Each well-formed certificate has one
-//! file; `write` gives it, and `read` gives the one certificate of a file, or the first of the six
+//! file; `write` gives it, and `read` gives the certificate that a file tells, or the first of the six
 //! parts of the file that is wrong.
 #![tactic(auto)]
 

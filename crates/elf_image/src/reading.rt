@@ -2,14 +2,15 @@
 ghost use Rattle.std.specs.Prelude.{◌≡◌, ℕ, None, Err, IfOk, IsTrue, MatchResult};
 ghost use Rattle.tpl_admit.specs.declared.certificate.Cert.{Cert as ACert};
 ghost use Rattle.tpl_admit.specs.WellFormed.{IsWellFormed};
-ghost use Rattle.tpl_form.specs.declared.template.Template.{Template as ATemplate};
-ghost use Rattle.tpl_form.specs.Form.{Parses};
+ghost use Rattle.byte_format.specs.Readers.{Gives};
+ghost use Rattle.tpl_ast.specs.Parsing.{parses, said_by};
 ghost use Rattle.elf_image.specs.File.{file_bytes};
 ghost use Rattle.elf_image.specs.Parts.{IsFirstWrong, LacksHead};
 ghost use Rattle.elf_image.specs.Checks.{are_runs};
-ghost use Rattle.elf_image.specs.PartReaders.{sized_header_at};
-ghost use Rattle.elf_image.specs.Views.{front_view};
+ghost use Rattle.elf_image.specs.PartReaders.{sized_header_at, said_in, template_at};
+ghost use Rattle.elf_image.specs.Views.{front_view, notes_view};
 ghost use Rattle.elf_image.specs.Whole.{GivesPart, IsRead, at_part, no_template, front_at};
+ghost use Rattle.elf_image.specs.Told.{told};
 
 mod checks;
 mod headers;
@@ -20,13 +21,15 @@ mod notes;
 use crate::error::ReadError;
 use crate::runs::Run;
 use byte_format::PieceError;
+use checks::is_fit;
 use headers::{sized_header_of, table_of};
 use loads::loaded_of;
 use notes::{NoteDescs, segment_notes_of, traces_of};
 use rv_hart::Record;
 use std::alloc::Global;
 use tpl_admit::Cert;
-use tpl_form::{Items, ParseError, Template, parse, parses_are_unique};
+use tpl_ast::{Items, Template, template_law};
+use tpl_parse::{ParseError, parse};
 
 /// What the first four parts say, and the bytes behind the notes.
 #[derive(Drop)]
@@ -91,11 +94,27 @@ fn untold(error: ParseError) -> PieceError
 }
 
 /// The template of a text.
-fn template_of(alloc: Global, text: &[u8]) -> Result<Template, PieceError>
-    ensures found { IfOk result (λ t. Parses text.now t) }
-    ensures none { result ≡ Err PieceError.Malformed → (t : ATemplate) → Parses text.now t → ⊥ }
+fn told_of(alloc: Global, text: &[u8]) -> Result<Template, PieceError>
+    ensures gives { Gives said_by result (said_in (parses text.now)) }
+    ensures text { IfOk result (λ t. t.text ≡ text.now) }
 {
-    parse(alloc, text).map_err(untold)
+    match parse(alloc, text) {
+        Ok(template) => Ok(template),
+        Err(e) => Err(untold(e)),
+    }
+}
+
+/// The template of the notes, which has as many harts as they, and the names of their values.
+#[tactic(auto, unfolding(crate::specs::PartReaders::template_at))]
+fn template_of(alloc: Global, notes: &NoteDescs<'_>) -> Result<Template, PieceError>
+    ensures gives { Gives said_by result (template_at (notes_view notes.now)) }
+    ensures text { IfOk result (λ t. t.text ≡ notes.now.text.now) }
+{
+    let template = told_of(alloc, notes.text)?;
+    if !is_fit(notes, &template) {
+        return Err(PieceError::Malformed);
+    }
+    Ok(template)
 }
 
 /// All six parts.
@@ -114,12 +133,13 @@ fn read_parts(alloc: Global, bytes: &[u8]) -> Result<Cert, ReadError>
         traces,
         rest,
     } = front;
-    let template = match template_of(alloc, notes.text) {
+    let template = match template_of(alloc, &notes) {
         Ok(template) => template,
         Err(e) => return Err(at(5, e)),
     };
     let start = notes.start.as_slice();
-    let words = match loaded_of(alloc, entry, runs.as_slice(), start, template.ram, rest) {
+    let ram = template.ram.as_slice();
+    let words = match loaded_of(alloc, entry, runs.as_slice(), start, ram, rest) {
         Ok(words) => words,
         Err(e) => return Err(at(6, e)),
     };
@@ -130,6 +150,9 @@ fn read_parts(alloc: Global, bytes: &[u8]) -> Result<Cert, ReadError>
         finals: notes.finals,
         last: notes.last,
         template,
+        choices: notes.choices,
+        names: notes.names,
+        dropped: notes.dropped,
     })
 }
 
@@ -139,8 +162,8 @@ pub fn read(alloc: Global, bytes: &[u8]) -> Result<Cert, ReadError>
     // What is read is well-formed, and the bytes are its file.
     ensures found { IfOk result (λ c. IsWellFormed c × (bytes.now ≡ file_bytes c)) }
 
-    // The file of a well-formed certificate is read, unless memory runs out.
-    ensures only { (c : ACert) → IsWellFormed c → bytes.now ≡ file_bytes c → MatchResult result (λ d. d ≡ c) (λ e. e ≡ ReadError.OutOfMemory) }
+    // The file of a well-formed certificate is read, and tells the same, unless memory runs out.
+    ensures only { (c : ACert) → IsWellFormed c → bytes.now ≡ file_bytes c → MatchResult result (λ d. told d ≡ told c) (λ e. e ≡ ReadError.OutOfMemory) }
 
     // Which part is wrong.
     ensures wrong { (k : ℕ) → result ≡ Err (ReadError.Malformed k) → IsFirstWrong bytes.now k }
@@ -148,7 +171,7 @@ pub fn read(alloc: Global, bytes: &[u8]) -> Result<Cert, ReadError>
     // The first part is judged without memory.
     ensures header { LacksHead bytes.now → result ≡ Err (ReadError.Malformed 1) }
 {
-    // The law that a text says one template, for `only`.
-    parses_are_unique();
+    // The law on templates, for `only`.
+    template_law();
     read_parts(alloc, bytes)
 }

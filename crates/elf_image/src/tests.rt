@@ -1,5 +1,7 @@
 ghost use Rattle.std.specs.Prelude.{◌≡◌};
 
+mod harts;
+
 use crate::{ReadError, read, write};
 use rv_hart::{Outcome, Priv};
 use rv_script::Role;
@@ -244,15 +246,16 @@ fn each_part_is_judged_in_its_turn(rt: HostRuntime) -> Result<(), Fail> {
         (228, 4, 4),
         (229, 3, 4),
         (230, 1, 4),
-        // The template's keyword, and a source that no earlier instruction wrote.
+        // The template's keyword, and a letter in place of a number.
         (312, 0x52, 5),
-        (433, 0x31, 5),
+        (433, 0x78, 5),
         // The entry.
         (24, 4, 6),
-        // Another word, another pc of the step and another rd in the template: no part judges what is valid.
+        // Another word, another pc of the step, another rd and another rs1 in the template: no part judges what is valid.
         (484, 0x13, 0),
         (192, 4, 0),
         (421, 0x36, 0),
+        (433, 0x31, 0),
     ] {
         let mut file = one_step(alloc)?;
         assert!(rt; at < file.len());

@@ -13,25 +13,24 @@ use Rattle.rv_hart.specs.Privileged.{rd_told, retired}
 use Rattle.rv_hart.specs.Whole.{WholeHart, Step, step_by, hart_after}
 use Rattle.rv_hart.specs.Clauses.{Takes}
 use Rattle.rv_hart.proofs.Steps.{takes}
-use Rattle.tpl_form.specs.declared.template.Leaf.{Leaf}
+use Rattle.tpl_form.specs.declared.form.Leaf.{Leaf}
 use Rattle.tpl_ast.specs.declared.template.Region.{Region}
 use Rattle.tpl_form.specs.Form.{AreLeavesFit}
 use Rattle.tpl_admit.specs.Starts.{zero_elsewhere, is_in}
 use Rattle.tpl_admit.specs.Solo.{Moment, Solo, solo, solo_on, knows_also, AreInitialised, knows_after}
 use Rattle.rv_isa.proofs.Codec.{encoded_below}
-use Rattle.tpl_admit.specs.Admission.{instr_of}
-use Rattle.gen_engine.specs.Plan.{leaf_word, leaf_value, leaf_write, fetch_of, records_from, regs_from}
+use Rattle.gen_engine.specs.Plan.{instr_of, leaf_word, leaf_value, leaf_write, fetch_of, records_from, regs_from}
 use Rattle.gen_engine.specs.Code.{AreKnown}
 use Rattle.gen_engine.proofs.Leaves.{leaf_answered, leaf_decoded, encoded}
 use Rattle.gen_engine.proofs.Machines.{looks_leave, register_alone, Shows, shows_write, written_size, written_zero, known_of, fixed_at, has_known, known_set}
 
 -- the words of the leaves stand in memory from a pc on, in RAM
-abbrev pub AreThere : Region → (ℕ → Option ℕ) → ℕ → List Leaf → Type 0
+abbrev pub AreThere : List Region → (ℕ → Option ℕ) → ℕ → List Leaf → Type 0
 AreThere ram words pc [] = Unit {0}
 AreThere ram words pc (l ∷ ls) = (words (pc / 4) ≡ Some (leaf_word l)) × (is_in ram (pc / 4 * 4) ≡ true) × AreThere ram words (pc + 4) ls
 
 -- a hart stands before leaves, with just these registers known
-pub record Before (ram : Region) (words : ℕ → Option ℕ) (pc : ℕ) (regs : List (Option ℕ)) (ls : List Leaf) (h : WholeHart) (knows : ℕ → Bool) : Type 0 where
+pub record Before (ram : List Region) (words : ℕ → Option ℕ) (pc : ℕ) (regs : List (Option ℕ)) (ls : List Leaf) (h : WholeHart) (knows : ℕ → Bool) : Type 0 where
   pub fixed : h.fixed ≡ fixed_at ram pc
   pub shows : Shows regs knows h.file
   pub zero_is : slice_index_or regs 0 None ≡ Some 0
@@ -46,11 +45,11 @@ abbrev pub change_of : ℕ → List (Option ℕ) → Leaf → Change
 change_of pc regs l = retired pc (leaf_word l) (leaf_write regs l)
 
 -- its step
-abbrev pub leaf_step : Region → ℕ → List (Option ℕ) → Leaf → Step
+abbrev pub leaf_step : List Region → ℕ → List (Option ℕ) → Leaf → Step
 leaf_step ram pc regs l = step_by (fixed_at ram pc) (fetch_of pc (leaf_word l) ∷ []) (change_of pc regs l)
 
 -- the step of the first leaf
-pub one_leaf : (ram : Region) (words : ℕ → Option ℕ) (pc : ℕ) (regs : List (Option ℕ)) (l : Leaf) (ls : List Leaf) (h : WholeHart) (knows : ℕ → Bool) → Before ram words pc regs (l ∷ ls) h knows
+pub one_leaf : (ram : List Region) (words : ℕ → Option ℕ) (pc : ℕ) (regs : List (Option ℕ)) (l : Leaf) (ls : List Leaf) (h : WholeHart) (knows : ℕ → Bool) → Before ram words pc regs (l ∷ ls) h knows
     → Takes (fixed_at ram pc) (known_of regs words) h (zero_elsewhere words) (fetch_of pc (leaf_word l) ∷ []) (change_of pc regs l)
 one_leaf ram words pc regs l ls h knows b = go (slice_index_or regs l.rs1 None) refl b.known.0
   where
@@ -64,7 +63,7 @@ one_leaf ram words pc regs l ls h knows b = go (slice_index_or regs l.rs1 None) 
         (answered ∙ ap (λ (n : ℕ). Does (fetch_of pc (leaf_word l) ∷ []) (retired pc (leaf_word l) (rd_told l.rd n))) value)
 
 -- the hart after it stands before the next leaf
-pub next_leaf : (ram : Region) (words : ℕ → Option ℕ) (pc : ℕ) (regs : List (Option ℕ)) (l : Leaf) (ls : List Leaf) (h : WholeHart) (knows : ℕ → Bool) → Before ram words pc regs (l ∷ ls) h knows
+pub next_leaf : (ram : List Region) (words : ℕ → Option ℕ) (pc : ℕ) (regs : List (Option ℕ)) (l : Leaf) (ls : List Leaf) (h : WholeHart) (knows : ℕ → Bool) → Before ram words pc regs (l ∷ ls) h knows
     → Before ram words (pc + 4) (written (leaf_write regs l) regs) ls (hart_after (leaf_step ram pc regs l) h) (knows_also (leaf_step ram pc regs l).writes knows)
 next_leaf ram words pc regs l ls h knows b =
     let small : (pc + 4) % 2 ^ 32 ≡ pc + 4 = omega (arith, b.small) in
@@ -81,13 +80,13 @@ next_leaf ram words pc regs l ls h knows b =
     }
 
 -- what the hart does alone
-pub record Course (ram : Region) (words : ℕ → Option ℕ) (pc : ℕ) (regs : List (Option ℕ)) (ls : List Leaf) (knows : ℕ → Bool) (s : Solo) : Type 0 where
+pub record Course (ram : List Region) (words : ℕ → Option ℕ) (pc : ℕ) (regs : List (Option ℕ)) (ls : List Leaf) (knows : ℕ → Bool) (s : Solo) : Type 0 where
   pub records : map (λ (x : Moment). x.step.did) s.moments ≡ records_from pc regs ls
   pub initialised : AreInitialised words knows s.moments
   pub fixed : s.hart.fixed ≡ fixed_at ram (pc + 4 * length ls)
   pub shows : Shows (regs_from regs ls) (knows_after knows s.moments) s.hart.file
 
-pub course : (ram : Region) (words : ℕ → Option ℕ) (pc : ℕ) (regs : List (Option ℕ)) (ls : List Leaf) (h : WholeHart) (knows : ℕ → Bool) → Before ram words pc regs ls h knows
+pub course : (ram : List Region) (words : ℕ → Option ℕ) (pc : ℕ) (regs : List (Option ℕ)) (ls : List Leaf) (h : WholeHart) (knows : ℕ → Bool) → Before ram words pc regs ls h knows
     → Course ram words pc regs ls knows (solo (length ls) h (zero_elsewhere words))
 course ram words pc regs [] h knows b = record {
   records = refl;

@@ -1,5 +1,5 @@
 -- The certificate of a template has a file.
-use Rattle.std.proofs.Common.{◌≡◌, ℕ, suc, ◌+◌, ◌*◌, ◌^◌, ◌<◌, ◌≤◌, Bool, true, false, if◌then◌else◌, ◌==◌, List, [], ◌∷◌, length, map, drop, Option, Some, None, refl, sym, ◌∙◌, inl, inr, arith, sum_by}
+use Rattle.std.proofs.Common.{◌≡◌, ℕ, suc, ◌+◌, ◌*◌, ◌^◌, ◌<◌, ◌≤◌, Bool, true, false, if◌then◌else◌, ◌==◌, List, [], ◌∷◌, length, map, drop, Option, Some, None, refl, sym, ap, ◌∙◌, inl, inr, arith, sum_by}
 use Rattle.std.specs.List.{AllByRecursion}
 use Rattle.std.proofs.lemmas.Bool.{lt-ltb, cases_eq, eq-eqb, ne_eqb}
 use Rattle.std.proofs.lemmas.List.{length-map}
@@ -7,13 +7,15 @@ use Rattle.std.proofs.lemmas.List.Sums.{sum_by-cons}
 use Rattle.rv_isa.proofs.Codec.{encoded_below}
 use Rattle.rv_hart.specs.Registers.{written, no_registers}
 use Rattle.rv_hart.specs.Privileged.{rd_told}
-use Rattle.tpl_form.specs.declared.template.Leaf.{Leaf}
-use Rattle.tpl_form.specs.declared.template.Template.{Template}
-use Rattle.tpl_form.specs.Form.{IsFit, AreLeavesFit, Parses}
-use Rattle.tpl_admit.specs.Admission.{instr_of}
+use Rattle.tpl_form.specs.declared.form.Leaf.{Leaf}
+use Rattle.tpl_ast.specs.declared.template.Template.{Template}
+use Rattle.tpl_form.specs.declared.form.Form.{Form}
+use Rattle.tpl_ast.specs.Laws.{TemplatesAreSound}
+use Rattle.tpl_ast.specs.Parsing.{Parses, hart_lines, said_by}
+use Rattle.tpl_form.specs.Form.{IsFit, AreLeavesFit, IsAllowed, IsFormOf}
 use Rattle.tpl_admit.specs.Sizes.{runs_behind, run_count, record_bytes, file_size}
 use Rattle.tpl_admit.specs.WellFormed.{IsWord, is_legal_place, IsRecord, IsWritten, IsWellFormed}
-use Rattle.gen_engine.specs.Plan.{leaf_word, leaf_value, leaf_write, leaf_record, records_from, regs_from, placed, known_from, planned}
+use Rattle.gen_engine.specs.Plan.{instr_of, leaf_word, leaf_value, leaf_write, leaf_record, records_from, regs_from, placed, known_from, planned}
 use Rattle.gen_engine.proofs.Leaves.{encoded}
 use Rattle.gen_engine.proofs.Validity.{planned_valid, places_length, known_length, placed_length, records_length}
 
@@ -73,36 +75,38 @@ forty_each pc regs (l ∷ ls) =
     let ih = forty_each (pc + 4) (written (leaf_write regs l) regs) ls in
     sum_by-cons record_bytes (leaf_record pc regs l) rest ∙ omega (arith, ih)
 
-pub planned_small : (t : Template) → Parses t.text t → file_size (planned t) ≤ 8388608
-planned_small t is =
-    let words = placed t.start_pc (map leaf_word t.leaves) in
-    let count : length (placed t.start_pc (map leaf_word t.leaves)) ≡ length t.leaves = placed_length t.start_pc (map leaf_word t.leaves) ∙ length-map t.leaves leaf_word in
-    let values : length (map leaf_word t.leaves) ≡ length t.leaves = length-map t.leaves leaf_word in
-    let runs : run_count (placed t.start_pc (map leaf_word t.leaves)) ≤ length (placed t.start_pc (map leaf_word t.leaves)) = count_few words in
-    let steps : sum_by record_bytes (records_from t.start_pc no_registers t.leaves) ≡ 40 * length t.leaves = forty_each t.start_pc no_registers t.leaves in
-    let known : length (known_from 1 (drop 1 (regs_from no_registers t.leaves))) ≤ length (drop 1 (regs_from no_registers t.leaves)) = known_length 1 (drop 1 (regs_from no_registers t.leaves)) in
-    let places : length (drop 1 (regs_from no_registers t.leaves)) ≡ 31 = places_length t in
-    omega (arith, count, values, runs, steps, known, places, is.size, is.allowed.first, is.allowed.last)
+pub planned_small : (t : Template) (f : Form) → length t.text ≤ 65536 → IsAllowed f → file_size (planned t f) ≤ 8388608
+planned_small t f short is =
+    let words = placed f.start_pc (map leaf_word f.leaves) in
+    let count : length (placed f.start_pc (map leaf_word f.leaves)) ≡ length f.leaves = placed_length f.start_pc (map leaf_word f.leaves) ∙ length-map f.leaves leaf_word in
+    let values : length (map leaf_word f.leaves) ≡ length f.leaves = length-map f.leaves leaf_word in
+    let runs : run_count (placed f.start_pc (map leaf_word f.leaves)) ≤ length (placed f.start_pc (map leaf_word f.leaves)) = count_few words in
+    let steps : sum_by record_bytes (records_from f.start_pc no_registers f.leaves) ≡ 40 * length f.leaves = forty_each f.start_pc no_registers f.leaves in
+    let known : length (known_from 1 (drop 1 (regs_from no_registers f.leaves))) ≤ length (drop 1 (regs_from no_registers f.leaves)) = known_length 1 (drop 1 (regs_from no_registers f.leaves)) in
+    let places : length (drop 1 (regs_from no_registers f.leaves)) ≡ 31 = places_length f in
+    omega (arith, count, values, runs, steps, known, places, short, is.first, is.last)
 
 -- ---- the whole
 
-pub planned_well_formed : (t : Template) → Parses t.text t → IsWellFormed (planned t)
-planned_well_formed t is =
-    let valid = planned_valid t is.allowed in
-    let places : length (drop 1 (regs_from no_registers t.leaves)) ≡ 31 = places_length t in
-    let steps : length (records_from t.start_pc no_registers t.leaves) ≡ length t.leaves = records_length t.start_pc no_registers t.leaves in
-    let count : length (placed t.start_pc (map leaf_word t.leaves)) ≡ length t.leaves = placed_length t.start_pc (map leaf_word t.leaves) ∙ length-map t.leaves leaf_word in
-    let values : length (map leaf_word t.leaves) ≡ length t.leaves = length-map t.leaves leaf_word in
-    let room : t.start_pc + 4 * length t.leaves < 2 ^ 32 = omega (arith, is.allowed.last, is.allowed.within, is.allowed.high) in
+pub planned_well_formed : TemplatesAreSound → (t : Template) (f : Form) → Parses t.text t → IsFormOf (said_by t) f → IsWellFormed (planned t f)
+planned_well_formed sound t f parses form =
+    let is : IsAllowed f = form.allowed in
+    let valid = planned_valid t f form in
+    let places : length (drop 1 (regs_from no_registers f.leaves)) ≡ 31 = places_length f in
+    let steps : length (records_from f.start_pc no_registers f.leaves) ≡ length f.leaves = records_length f.start_pc no_registers f.leaves in
+    let count : length (placed f.start_pc (map leaf_word f.leaves)) ≡ length f.leaves = placed_length f.start_pc (map leaf_word f.leaves) ∙ length-map f.leaves leaf_word in
+    let values : length (map leaf_word f.leaves) ≡ length f.leaves = length-map f.leaves leaf_word in
+    let room : f.start_pc + 4 * length f.leaves < 2 ^ 32 = omega (arith, is.last, is.within, is.high) in
     record {
-      size = planned_small t is;
-      harts = refl;
-      start = (record { pc = omega (arith, room); aligned = is.allowed.pc; mstatus = omega arith; medeleg = omega arith; satp = omega arith; legal_mstatus = refl; legal_medeleg = refl; legal_satp = refl; places = tt; legal_places = tt }, tt);
+      size = planned_small t f (sound t.text t parses).text is;
+      some_harts = omega arith;
+      harts = omega arith;
+      start = (record { pc = omega (arith, room); aligned = is.pc; mstatus = omega arith; medeleg = omega arith; satp = omega arith; legal_mstatus = refl; legal_medeleg = refl; legal_satp = refl; places = tt; legal_places = tt }, tt);
       finals_count = refl;
       finals = (
         record {
           pc = room;
-          aligned = omega (arith, is.allowed.pc);
+          aligned = omega (arith, is.pc);
           mstatus = omega arith;
           medeleg = omega arith;
           satp = omega arith;
@@ -110,16 +114,22 @@ planned_well_formed t is =
           legal_medeleg = refl;
           legal_satp = refl;
           places = valid.sound.final_places 0;
-          legal_places = known_legal 1 (drop 1 (regs_from no_registers t.leaves)) (omega (arith, places));
+          legal_places = known_legal 1 (drop 1 (regs_from no_registers f.leaves)) (omega (arith, places));
         },
         tt,
       );
       traces_count = refl;
-      traces = (records_are t.start_pc no_registers t.leaves is.allowed.fit (omega (arith, room)), tt);
-      steps = omega (arith, steps, is.allowed.first, is.allowed.last);
-      words_count = omega (arith, count, is.allowed.first, is.allowed.last);
+      traces = (records_are f.start_pc no_registers f.leaves is.fit (omega (arith, room)), tt);
+      steps = omega (arith, steps, is.first, is.last);
+      words_count = omega (arith, count, is.first, is.last);
       words = valid.sound.words;
       last_count = values ∙ sym count;
-      last = words_are t.leaves is.allowed.fit;
-      template = is;
+      last = words_are f.leaves is.fit;
+      template = parses;
+      template_harts = sym (length-map t.harts hart_lines) ∙ ap length form.alone.harts;
+      choices_count = omega arith;
+      choices = tt;
+      names = tt;
+      dropped_count = omega arith;
+      dropped = tt;
     }

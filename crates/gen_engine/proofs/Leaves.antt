@@ -26,10 +26,9 @@ use Rattle.rv_hart.specs.Privileged.{rd_told, retired}
 use Rattle.sv_walk.specs.declared.entry.Kind.TheVariants.{Fetch}
 use Rattle.sv_walk.specs.Translation.{Reached, At, is_translated, translated}
 use Rattle.rv_hart.specs.Machine.{fetch_view, arriving, at_address, immediate_row, instruction, fetched_at, script}
-use Rattle.tpl_form.specs.declared.template.Leaf.{Leaf}
+use Rattle.tpl_form.specs.declared.form.Leaf.{Leaf}
 use Rattle.tpl_form.specs.Form.{IsFit}
-use Rattle.tpl_admit.specs.Admission.{instr_of}
-use Rattle.gen_engine.specs.Plan.{leaf_word, leaf_value, leaf_write, leaf_record, fetch_of}
+use Rattle.gen_engine.specs.Plan.{instr_of, leaf_word, leaf_value, leaf_write, leaf_record, fetch_of}
 use Rattle.gen_engine.specs.Code.{IsAt}
 
 -- a fetch that is told its word

@@ -4,3 +4,4 @@ pub mod Machines
 pub mod Courses
 pub mod Validity
 pub mod Files
+mod Admissions

@@ -10,12 +10,11 @@ use Rattle.rv_csr.specs.declared.privilege.Priv.TheVariants.{M}
 use Rattle.rv_hart.specs.declared.hart.Hart.{Hart}
 use Rattle.rv_hart.specs.declared.record.Record.{Record}
 use Rattle.rv_hart.specs.Registers.{written}
-use Rattle.tpl_form.specs.declared.template.Leaf.{Leaf}
+use Rattle.tpl_form.specs.declared.form.Leaf.{Leaf}
 use Rattle.tpl_ast.specs.declared.template.Region.{Region}
 use Rattle.tpl_form.specs.Form.{IsFit, AreLeavesFit}
-use Rattle.tpl_admit.specs.Starts.{is_in}
 use Rattle.gen_engine.specs.Plan.{leaf_word, leaf_write, leaf_record, records_from, regs_from}
-use Rattle.gen_engine.specs.Code.{seen_word, code_at, AreKnown, IsAt, IsReady}
+use Rattle.gen_engine.specs.Code.{seen_word, code_at, in_one, AreKnown, IsAt, IsReady}
 
 -- the item at a place, and what follows it
 pub record IsItem {A : Type 0} (items : List A) (i : ℕ) (x : A) : Type 0 where
@@ -42,7 +41,7 @@ pub code_word : (ram : Region) (base : ℕ) (words : List ℕ) (i w : ℕ) → s
     → code_at ram base words ((base + 4 * i) / 4) ≡ Known w
 code_word ram base words i w there aligned low high =
     let back : (base + 4 * i) / 4 * 4 ≡ base + 4 * i = omega (arith, aligned) in
-    let inside : is_in ram ((base + 4 * i) / 4 * 4) ≡ true = and_from _ _ (le-leb ram.low ((base + 4 * i) / 4 * 4) (omega (arith, back, low))) (lt-ltb ((base + 4 * i) / 4 * 4) ram.high (omega (arith, back, high))) in
+    let inside : in_one ram ((base + 4 * i) / 4 * 4) ≡ true = and_from _ _ (le-leb ram.low ((base + 4 * i) / 4 * 4) (omega (arith, back, low))) (lt-ltb ((base + 4 * i) / 4 * 4) ram.high (omega (arith, back, high))) in
     let place : (base + 4 * i) / 4 - base / 4 ≡ i = omega (arith, aligned) in
     rw (inside, le-leb (base / 4) ((base + 4 * i) / 4) (omega (arith, aligned)), place, there) refl
 
@@ -104,7 +103,7 @@ code_put ram base words i w there aligned low high =
 -- and the others stay
 pub code_others : (ram : Region) (base : ℕ) (words : List ℕ) (i n : ℕ) → base % 4 ≡ 0 → n ≢ (base + 4 * i) / 4 → code_at ram base (take i words) n ≡ code_at ram base (take (i + 1) words) n
 code_others ram base words i n aligned other =
-    ap (λ (s : Seen). if is_in ram (n * 4) then s else Vacant) (elim (cases_Bool (leb (base / 4) n)) [
+    ap (λ (s : Seen). if in_one ram (n * 4) then s else Vacant) (elim (cases_Bool (leb (base / 4) n)) [
       | inl from ↦
           let apart : n - base / 4 ≢ i = λ e. other (omega (arith, e, leb-true (base / 4) n from, aligned)) in
           rw from (ap seen_word (sym (take_other words i (n - base / 4) apart) ∙ ap (λ (k : ℕ). slice_get (take k words) (n - base / 4)) (sym (add-one i))))
@@ -112,7 +111,7 @@ code_others ram base words i n aligned other =
     ])
 
 -- a word of RAM is there before it is put
-pub code_there : (ram : Region) (base : ℕ) (words : List ℕ) (n : ℕ) → is_in ram (n * 4) ≡ true → is_there (code_at ram base words n) ≡ true
+pub code_there : (ram : Region) (base : ℕ) (words : List ℕ) (n : ℕ) → in_one ram (n * 4) ≡ true → is_there (code_at ram base words n) ≡ true
 code_there ram base words n inside = rw inside (elim (cases_Bool (leb (base / 4) n)) [ inl from ↦ rw from (there_word (slice_get words (n - base / 4))) | inr before ↦ rw before refl ])
   where
     there_word : (o : Option ℕ) → is_there (seen_word o) ≡ true
@@ -120,17 +119,17 @@ code_there ram base words n inside = rw inside (elim (cases_Bool (leb (base / 4)
     there_word (Some w) = refl
 
 -- no word is put at first
-pub code_none : (ram : Region) (base : ℕ) (n : ℕ) → (if is_in ram (n * 4) then Untouched else Vacant) ≡ code_at ram base [] n
-code_none ram base n = ap (λ (s : Seen). if is_in ram (n * 4) then s else Vacant) (elim (cases_Bool (leb (base / 4) n)) [ inl from ↦ rw from refl | inr before ↦ rw before refl ])
+pub code_none : (ram : Region) (base : ℕ) (n : ℕ) → (if in_one ram (n * 4) then Untouched else Vacant) ≡ code_at ram base [] n
+code_none ram base n = ap (λ (s : Seen). if in_one ram (n * 4) then s else Vacant) (elim (cases_Bool (leb (base / 4) n)) [ inl from ↦ rw from refl | inr before ↦ rw before refl ])
 
-pub word_in : (ram : Region) (base i : ℕ) → base % 4 ≡ 0 → ram.low ≤ base → base + 4 * i < ram.high → is_in ram ((base + 4 * i) / 4 * 4) ≡ true
+pub word_in : (ram : Region) (base i : ℕ) → base % 4 ≡ 0 → ram.low ≤ base → base + 4 * i < ram.high → in_one ram ((base + 4 * i) / 4 * 4) ≡ true
 word_in ram base i aligned low high =
     let back : (base + 4 * i) / 4 * 4 ≡ base + 4 * i = omega (arith, aligned) in
     and_from _ _ (le-leb ram.low ((base + 4 * i) / 4 * 4) (omega (arith, back, low))) (lt-ltb ((base + 4 * i) / 4 * 4) ram.high (omega (arith, back, high)))
 
 -- RAM of one region
-pub one_region : (ram : Region) (n : ℕ) → in_ram ((ram.low, ram.high) ∷ []) n ≡ is_in ram (n * 4)
-one_region ram n = elim (cases_Bool (is_in ram (n * 4))) [ inl inside ↦ rw inside refl | inr outside ↦ rw outside refl ]
+pub one_region : (ram : Region) (n : ℕ) → in_ram ((ram.low, ram.high) ∷ []) n ≡ in_one ram (n * 4)
+one_region ram n = elim (cases_Bool (in_one ram (n * 4))) [ inl inside ↦ rw inside refl | inr outside ↦ rw outside refl ]
 
 pub word_at : (ws : List ℕ) (i : ℕ) → i < length ws → slice_get ws i ≡ Some (get_or ws i 0)
 word_at [] i within = absurd (omega arith)

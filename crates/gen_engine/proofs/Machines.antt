@@ -113,7 +113,7 @@ known_of regs words (Csr addr) = None
 known_of regs words (Word addr) = words (addr / 4)
 
 -- a hart in M at a pc
-abbrev pub fixed_at : Region → ℕ → Fixed
+abbrev pub fixed_at : List Region → ℕ → Fixed
 fixed_at ram pc = fixed_in ram 0 (state_at pc [])
 
 shown_value : (regs : List (Option ℕ)) (knows : ℕ → Bool) (file : ℕ → ℕ) (n v : ℕ) → Shows regs knows file → n ≢ 0 → slice_index_or regs n None ≡ Some v → (knows n ≡ true) × (file n ≡ v)
@@ -126,7 +126,7 @@ shown_value regs knows file n v shows some there =
     split true e = (refl, cc)
     split false e = absurd cc
 
-pub has_known : (ram : Region) (pc : ℕ) (regs : List (Option ℕ)) (words : ℕ → Option ℕ) (knows : ℕ → Bool) (h : WholeHart) → h.fixed ≡ fixed_at ram pc → Shows regs knows h.file
+pub has_known : (ram : List Region) (pc : ℕ) (regs : List (Option ℕ)) (words : ℕ → Option ℕ) (knows : ℕ → Bool) (h : WholeHart) → h.fixed ≡ fixed_at ram pc → Shows regs knows h.file
     → slice_index_or regs 0 None ≡ Some 0 → Has (fixed_at ram pc) (known_of regs words) h (zero_elsewhere words)
 has_known ram pc regs words knows h fixed shows zero_is = record { fixed = fixed; values = values }
   where

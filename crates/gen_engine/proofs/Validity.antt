@@ -2,7 +2,7 @@
 use Rattle.std.proofs.Common.{◌≡◌, ℕ, zero, suc, ◌+◌, ◌-◌, ◌*◌, ◌/◌, ◌%◌, ◌^◌, ◌<◌, ◌≤◌, true, false, leb, List, [], ◌∷◌, length, map, drop, Option, Some, None, refl, sym, ap, ◌∙◌, subst, inl, inr, arith, if◌then◌else◌}
 use Rattle.std.specs.Prelude.{slice_index_or, replicate}
 use Rattle.std.specs.Option.{unwrap_or, is_some, IsSome}
-use Rattle.std.proofs.lemmas.Bool.{cases_Bool, cases_eq, cases_lt, eq-eqb, ne_eqb, le-leb, and_from, lt-ltb}
+use Rattle.std.proofs.lemmas.Bool.{cases_Bool, cases_eq, cases_lt, eq-eqb, ne_eqb, le-leb, lt-ltb}
 use Rattle.std.proofs.lemmas.Bool.Decides.{nat_tests}
 use Rattle.std.proofs.Math.ListN.{set}
 use Rattle.std.proofs.lemmas.List.{get_or-replicate, get_or_past, length-map, length-drop, get_or-set_same, get_or-set_other}
@@ -15,22 +15,24 @@ use Rattle.rv_hart.specs.declared.hart.Hart.{Hart}
 use Rattle.rv_hart.specs.declared.record.Record.{Record}
 use Rattle.rv_hart.specs.Registers.{written, no_registers}
 use Rattle.rv_hart.specs.Privileged.{rd_told}
-use Rattle.tpl_form.specs.declared.template.Leaf.{Leaf}
+use Rattle.tpl_form.specs.declared.form.Leaf.{Leaf}
 use Rattle.tpl_ast.specs.declared.template.Region.{Region}
-use Rattle.tpl_form.specs.declared.template.Template.{Template}
-use Rattle.tpl_form.specs.Form.{AreLeavesFit, HasTarget, AreFed, IsAllowed}
+use Rattle.tpl_ast.specs.declared.template.Template.{Template}
+use Rattle.tpl_ast.specs.Parsing.{said_by}
+use Rattle.tpl_form.specs.declared.form.Form.{Form}
+use Rattle.tpl_form.specs.Form.{AreLeavesFit, HasTarget, AreFed, IsAllowed, IsFormOf}
 use Rattle.tpl_admit.specs.Starts.{found, is_in, trace_of, word_of, first_hart, first_memory, is_given, start_of, final_of, ArePlaces, AreStartWords}
 use Rattle.tpl_admit.specs.Races.{footprint_of}
 use Rattle.tpl_admit.specs.Solo.{solo, solo_run}
-use Rattle.tpl_admit.specs.Admission.{instr_of, AreMet}
 use Rattle.tpl_admit.specs.Validity.{IsHartValid, IsValid}
 use Rattle.tpl_admit.specs.Sizes.{trace_size, certificate_size}
 use Rattle.rv_isa.proofs.Codec.{encoded_below}
-use Rattle.gen_engine.specs.Plan.{leaf_word, leaf_write, leaf_value, records_from, regs_from, placed, known_from, assembled, planned}
+use Rattle.gen_engine.specs.Plan.{instr_of, leaf_word, leaf_write, leaf_value, records_from, regs_from, placed, known_from, assembled, planned}
 use Rattle.gen_engine.specs.Given.{addresses, GivesCodeAlone}
 use Rattle.gen_engine.specs.Code.{code_at, AreKnown, IsReady}
 use Rattle.gen_engine.proofs.Leaves.{encoded}
 use Rattle.gen_engine.proofs.Machines.{looks_leave, regs_known, written_size, written_zero}
+use Rattle.gen_engine.proofs.Admissions.{planned_admitted}
 use Rattle.gen_engine.proofs.Courses.{AreThere, Before, Course, course}
 
 -- ---- sources
@@ -69,14 +71,14 @@ placed_below base [] a low = refl
 placed_below base (w ∷ ws) a low = rw (ne_eqb base a (λ e. omega (arith, e, low))) (placed_below (base + 4) ws a (omega arith))
 
 -- memory that has these words has the first of them there, and the others behind it
-pub words_there : (ram : Region) (words : ℕ → Option ℕ) (base : ℕ) (ls : List Leaf) → base % 4 ≡ 0 → ram.low ≤ base → base + 4 * length ls ≤ ram.high
+pub words_there : (ram : List Region) (words : ℕ → Option ℕ) (base : ℕ) (ls : List Leaf) → base % 4 ≡ 0 → ((a : ℕ) → base ≤ a → a < base + 4 * length ls → is_in ram a ≡ true)
     → ((a : ℕ) → base ≤ a → words (a / 4) ≡ found (placed base (map leaf_word ls)) (a / 4 * 4)) → AreThere ram words base ls
-words_there ram words base [] aligned low high has = tt
-words_there ram words base (l ∷ ls) aligned low high has =
+words_there ram words base [] aligned inside has = tt
+words_there ram words base (l ∷ ls) aligned inside has =
     let back : base / 4 * 4 ≡ base = omega (arith, aligned) in (
       has base (omega arith) ∙ ap (found (placed base (map leaf_word (l ∷ ls)))) back ∙ rw (eq-eqb base base refl) refl,
-      subst (λ (a : ℕ). is_in ram a ≡ true) (sym back) (and_from _ _ (le-leb ram.low base low) (lt-ltb base ram.high (omega arith))),
-      words_there ram words (base + 4) ls (omega arith) (omega arith) (omega arith) (λ a above. has a (omega (arith, above)) ∙ rw (ne_eqb base (a / 4 * 4) (λ e. omega (arith, e, above, aligned))) refl),
+      subst (λ (a : ℕ). is_in ram a ≡ true) (sym back) (inside base (omega arith) (omega arith)),
+      words_there ram words (base + 4) ls (omega arith) (λ a above below. inside a (omega (arith, above)) (omega (arith, below))) (λ a above. has a (omega (arith, above)) ∙ rw (ne_eqb base (a / 4 * 4) (λ e. omega (arith, e, above, aligned))) refl),
     )
 
 aligned_words : (base : ℕ) (ws : List ℕ) → base % 4 ≡ 0 → (a : ℕ) → is_some (found (placed base ws) a) ≡ true → a % 4 ≡ 0
@@ -87,15 +89,15 @@ aligned_words base (w ∷ ws) aligned a some = elim (cases_eq base a) [
 ]
 
 -- they are words of RAM from an address on
-placed_start : (ram : Region) (from base : ℕ) (ls : List Leaf) → from ≤ base → base % 4 ≡ 0 → ram.low ≤ base → base + 4 * length ls ≤ ram.high → AreLeavesFit ls
+placed_start : (ram : List Region) (from base : ℕ) (ls : List Leaf) → from ≤ base → base % 4 ≡ 0 → ((a : ℕ) → base ≤ a → a < base + 4 * length ls → is_in ram a ≡ true) → AreLeavesFit ls
     → AreStartWords ram from (placed base (map leaf_word ls))
-placed_start ram from base [] up aligned low high fit = tt
-placed_start ram from base (l ∷ ls) up aligned low high fit = (
+placed_start ram from base [] up aligned inside fit = tt
+placed_start ram from base (l ∷ ls) up aligned inside fit = (
   up,
   aligned,
-  and_from _ _ (le-leb ram.low base low) (lt-ltb base ram.high (omega arith)),
+  inside base (omega arith) (omega arith),
   encoded_below (leaf_word l) (instr_of l) (encoded l fit.0),
-  placed_start ram (base + 4) (base + 4) ls (omega arith) (omega (arith, aligned)) (omega arith) (omega arith) fit.1,
+  placed_start ram (base + 4) (base + 4) ls (omega arith) (omega (arith, aligned)) (λ a above below. inside a (omega (arith, above)) (omega (arith, below))) fit.1,
 )
 
 -- the values of the words in memory
@@ -117,10 +119,6 @@ fetches_look pc regs (l ∷ ls) x h = elim h [
   | inl here ↦ ap (λ (y : Access). is_look y.role) (sym here)
   | inr there ↦ fetches_look (pc + 4) (written (leaf_write regs l) regs) ls x there
 ]
-
-all_met : (pc : ℕ) (regs : List (Option ℕ)) (ls : List Leaf) → AreLeavesFit ls → AreMet ls (records_from pc regs ls)
-all_met pc regs [] fit = tt
-all_met pc regs (l ∷ ls) fit = (record { word = encoded l fit.0; outcome = refl }, all_met (pc + 4) (written (leaf_write regs l) regs) ls fit.1)
 
 pub records_length : (pc : ℕ) (regs : List (Option ℕ)) (ls : List Leaf) → length (records_from pc regs ls) ≡ length ls
 records_length pc regs [] = refl
@@ -187,8 +185,8 @@ regs_length : (regs : List (Option ℕ)) (ls : List Leaf) → length regs ≡ 32
 regs_length regs [] size = size
 regs_length regs (l ∷ ls) size = regs_length (written (leaf_write regs l) regs) ls (written_size regs l.rd (leaf_value regs l) size)
 
-pub places_length : (t : Template) → length (drop 1 (regs_from no_registers t.leaves)) ≡ 31
-places_length t = length-drop 1 (regs_from no_registers t.leaves) ∙ ap (λ (n : ℕ). n - 1) (regs_length no_registers t.leaves refl)
+pub places_length : (f : Form) → length (drop 1 (regs_from no_registers f.leaves)) ≡ 31
+places_length f = length-drop 1 (regs_from no_registers f.leaves) ∙ ap (λ (n : ℕ). n - 1) (regs_length no_registers f.leaves refl)
 
 -- the registers that are known hold words
 abbrev AreSmall : List (Option ℕ) → Type 0
@@ -240,70 +238,75 @@ none_small (suc k) v e =
 
 -- ---- the whole
 
-first_before : (t : Template) → IsAllowed t → Before t.ram (word_of (planned t)) t.start_pc no_registers t.leaves (first_hart (planned t) 0) (is_given (start_of (planned t) 0))
-first_before t is = record {
+-- the addresses of the code lie in RAM
+code_in : (t : Template) (f : Form) → t.ram ≡ f.ram ∷ [] → IsAllowed f → (a : ℕ) → f.start_pc ≤ a → a < f.start_pc + 4 * length f.leaves → is_in t.ram a ≡ true
+code_in t f ram_is is a above below =
+    rw (ram_is, le-leb f.ram.low a (omega (arith, is.above, is.first, above)), lt-ltb a f.ram.high (omega (arith, is.last, is.within, below))) refl
+
+first_before : (t : Template) (f : Form) → t.ram ≡ f.ram ∷ [] → IsAllowed f → Before t.ram (word_of (planned t f)) f.start_pc no_registers f.leaves (first_hart (planned t f) 0) (is_given (start_of (planned t f) 0))
+first_before t f ram_is is = record {
   fixed = refl;
   shows = λ key. none_known key;
   zero_is = refl;
   size = refl;
-  there = words_there t.ram (word_of (planned t)) t.start_pc t.leaves is.pc (omega (arith, is.above, is.first)) (omega (arith, is.last, is.within)) (λ a above. refl);
+  there = words_there t.ram (word_of (planned t f)) f.start_pc f.leaves is.pc (code_in t f ram_is is) (λ a above. refl);
   fit = is.fit;
-  known = fed_known [] no_registers t.leaves is.fed is.fit (λ r none. absurd none) refl refl;
+  known = fed_known [] no_registers f.leaves is.fed is.fit (λ r none. absurd none) refl refl;
   aligned = is.pc;
   small = omega (arith, is.last, is.within, is.high);
 }
 
-whole_course : (t : Template) → IsAllowed t → Course t.ram (word_of (planned t)) t.start_pc no_registers t.leaves (is_given (start_of (planned t) 0)) (solo_run (planned t) 0)
-whole_course t is =
-    subst (λ (n : ℕ). Course t.ram (word_of (planned t)) t.start_pc no_registers t.leaves (is_given (start_of (planned t) 0)) (solo n (first_hart (planned t) 0) (first_memory (planned t))))
-    (sym (records_length t.start_pc no_registers t.leaves))
-    (course t.ram (word_of (planned t)) t.start_pc no_registers t.leaves (first_hart (planned t) 0) (is_given (start_of (planned t) 0)) (first_before t is))
+whole_course : (t : Template) (f : Form) → t.ram ≡ f.ram ∷ [] → IsAllowed f → Course t.ram (word_of (planned t f)) f.start_pc no_registers f.leaves (is_given (start_of (planned t f) 0)) (solo_run (planned t f) 0)
+whole_course t f ram_is is =
+    subst (λ (n : ℕ). Course t.ram (word_of (planned t f)) f.start_pc no_registers f.leaves (is_given (start_of (planned t f) 0)) (solo n (first_hart (planned t f) 0) (first_memory (planned t f))))
+    (sym (records_length f.start_pc no_registers f.leaves))
+    (course t.ram (word_of (planned t f)) f.start_pc no_registers f.leaves (first_hart (planned t f) 0) (is_given (start_of (planned t f) 0)) (first_before t f ram_is is))
 
-first_valid : (t : Template) → IsAllowed t → IsHartValid (planned t) 0
-first_valid t is =
-    let went = whole_course t is in
+first_valid : (t : Template) (f : Form) → t.ram ≡ f.ram ∷ [] → IsAllowed f → IsHartValid (planned t f) 0
+first_valid t f ram_is is =
+    let went = whole_course t f ram_is is in
     record {
       records = went.records;
       initialised = went.initialised;
       final_fixed = sym went.fixed;
-      final_places = λ key. places_known (regs_from no_registers t.leaves) key ∙ went.shows key;
+      final_places = λ key. places_known (regs_from no_registers f.leaves) key ∙ went.shows key;
     }
 
-looks : (t : Template) (k : ℕ) (x : Access) → HasItem (footprint_of (trace_of (planned t) k)) x → is_look x.role ≡ true
-looks t zero x h = fetches_look t.start_pc no_registers t.leaves x h
-looks t (suc k) x h = absurd h
+looks : (t : Template) (f : Form) (k : ℕ) (x : Access) → HasItem (footprint_of (trace_of (planned t f) k)) x → is_look x.role ≡ true
+looks t f zero x h = fetches_look f.start_pc no_registers f.leaves x h
+looks t f (suc k) x h = absurd h
 
-starts_are : (t : Template) (k : ℕ) → ArePlaces 0 (start_of (planned t) k).places
-starts_are t zero = tt
-starts_are t (suc k) = tt
+starts_are : (t : Template) (f : Form) (k : ℕ) → ArePlaces 0 (start_of (planned t f) k).places
+starts_are t f zero = tt
+starts_are t f (suc k) = tt
 
-ends_are : (t : Template) → IsAllowed t → (k : ℕ) → ArePlaces 0 (final_of (planned t) k).places
-ends_are t is zero =
-    let size : length (drop 1 (regs_from no_registers t.leaves)) ≡ 31 = places_length t in
-    places_are 0 1 (drop 1 (regs_from no_registers t.leaves)) (omega arith) (omega arith) (omega (arith, size)) (small_drop (regs_from no_registers t.leaves) (small_from no_registers t.leaves refl is.fit none_small))
-ends_are t is (suc k) = tt
+ends_are : (t : Template) (f : Form) → t.ram ≡ f.ram ∷ [] → IsAllowed f → (k : ℕ) → ArePlaces 0 (final_of (planned t f) k).places
+ends_are t f ram_is is zero =
+    let size : length (drop 1 (regs_from no_registers f.leaves)) ≡ 31 = places_length f in
+    places_are 0 1 (drop 1 (regs_from no_registers f.leaves)) (omega arith) (omega arith) (omega (arith, size)) (small_drop (regs_from no_registers f.leaves) (small_from no_registers f.leaves refl is.fit none_small))
+ends_are t f ram_is is (suc k) = tt
 
-pub planned_valid : (t : Template) → IsAllowed t → IsValid (planned t)
-planned_valid t is = record {
+pub planned_valid : (t : Template) (f : Form) → IsFormOf (said_by t) f → IsValid (planned t f)
+planned_valid t f form = let is : IsAllowed f = form.allowed in let ram_is : t.ram ≡ f.ram ∷ [] = form.ram in record {
   sound = record {
     traces = refl;
     finals = refl;
-    start_places = starts_are t;
-    final_places = ends_are t is;
-    words = placed_start t.ram 0 t.start_pc t.leaves (omega arith) is.pc (omega (arith, is.above, is.first)) (omega (arith, is.last, is.within)) is.fit;
-    harts = λ k l. let first : 0 ≡ k = omega (arith, l) in subst (IsHartValid (planned t)) first (first_valid t is);
-    race_free = record { harts = λ j k ne x y hx hy meet. looks t j x hx; code = λ j k x y hx hy code meet. looks t j x hx };
-    last = ap (λ (m : ℕ → ℕ). map (λ (w : ℕ × ℕ). m (w.0 / 4)) (planned t).words) (looks_leave (footprint_of (trace_of (planned t) 0)) (first_memory (planned t)) (looks t 0))
-        ∙ values_are (first_memory (planned t)) t.start_pc (map leaf_word t.leaves) (λ a v e. memory_has a v e);
+    start_places = starts_are t f;
+    final_places = ends_are t f ram_is is;
+    words = placed_start t.ram 0 f.start_pc f.leaves (omega arith) is.pc (code_in t f ram_is is) is.fit;
+    harts = λ k l. let first : 0 ≡ k = omega (arith, l) in subst (IsHartValid (planned t f)) first (first_valid t f ram_is is);
+    race_free = record { harts = λ j k ne x y hx hy meet. looks t f j x hx; code = λ j k x y hx hy code meet. looks t f j x hx };
+    last = ap (λ (m : ℕ → ℕ). map (λ (w : ℕ × ℕ). m (w.0 / 4)) (planned t f).words) (looks_leave (footprint_of (trace_of (planned t f) 0)) (first_memory (planned t f)) (looks t f 0))
+        ∙ values_are (first_memory (planned t f)) f.start_pc (map leaf_word f.leaves) (λ a v e. memory_has a v e);
   };
-  admits = record { harts = refl; pc = refl; privilege = refl; mstatus = refl; medeleg = refl; satp = refl; leaves = all_met t.start_pc no_registers t.leaves is.fit };
+  admits = planned_admitted t f form;
 }
   where
-    memory_has : (a v : ℕ) → found (placed t.start_pc (map leaf_word t.leaves)) a ≡ Some v → first_memory (planned t) (a / 4) ≡ v
+    memory_has : (a v : ℕ) → found (placed f.start_pc (map leaf_word f.leaves)) a ≡ Some v → first_memory (planned t f) (a / 4) ≡ v
     memory_has a v e =
-        let al : a % 4 ≡ 0 = aligned_words t.start_pc (map leaf_word t.leaves) is.pc a (ap is_some e) in
+        let al : a % 4 ≡ 0 = aligned_words f.start_pc (map leaf_word f.leaves) form.allowed.pc a (ap is_some e) in
         let back : a / 4 * 4 ≡ a = omega (arith, al) in
-        ap (λ (k : ℕ). unwrap_or (found (placed t.start_pc (map leaf_word t.leaves)) k) 0) back ∙ ap (λ (o : Option ℕ). unwrap_or o 0) e
+        ap (λ (k : ℕ). unwrap_or (found (placed f.start_pc (map leaf_word f.leaves)) k) 0) back ∙ ap (λ (o : Option ℕ). unwrap_or o 0) e
 
 -- ---- what it gives
 
@@ -311,13 +314,13 @@ placed_at : (base : ℕ) (ws : List ℕ) → map (λ (w : ℕ × ℕ). w.0) (pla
 placed_at base [] = refl
 placed_at base (w ∷ ws) = ap (λ (rest : List ℕ). base ∷ rest) (placed_at (base + 4) ws)
 
-pub planned_gives : (t : Template) → GivesCodeAlone (planned t)
-planned_gives t = record {
+pub planned_gives : (t : Template) (f : Form) → GivesCodeAlone (planned t f)
+planned_gives t f = record {
   places = none;
-  words = placed_at t.start_pc (map leaf_word t.leaves) ∙ ap (addresses t.start_pc) (length-map t.leaves leaf_word);
+  words = placed_at f.start_pc (map leaf_word f.leaves) ∙ ap (addresses f.start_pc) (length-map f.leaves leaf_word ∙ sym (records_length f.start_pc no_registers f.leaves));
 }
   where
-    none : (k : ℕ) → (start_of (planned t) k).places ≡ []
+    none : (k : ℕ) → (start_of (planned t f) k).places ≡ []
     none zero = refl
     none (suc k) = refl
 
@@ -336,43 +339,43 @@ known_length n [] = omega arith
 known_length n (None ∷ regs) = let ih = known_length (n + 1) regs in omega (arith, ih)
 known_length n (Some v ∷ regs) = let ih = known_length (n + 1) regs in omega (arith, ih)
 
-pub planned_size : (t : Template) → certificate_size (planned t) ≤ 3 * length t.leaves + 33
-planned_size t =
-    let places = drop 1 (regs_from no_registers t.leaves) in
-    let a : trace_size (records_from t.start_pc no_registers t.leaves) ≡ 2 * length t.leaves = two_each t.start_pc no_registers t.leaves in
-    let b : length (placed t.start_pc (map leaf_word t.leaves)) ≡ length t.leaves = placed_length t.start_pc (map leaf_word t.leaves) ∙ length-map t.leaves leaf_word in
-    let c : length (known_from 1 (drop 1 (regs_from no_registers t.leaves))) ≤ length (drop 1 (regs_from no_registers t.leaves)) = known_length 1 (drop 1 (regs_from no_registers t.leaves)) in
-    let d : length (drop 1 (regs_from no_registers t.leaves)) ≡ 31 = places_length t in
+pub planned_size : (t : Template) (f : Form) → certificate_size (planned t f) ≤ 3 * length f.leaves + 33
+planned_size t f =
+    let places = drop 1 (regs_from no_registers f.leaves) in
+    let a : trace_size (records_from f.start_pc no_registers f.leaves) ≡ 2 * length f.leaves = two_each f.start_pc no_registers f.leaves in
+    let b : length (placed f.start_pc (map leaf_word f.leaves)) ≡ length f.leaves = placed_length f.start_pc (map leaf_word f.leaves) ∙ length-map f.leaves leaf_word in
+    let c : length (known_from 1 (drop 1 (regs_from no_registers f.leaves))) ≤ length (drop 1 (regs_from no_registers f.leaves)) = known_length 1 (drop 1 (regs_from no_registers f.leaves)) in
+    let d : length (drop 1 (regs_from no_registers f.leaves)) ≡ 31 = places_length f in
     omega (arith, a, b, c, d)
 
 -- ---- the certificate that is made
 
-pub is_planned : (t : Template) (words : List ℕ) (pc : ℕ) (regs : List (Option ℕ)) (records : List Record) (places : List (ℕ × ℕ)) (leaves : List Leaf) (first : ℕ) (at : List (Option ℕ))
-    → leaves ≡ t.leaves → first ≡ t.start_pc → at ≡ no_registers → words ≡ map leaf_word leaves → records ≡ records_from first at leaves → regs ≡ regs_from at leaves → pc ≡ first + 4 * length leaves
+pub is_planned : (t : Template) (f : Form) (words : List ℕ) (pc : ℕ) (regs : List (Option ℕ)) (records : List Record) (places : List (ℕ × ℕ)) (leaves : List Leaf) (first : ℕ) (at : List (Option ℕ))
+    → leaves ≡ f.leaves → first ≡ f.start_pc → at ≡ no_registers → words ≡ map leaf_word leaves → records ≡ records_from first at leaves → regs ≡ regs_from at leaves → pc ≡ first + 4 * length leaves
     → places ≡ known_from 1 (drop 1 regs)
-    → assembled t words records pc places ≡ planned t
-is_planned t words pc regs records places leaves first at ls f none ws rs gs e ps = λ i. assembled t (same_words i) (same_records i) (same_pc i) (same_places i)
+    → assembled t f.start_pc words records pc places ≡ planned t f
+is_planned t f words pc regs records places leaves first at ls fs none ws rs gs e ps = λ i. assembled t f.start_pc (same_words i) (same_records i) (same_pc i) (same_places i)
   where
-    same_words : words ≡ map leaf_word t.leaves
+    same_words : words ≡ map leaf_word f.leaves
     same_words = ws ∙ ap (map leaf_word) ls
 
-    same_records : records ≡ records_from t.start_pc no_registers t.leaves
-    same_records = rs ∙ ap (λ (n : ℕ). records_from n at leaves) f ∙ ap (λ (q : List (Option ℕ)). records_from t.start_pc q leaves) none ∙ ap (records_from t.start_pc no_registers) ls
+    same_records : records ≡ records_from f.start_pc no_registers f.leaves
+    same_records = rs ∙ ap (λ (n : ℕ). records_from n at leaves) fs ∙ ap (λ (q : List (Option ℕ)). records_from f.start_pc q leaves) none ∙ ap (records_from f.start_pc no_registers) ls
 
-    same_pc : pc ≡ t.start_pc + 4 * length t.leaves
-    same_pc = e ∙ ap (λ (n : ℕ). n + 4 * length leaves) f ∙ ap (λ (l : List Leaf). t.start_pc + 4 * length l) ls
+    same_pc : pc ≡ f.start_pc + 4 * length f.leaves
+    same_pc = e ∙ ap (λ (n : ℕ). n + 4 * length leaves) fs ∙ ap (λ (l : List Leaf). f.start_pc + 4 * length l) ls
 
-    same_places : places ≡ known_from 1 (drop 1 (regs_from no_registers t.leaves))
+    same_places : places ≡ known_from 1 (drop 1 (regs_from no_registers f.leaves))
     same_places = ps ∙ ap (λ (q : List (Option ℕ)). known_from 1 (drop 1 q)) (gs ∙ ap (λ (q : List (Option ℕ)). regs_from q leaves) none ∙ ap (regs_from no_registers) ls)
 
 -- the hart stands before the first leaf
-pub first_ready : (t : Template) (h : Hart) (see : ℕ → Seen) (words : List ℕ) (leaves : List Leaf) → IsAllowed t → h.pc ≡ t.start_pc → h.privilege ≡ M → h.regs ≡ no_registers → leaves ≡ t.leaves → words ≡ map leaf_word leaves
-    → ((n : ℕ) → see n ≡ code_at t.ram t.start_pc words n) → IsReady h see t.ram leaves
-first_ready t h see words leaves is pc privilege regs ls ws code = record {
+pub first_ready : (f : Form) (h : Hart) (see : ℕ → Seen) (words : List ℕ) (leaves : List Leaf) → IsAllowed f → h.pc ≡ f.start_pc → h.privilege ≡ M → h.regs ≡ no_registers → leaves ≡ f.leaves → words ≡ map leaf_word leaves
+    → ((n : ℕ) → see n ≡ code_at f.ram f.start_pc words n) → IsReady h see f.ram leaves
+first_ready f h see words leaves is pc privilege regs ls ws code = record {
   privilege = privilege;
-  code = λ n. code n ∙ ap (λ (l : List ℕ). code_at t.ram t.start_pc l n) ws ∙ ap (λ (a : ℕ). code_at t.ram a (map leaf_word leaves) n) (sym pc);
+  code = λ n. code n ∙ ap (λ (l : List ℕ). code_at f.ram f.start_pc l n) ws ∙ ap (λ (a : ℕ). code_at f.ram a (map leaf_word leaves) n) (sym pc);
   fit = subst AreLeavesFit (sym ls) is.fit;
-  known = subst (λ (q : List (Option ℕ)). AreKnown q leaves) (sym regs) (subst (AreKnown no_registers) (sym ls) (fed_known [] no_registers t.leaves is.fed is.fit (λ r none. absurd none) refl refl));
+  known = subst (λ (q : List (Option ℕ)). AreKnown q leaves) (sym regs) (subst (AreKnown no_registers) (sym ls) (fed_known [] no_registers f.leaves is.fed is.fit (λ r none. absurd none) refl refl));
   low = omega (arith, is.above, is.first, pc);
   high = omega (arith, is.last, is.within, ap length ls, pc);
   small = omega (arith, is.high);

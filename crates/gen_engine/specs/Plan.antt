@@ -9,11 +9,17 @@ use Rattle.rv_hart.specs.declared.record.Outcome.TheVariants.{Retired}
 use Rattle.rv_hart.specs.declared.record.Record.{Record}
 use Rattle.rv_hart.specs.Privileged.{rd_told}
 use Rattle.rv_hart.specs.Registers.{written, no_registers}
-use Rattle.tpl_form.specs.declared.template.Leaf.{Leaf}
-use Rattle.tpl_form.specs.declared.template.Template.{Template}
+use Rattle.tpl_form.specs.declared.form.Leaf.{Leaf}
+use Rattle.tpl_ast.specs.declared.template.Template.{Template}
+use Rattle.tpl_form.specs.declared.form.Form.{Form}
 use Rattle.tpl_admit.specs.declared.certificate.Cert.{Cert}
 use Rattle.tpl_ast.specs.declared.template.HartState.{HartState}
-use Rattle.tpl_admit.specs.Admission.{instr_of}
+use Rattle.rv_isa.specs.declared.instruction.Instr.{Instr}
+use Rattle.rv_isa.specs.declared.operation.Op.TheVariants.{Addi}
+
+-- the instruction of a leaf
+abbrev pub instr_of : Leaf → Instr
+instr_of l = record { op = Addi; rd = l.rd; rs1 = l.rs1; rs2 = 0; imm = l.imm; csr = 0 }
 
 unfoldable pub leaf_word : Leaf → ℕ
 leaf_word l = word_of (instr_of l)
@@ -65,17 +71,20 @@ abbrev pub state_at : ℕ → List (ℕ × ℕ) → HartState
 state_at pc places = record { pc = pc; privilege = M; mstatus = 0; medeleg = 0; satp = 0; places = places }
 
 -- the certificate of one hart that starts with no register given, from its words, its records and where it ends
-abbrev pub assembled : Template → List ℕ → List Record → ℕ → List (ℕ × ℕ) → Cert
-assembled t words records end places = record {
-  start = state_at t.start_pc [] ∷ [];
-  words = placed t.start_pc words;
+abbrev pub assembled : Template → ℕ → List ℕ → List Record → ℕ → List (ℕ × ℕ) → Cert
+assembled t pc words records end places = record {
+  start = state_at pc [] ∷ [];
+  words = placed pc words;
   traces = records ∷ [];
   finals = state_at end places ∷ [];
   last = words;
   template = t;
+  choices = [];
+  names = [];
+  dropped = [];
 }
 
--- the certificate of a template
-abbrev pub planned : Template → Cert
-planned t =
-    assembled t (map leaf_word t.leaves) (records_from t.start_pc no_registers t.leaves) (t.start_pc + 4 * length t.leaves) (known_from 1 (drop 1 (regs_from no_registers t.leaves)))
+-- the certificate of a template that says this
+abbrev pub planned : Template → Form → Cert
+planned t f =
+    assembled t f.start_pc (map leaf_word f.leaves) (records_from f.start_pc no_registers f.leaves) (f.start_pc + 4 * length f.leaves) (known_from 1 (drop 1 (regs_from no_registers f.leaves)))

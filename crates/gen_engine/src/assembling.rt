@@ -5,7 +5,7 @@ ghost use Rattle.gen_engine.specs.Plan.{placed, known_from, state_at, assembled}
 use rv_hart::{Priv, Record};
 use std::alloc::{AllocError, Global};
 use tpl_admit::{Cert, HartState};
-use tpl_form::{Items, Template};
+use tpl_ast::{Items, Template};
 
 /// A list of one item.
 fn single<T: Drop>(alloc: Global, item: T) -> Result<Items<T>, AllocError>
@@ -60,19 +60,20 @@ pub fn known_places(
     Ok(places)
 }
 
-/// The certificate of one hart that starts with no register given, from its words, its records and where it ends.
+/// The certificate of one hart that starts at an address with no register given, from its words, its records and
+/// where it ends.
 pub fn assemble(
     alloc: Global,
     template: Template,
+    base: u32,
     words: Vec<u32>,
     records: Items<Record>,
     end: u32,
     places: Items<(u32, u32)>,
 ) -> Result<Cert, AllocError>
-    requires { template.start_pc + 4 * length words.items < 2 ^ 32 }
-    ensures { IfOk result (λ c. c ≡ assembled template words.items records end places) }
+    requires { base + 4 * length words.items < 2 ^ 32 }
+    ensures { IfOk result (λ c. c ≡ assembled template base words.items records end places) }
 {
-    let base = template.start_pc;
     Ok(Cert {
         start: single(alloc, state(base, Items::new(alloc)))?,
         words: placed_words(alloc, base, &words)?,
@@ -80,5 +81,8 @@ pub fn assemble(
         finals: single(alloc, state(end, places))?,
         last: Items::from_vec(words),
         template,
+        choices: Items::new(alloc),
+        names: Items::new(alloc),
+        dropped: Items::new(alloc),
     })
 }

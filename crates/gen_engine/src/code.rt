@@ -9,7 +9,8 @@ use crate::OutOfMemory;
 use rv_isa::{Instr, Op, encode};
 use rv_mem::{PartMem, Ram};
 use std::alloc::{AllocError, Global};
-use tpl_form::{Leaf, Region};
+use tpl_ast::Region;
+use tpl_form::Leaf;
 
 /// RAM of one region.
 fn ram_of(alloc: Global, ram: Region) -> Result<Ram, AllocError>

@@ -1,9 +1,10 @@
 // From a template to a certificate.
 ghost use Rattle.std.specs.Prelude.{◌≡◌, ◌≤◌, ◌+◌, ◌*◌, ℕ, length, IfOk};
 ghost use Rattle.rv_mem.specs.Part.{part_at};
-ghost use Rattle.tpl_form.specs.declared.template.Leaf.{Leaf as ALeaf};
+ghost use Rattle.tpl_form.specs.declared.form.Leaf.{Leaf as ALeaf};
 ghost use Rattle.tpl_ast.specs.declared.template.Region.{Region as ARegion};
-ghost use Rattle.tpl_form.specs.Form.{Parses};
+ghost use Rattle.tpl_ast.specs.Parsing.{Parses, said_by};
+ghost use Rattle.tpl_form.specs.Form.{IsFormOf};
 ghost use Rattle.tpl_admit.specs.Validity.{IsValid};
 ghost use Rattle.tpl_admit.specs.Faithfulness.{IsFaithful};
 ghost use Rattle.tpl_admit.specs.Sizes.{certificate_size};
@@ -20,7 +21,8 @@ use rv_hart::{Csrs, Hart, Priv, Record, Stepped, step};
 use rv_mem::PartMem;
 use std::alloc::{AllocError, Global};
 use tpl_admit::Cert;
-use tpl_form::{Items, Leaf, Template};
+use tpl_ast::{Items, Template, template_law};
+use tpl_form::{Form, Leaf};
 
 /// The step of the leaf whose instruction stands at the pc.
 fn take_leaf(hart: &mut Hart, memory: &mut PartMem) -> Record
@@ -57,24 +59,26 @@ fn records_of(
     Ok(records)
 }
 
-/// The certificate of a template: the steps of its leaves on a hart of which no register is known, over memory of
-/// which the leaves' words alone are known.
-pub fn generate(alloc: Global, template: Template) -> Result<Cert, OutOfMemory>
-    requires { Parses template.text template }
-    ensures exact { IfOk result (λ c. c ≡ planned template) }
+/// The certificate of a template that says this: the steps of its leaves on a hart of which no register is known, over
+/// memory of which the leaves' words alone are known.
+pub fn generate(alloc: Global, template: Template, form: &Form) -> Result<Cert, OutOfMemory>
+    requires parses { Parses template.text template }
+    requires form { IsFormOf (said_by template) form.now }
+    ensures exact { IfOk result (λ c. c ≡ planned template form.now) }
     ensures template { IfOk result (λ c. c.template ≡ template) }
     ensures well_formed { IfOk result IsWellFormed }
     ensures valid { IfOk result IsValid }
     ensures faithful { IfOk result IsFaithful }
     ensures given { IfOk result GivesCodeAlone }
-    ensures size { IfOk result (λ c. certificate_size c ≤ 3 * length template.leaves + 33) }
+    ensures size { IfOk result (λ c. certificate_size c ≤ 3 * length form.now.leaves + 33) }
 {
-    let base = template.start_pc;
-    let words = words_of(alloc, template.leaves.as_slice())?;
-    let mut memory = memory_of(alloc, template.ram, base, &words)?;
+    template_law();
+    let base = form.start_pc;
+    let words = words_of(alloc, form.leaves.as_slice())?;
+    let mut memory = memory_of(alloc, form.ram, base, &words)?;
     let mut hart = Hart::new(base, Priv::M, Csrs::new(0, 0, 0, 0));
-    let records = records_of(alloc, &mut hart, &mut memory, template.leaves.as_slice())?;
+    let records = records_of(alloc, &mut hart, &mut memory, form.leaves.as_slice())?;
     let places = known_places(alloc, &hart.regs)?;
     let end = hart.pc;
-    Ok(assemble(alloc, template, words, records, end, places)?)
+    Ok(assemble(alloc, template, base, words, records, end, places)?)
 }

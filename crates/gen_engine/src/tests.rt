@@ -4,7 +4,8 @@ use rv_script::{Access, Role};
 use std::alloc::Global;
 use std::test::Fail;
 use tpl_admit::{Cert, HartState};
-use tpl_form::parse;
+use tpl_form::form_of;
+use tpl_parse::parse;
 
 const HEAD: &str = "ram 0x80000000 0x80001000
 pool 0x80000000
@@ -22,10 +23,14 @@ struct Row {
     finals: &'static [(u32, u32)],
 }
 
-/// The certificate of these leaves, the first of them at an address.
-fn certificate_of(alloc: Global, base: u32, leaves: &str) -> Result<Cert, Fail> {
+/// The certificate of these leaves, the first of them at an address, where their template is of the form.
+fn certificate_of(alloc: Global, base: u32, leaves: &str) -> Result<Option<Cert>, Fail> {
     let text = format!(in alloc; "{HEAD}{base:#x} priv m\nbody {{\n{leaves}}}\n}}\n")?;
-    Ok(generate(alloc, parse(alloc, text.as_bytes())?)?)
+    let template = parse(alloc, text.as_bytes())?;
+    match form_of(alloc, &template)? {
+        Some(form) => Ok(Some(generate(alloc, template, &form)?)),
+        None => Ok(None),
+    }
 }
 
 /// Whether a hart stands there in M, with these places and all else zero.
@@ -135,7 +140,7 @@ do op in {addi}; rd in {1}; rs1 in {0}; imm in {0}
         },
     ] {
         let name = row.name;
-        let cert = certificate_of(alloc, row.pc, row.leaves)?;
+        let cert = certificate_of(alloc, row.pc, row.leaves)?.expect(&rt, row.name);
         assert_eq!(rt; cert.last.as_slice(), row.words, "{name}");
         assert!(rt;
             are_placed(cert.words.as_slice(), row.pc, row.words),

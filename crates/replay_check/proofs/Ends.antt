@@ -21,6 +21,7 @@ use Rattle.rv_hart.specs.Whole.{WholeHart}
 use Rattle.tpl_ast.specs.declared.template.Region.{Region}
 use Rattle.tpl_admit.specs.declared.certificate.Cert.{Cert}
 use Rattle.tpl_ast.specs.declared.template.HartState.{HartState}
+use Rattle.tpl_ast.specs.Laws.{IsFramed, TemplatesAreSound}
 use Rattle.tpl_admit.specs.Starts.{found, is_in, ArePlaces, no_state, start_of, final_of, trace_of, word_of, fixed_in, first_hart, first_memory, is_given, zero_elsewhere}
 use Rattle.tpl_admit.specs.Races.{footprint_of, footprints_of}
 use Rattle.tpl_admit.specs.Solo.{Solo, solo, solo_run, knows_after}
@@ -28,7 +29,7 @@ use Rattle.tpl_admit.specs.Validity.{in_turn}
 use Rattle.tpl_admit.specs.WellFormed.{IsState, IsWellFormed}
 use Rattle.tpl_admit.specs.Failures.{AreRight, GoesWrong, HartIsRight, HartGoesWrong, EndsAsTold, MemoryEndsAsTold}
 use Rattle.replay_check.specs.Knowledge.{known_at, known_of, knows_of, fixed_now, whole_of}
-use Rattle.replay_check.specs.Memory.{IsStart, ShowsOf}
+use Rattle.replay_check.specs.Memory.{AreAligned, IsStart, ShowsOf}
 use Rattle.replay_check.specs.Replay.{TakesAll, StraysAt, EndsAs, IsFixedTold}
 use Rattle.replay_check.proofs.Keys.{found_no_key}
 use Rattle.replay_check.proofs.Lazy.{NamesCsr, has_address, address_positive, lazy_of}
@@ -42,11 +43,15 @@ states_places [] k are = tt
 states_places (s ∷ ss) zero are = are.0.places
 states_places (s ∷ ss) (suc k) are = states_places ss k are.1
 
-pub start_is : (c : Cert) → IsWellFormed c → IsStart c.template.ram c.words
-start_is c w =
-    let low : c.template.ram.low % 4096 ≡ 0 = w.template.allowed.lo in
-    let high : c.template.ram.high % 4096 ≡ 0 = w.template.allowed.hi in
-    record { low = omega (arith, low); high = omega (arith, high); words_are = w.words }
+frames_aligned : (ram : List Region) → AllByRecursion IsFramed ram → AreAligned ram
+frames_aligned [] are = tt
+frames_aligned (r ∷ rs) are =
+    let low : r.low % 4096 ≡ 0 = are.0.low in
+    let high : r.high % 4096 ≡ 0 = are.0.high in
+    ((omega (arith, low), omega (arith, high)), frames_aligned rs are.1)
+
+pub start_is : TemplatesAreSound → (c : Cert) → IsWellFormed c → IsStart c.template.ram c.words
+start_is sound c w = record { ram_is = frames_aligned c.template.ram (sound c.template.text c.template w.template).ram; words_are = w.words }
 
 -- ---- a hart's start and its end
 
@@ -93,10 +98,10 @@ ends_shown c k h ends key =
     ∙ ap (λ (g : WholeHart). if knows_of h key then Some (g.file key) else None) ends.hart
     ∙ sym (shown (known_of h key))
 
-abbrev all_fixed : Region → ℕ → Priv → ℕ → ℕ → ℕ → ℕ → Fixed
+abbrev all_fixed : List Region → ℕ → Priv → ℕ → ℕ → ℕ → ℕ → Fixed
 all_fixed ram pc privilege mstatus medeleg satp number = record { pc = pc; privilege = privilege; mstatus = mstatus; medeleg = medeleg; satp = satp; number = number; ram = λ n. is_in ram (n * 4) }
 
-fixed_told : (ram : Region) (k : ℕ) (s : HartState) (h : Hart) → IsFixedTold s k h → fixed_in ram k s ≡ fixed_now ram h
+fixed_told : (ram : List Region) (k : ℕ) (s : HartState) (h : Hart) → IsFixedTold s k h → fixed_in ram k s ≡ fixed_now ram h
 fixed_told ram k s h t =
     ap (λ (n : ℕ). all_fixed ram n s.privilege s.mstatus s.medeleg s.satp k) t.pc
     ∙ ap (λ (p : Priv). all_fixed ram h.pc p s.mstatus s.medeleg s.satp k) t.privilege
@@ -186,11 +191,6 @@ each_register P all (Lazy Mtval) = all 13 (omega arith)
 each_register P all Mhartid = all 14 (omega arith)
 
 -- ---- memory
-
--- what one hart alone makes of memory is what all make of it
-pub alone_memory : (c : Cert) (at : ℕ → Seen) → IsWellFormed c → ShowsOf c (memory_after (footprint_of (trace_of c 0)) (first_memory c)) at
-    → ShowsOf c (in_turn (length c.start) (footprints_of (trace_of c)) (first_memory c)) at
-alone_memory c at w s = subst (λ (n : ℕ). ShowsOf c (in_turn n (footprints_of (trace_of c)) (first_memory c)) at) (sym w.harts) s
 
 -- the given words end as is printed just where they are seen so
 pub memory_told : (c : Cert) (at : ℕ → Seen) → IsWellFormed c → ShowsOf c (in_turn (length c.start) (footprints_of (trace_of c)) (first_memory c)) at

@@ -54,7 +54,7 @@ found_no_key from (e ∷ es) key is none =
     rw (ne_eqb e.0 key other) (found_no_key (e.0 + 1) es key is.3 none)
 
 -- a word that is given lies in RAM
-pub found_in : (ram : Region) (from : ℕ) (ws : List (ℕ × ℕ)) (a v : ℕ) → AreStartWords ram from ws → found ws a ≡ Some v → is_in ram a ≡ true
+pub found_in : (ram : List Region) (from : ℕ) (ws : List (ℕ × ℕ)) (a v : ℕ) → AreStartWords ram from ws → found ws a ≡ Some v → is_in ram a ≡ true
 found_in ram from [] a v is e = absurd (cc e)
 found_in ram from (w ∷ ws) a v is e = elim (cases_Bool (eqb w.0 a)) [
   | inl here ↦ subst (λ (n : ℕ). is_in ram n ≡ true) (eqb-true w.0 a here) is.2

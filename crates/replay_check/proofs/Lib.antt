@@ -9,3 +9,4 @@ pub mod Ends
 pub mod Verdicts
 pub mod Behind
 pub mod OneStep
+mod Regions

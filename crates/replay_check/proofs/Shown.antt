@@ -22,11 +22,11 @@ there_word true None w = refl
 there_word true (Some v) w = refl
 there_word false o w = refl
 
-pub shown_there : (ram : Region) (given : ℕ → Option ℕ) (m : ℕ → ℕ) (at : ℕ → Seen) → Shows ram given m at → (n : ℕ) → is_there (at n) ≡ is_in ram (n * 4)
+pub shown_there : (ram : List Region) (given : ℕ → Option ℕ) (m : ℕ → ℕ) (at : ℕ → Seen) → Shows ram given m at → (n : ℕ) → is_there (at n) ≡ is_in ram (n * 4)
 shown_there ram given m at s n = ap (λ (q : Seen). is_there q) (s.words n) ∙ there_word (is_in ram (n * 4)) (given n) (m n)
 
 -- a word that is known was given, and is that of the whole memory
-pub shown_known : (ram : Region) (given : ℕ → Option ℕ) (m : ℕ → ℕ) (at : ℕ → Seen) → Shows ram given m at → (n v : ℕ) → known_word (at n) ≡ Some v → (m n ≡ v) × (is_some (given n) ≡ true)
+pub shown_known : (ram : List Region) (given : ℕ → Option ℕ) (m : ℕ → ℕ) (at : ℕ → Seen) → Shows ram given m at → (n v : ℕ) → known_word (at n) ≡ Some v → (m n ≡ v) × (is_some (given n) ≡ true)
 shown_known ram given m at s n v e = go (is_in ram (n * 4)) (given n) (m n) (sym (ap (λ (q : Seen). known_word q) (s.words n)) ∙ e)
   where
     go : (b : Bool) (o : Option ℕ) (w : ℕ) → known_word (if b then seen_given o w else Vacant) ≡ Some v → (w ≡ v) × (is_some o ≡ true)
@@ -35,7 +35,7 @@ shown_known ram given m at s n v e = go (is_in ram (n * 4)) (given n) (m n) (sym
     go false o w e = absurd (cc e)
 
 -- a word that isn't known was not given
-pub shown_unknown : (ram : Region) (given : ℕ → Option ℕ) (m : ℕ → ℕ) (at : ℕ → Seen) → Shows ram given m at → (n : ℕ) → known_word (at n) ≡ None → is_some (given n) ≡ false
+pub shown_unknown : (ram : List Region) (given : ℕ → Option ℕ) (m : ℕ → ℕ) (at : ℕ → Seen) → Shows ram given m at → (n : ℕ) → known_word (at n) ≡ None → is_some (given n) ≡ false
 shown_unknown ram given m at s n e = go (is_in ram (n * 4)) (given n) (m n) (s.inside n) (sym (ap (λ (q : Seen). known_word q) (s.words n)) ∙ e)
   where
     go : (b : Bool) (o : Option ℕ) (w : ℕ) → ((v : ℕ) → o ≡ Some v → b ≡ true) → known_word (if b then seen_given o w else Vacant) ≡ None → is_some o ≡ false
@@ -45,12 +45,12 @@ shown_unknown ram given m at s n e = go (is_in ram (n * 4)) (given n) (m n) (s.i
     go false (Some g) w inside e = let no : false ≡ true = inside g refl in absurd (cc no)
 
 -- a given word is that of the whole memory
-pub shown_given : (ram : Region) (given : ℕ → Option ℕ) (m : ℕ → ℕ) (at : ℕ → Seen) → Shows ram given m at → (n v : ℕ) → given n ≡ Some v → at n ≡ Known (m n)
+pub shown_given : (ram : List Region) (given : ℕ → Option ℕ) (m : ℕ → ℕ) (at : ℕ → Seen) → Shows ram given m at → (n v : ℕ) → given n ≡ Some v → at n ≡ Known (m n)
 shown_given ram given m at s n v e = s.words n ∙ rw (s.inside n v e, e) refl
 
 -- ---- after accesses
 
-shown_accessed : (ram : Region) (given : ℕ → Option ℕ) (m : ℕ → ℕ) (at : ℕ → Seen) (x : Access) → Shows ram given m at → Shows ram given (accessed x m) (seen_accessed x at)
+shown_accessed : (ram : List Region) (given : ℕ → Option ℕ) (m : ℕ → ℕ) (at : ℕ → Seen) (x : Access) → Shows ram given m at → Shows ram given (accessed x m) (seen_accessed x at)
 shown_accessed ram given m at x s = record {
   words = λ n. ap (λ (q : Seen). cond (nat_eq n (x.addr / 4)) (seen_word_after x n q) q) (s.words n) ∙ go n (nat_eq n (x.addr / 4)) (is_in ram (n * 4)) (given n) (m n);
   inside = s.inside;
@@ -63,11 +63,11 @@ shown_accessed ram given m at x s = record {
     go n true false o w = refl
     go n false b o w = refl
 
-pub shown_after : (ram : Region) (given : ℕ → Option ℕ) (m : ℕ → ℕ) (at : ℕ → Seen) (xs : List Access) → Shows ram given m at → Shows ram given (memory_after xs m) (seen_after xs at)
+pub shown_after : (ram : List Region) (given : ℕ → Option ℕ) (m : ℕ → ℕ) (at : ℕ → Seen) (xs : List Access) → Shows ram given m at → Shows ram given (memory_after xs m) (seen_after xs at)
 shown_after ram given m at [] s = s
 shown_after ram given m at (x ∷ xs) s = shown_after ram given (accessed x m) (seen_accessed x at) xs (shown_accessed ram given m at x s)
 
-pub shown_same : (ram : Region) (given : ℕ → Option ℕ) (m : ℕ → ℕ) (at new : ℕ → Seen) → ((n : ℕ) → new n ≡ at n) → Shows ram given m at → Shows ram given m new
+pub shown_same : (ram : List Region) (given : ℕ → Option ℕ) (m : ℕ → ℕ) (at new : ℕ → Seen) → ((n : ℕ) → new n ≡ at n) → Shows ram given m at → Shows ram given m new
 shown_same ram given m at new same s = record { words = λ n. same n ∙ s.words n; inside = s.inside }
 
 pub after_both : (xs ys : List Access) (m : ℕ → ℕ) → memory_after (xs ++ ys) m ≡ memory_after ys (memory_after xs m)
@@ -77,28 +77,28 @@ after_both (x ∷ xs) ys m = after_both xs ys (accessed x m)
 -- ---- the words of a start, one after another
 
 -- the words that are left
-pub record AreLeft (ram : Region) (ws : List (ℕ × ℕ)) : Type 0 where
+pub record AreLeft (ram : List Region) (ws : List (ℕ × ℕ)) : Type 0 where
   pub from : ℕ
   pub words : AreStartWords ram from ws
 
-found_below : (ram : Region) (from : ℕ) (ws : List (ℕ × ℕ)) (a : ℕ) → AreStartWords ram from ws → a < from → found ws a ≡ None
+found_below : (ram : List Region) (from : ℕ) (ws : List (ℕ × ℕ)) (a : ℕ) → AreStartWords ram from ws → a < from → found ws a ≡ None
 found_below ram from [] a is below = refl
 found_below ram from (w ∷ ws) a is below =
     let other : w.0 ≢ a = λ same. absurd (omega (arith, same, is.0, below)) in
     rw (ne_eqb w.0 a other) (found_below ram (w.0 + 4) ws a is.4 (omega (arith, is.0, below)))
 
-pub left_head : (ram : Region) (ws : List (ℕ × ℕ)) (w : ℕ × ℕ) (rest : List (ℕ × ℕ)) → ws ≡ w ∷ rest → AreLeft ram ws → (w.0 % 4 ≡ 0) × (is_in ram w.0 ≡ true)
+pub left_head : (ram : List Region) (ws : List (ℕ × ℕ)) (w : ℕ × ℕ) (rest : List (ℕ × ℕ)) → ws ≡ w ∷ rest → AreLeft ram ws → (w.0 % 4 ≡ 0) × (is_in ram w.0 ≡ true)
 left_head ram ws w rest split left = let are : AreStartWords ram left.from (w ∷ rest) = subst (AreStartWords ram left.from) split left.words in (are.1, are.2)
 
-pub left_next : (ram : Region) (ws : List (ℕ × ℕ)) (w : ℕ × ℕ) (rest : List (ℕ × ℕ)) → ws ≡ w ∷ rest → AreLeft ram ws → AreLeft ram rest
+pub left_next : (ram : List Region) (ws : List (ℕ × ℕ)) (w : ℕ × ℕ) (rest : List (ℕ × ℕ)) → ws ≡ w ∷ rest → AreLeft ram ws → AreLeft ram rest
 left_next ram ws w rest split left = let are : AreStartWords ram left.from (w ∷ rest) = subst (AreStartWords ram left.from) split left.words in record { from = w.0 + 4; words = are.4 }
 
 -- the words that were put, and those that are left, are all words
-pub record IsPut (ram : Region) (words left : List (ℕ × ℕ)) (at : ℕ → Seen) : Type 0 where
+pub record IsPut (ram : List Region) (words left : List (ℕ × ℕ)) (at : ℕ → Seen) : Type 0 where
   pub known : (n : ℕ) → or_else (found left (n * 4)) (known_word (at n)) ≡ found words (n * 4)
   pub seen : (n : ℕ) → at n ≡ (if is_in ram (n * 4) then valued (known_word (at n)) else Vacant)
 
-pub put_none : (ram : Region) (words : List (ℕ × ℕ)) (at : ℕ → Seen) → ((n : ℕ) → at n ≡ (if is_in ram (n * 4) then Untouched else Vacant)) → IsPut ram words words at
+pub put_none : (ram : List Region) (words : List (ℕ × ℕ)) (at : ℕ → Seen) → ((n : ℕ) → at n ≡ (if is_in ram (n * 4) then Untouched else Vacant)) → IsPut ram words words at
 put_none ram words at bare = record {
   known = λ n. ap (or_else (found words (n * 4))) (ap (λ (q : Seen). known_word q) (bare n) ∙ none (is_in ram (n * 4))) ∙ nothing (found words (n * 4));
   seen = λ n. bare n ∙ again (is_in ram (n * 4)) (known_word (at n)) (ap (λ (q : Seen). known_word q) (bare n) ∙ none (is_in ram (n * 4)));
@@ -116,7 +116,7 @@ put_none ram words at bare = record {
     again b o e = rw e refl
 
 -- a word of RAM can be put
-pub put_there : (ram : Region) (words left : List (ℕ × ℕ)) (at : ℕ → Seen) (a : ℕ) → IsPut ram words left at → a % 4 ≡ 0 → is_in ram a ≡ true → is_there (at (a / 4)) ≡ true
+pub put_there : (ram : List Region) (words left : List (ℕ × ℕ)) (at : ℕ → Seen) (a : ℕ) → IsPut ram words left at → a % 4 ≡ 0 → is_in ram a ≡ true → is_there (at (a / 4)) ≡ true
 put_there ram words left at a p aligned inside =
     let back : a / 4 * 4 ≡ a = omega (arith, aligned) in
     let is : is_in ram (a / 4 * 4) ≡ true = subst (λ (n : ℕ). is_in ram n ≡ true) (sym back) inside in
@@ -127,7 +127,7 @@ put_there ram words left at a p aligned inside =
     go true (Some v) e = refl
     go false o e = absurd (cc e)
 
-pub put_next : (ram : Region) (words left : List (ℕ × ℕ)) (w : ℕ × ℕ) (rest : List (ℕ × ℕ)) (at new : ℕ → Seen) → left ≡ w ∷ rest → AreLeft ram left → IsPut ram words left at
+pub put_next : (ram : List Region) (words left : List (ℕ × ℕ)) (w : ℕ × ℕ) (rest : List (ℕ × ℕ)) (at new : ℕ → Seen) → left ≡ w ∷ rest → AreLeft ram left → IsPut ram words left at
     → new (w.0 / 4) ≡ Known w.1 → ((n : ℕ) → n ≢ w.0 / 4 → new n ≡ at n) → IsPut ram words rest new
 put_next ram words left w rest at new split are p here others = record { known = known; seen = seen }
   where
@@ -165,7 +165,7 @@ put_next ram words left w rest at new split are p here others = record { known =
     ]
 
 -- when all words were put, memory shows them
-pub put_all : (ram : Region) (words left : List (ℕ × ℕ)) (at : ℕ → Seen) → AreStartWords ram 0 words → left ≡ [] → IsPut ram words left at
+pub put_all : (ram : List Region) (words left : List (ℕ × ℕ)) (at : ℕ → Seen) → AreStartWords ram 0 words → left ≡ [] → IsPut ram words left at
     → Shows ram (given_word words) (zero_elsewhere (given_word words)) at
 put_all ram words left at are none p = record {
   words = λ n. p.seen n ∙ ap (λ (o : Option ℕ). if is_in ram (n * 4) then valued o else Vacant) (given n) ∙ go (is_in ram (n * 4)) (found words (n * 4));
@@ -182,7 +182,7 @@ put_all ram words left at are none p = record {
 
 -- ---- the final words
 
-found_above : (ram : Region) (from : ℕ) (ws : List (ℕ × ℕ)) (a v : ℕ) → AreStartWords ram from ws → found ws a ≡ Some v → from ≤ a
+found_above : (ram : List Region) (from : ℕ) (ws : List (ℕ × ℕ)) (a v : ℕ) → AreStartWords ram from ws → found ws a ≡ Some v → from ≤ a
 found_above ram from [] a v is e = absurd (cc e)
 found_above ram from (w ∷ ws) a v is e = elim (cases_Bool (eqb w.0 a)) [
   | inl here ↦ (let same = eqb-true w.0 a here in omega (arith, same, is.0))
@@ -215,7 +215,7 @@ more_told m at w ws v last seen rest = (all, every)
     every e (suc k) within = let tail : words_at m ws ≡ last = cc e in rest.1 tail k (omega (arith, within))
 
 -- the final words are those of the whole memory just where they are seen
-pub each_told : (ram : Region) (given : ℕ → Option ℕ) (m : ℕ → ℕ) (at : ℕ → Seen) (from : ℕ) (ws : List (ℕ × ℕ)) (last : List ℕ) → Shows ram given m at → AreStartWords ram from ws
+pub each_told : (ram : List Region) (given : ℕ → Option ℕ) (m : ℕ → ℕ) (at : ℕ → Seen) (from : ℕ) (ws : List (ℕ × ℕ)) (last : List ℕ) → Shows ram given m at → AreStartWords ram from ws
     → ((a v : ℕ) → a % 4 ≡ 0 → found ws a ≡ Some v → given (a / 4) ≡ Some v) → length last ≡ length ws → EachSeen at ws last ↔ (words_at m ws ≡ last)
 each_told ram given m at from [] [] s is h size = ((λ each. refl), λ e k within. absurd (omega (arith, within)))
 each_told ram given m at from [] (v ∷ last) s is h size = absurd (omega (arith, size))

@@ -43,7 +43,7 @@ use Rattle.replay_check.proofs.Shown.{shown_there, shown_known, shown_unknown, s
 
 -- ---- what is known of the whole hart
 
-fixed_same : (ram : Region) (given : ℕ → Option ℕ) (m : ℕ → ℕ) (at : ℕ → Seen) (h : Hart) → Shows ram given m at → fixed_of h at ≡ fixed_now ram h
+fixed_same : (ram : List Region) (given : ℕ → Option ℕ) (m : ℕ → ℕ) (at : ℕ → Seen) (h : Hart) → Shows ram given m at → fixed_of h at ≡ fixed_now ram h
 fixed_same ram given m at h s =
     ap (λ (there : ℕ → Bool). let f : Fixed = record { pc = h.pc; privilege = h.privilege; mstatus = h.csrs.mstatus; medeleg = h.csrs.medeleg; satp = h.csrs.satp; number = h.csrs.hart; ram = there } in f)
     (fun_ext (shown_there ram given m at s))
@@ -58,7 +58,7 @@ no_value : (o p : Option ℕ) → o ≡ p → p ≡ None → is_some o ≡ false
 no_value o p same none = let e : o ≡ None = same ∙ none in rw e refl
 
 -- a known place has its value in the whole hart, and was given or written
-settled : (ram : Region) (given : ℕ → Option ℕ) (m : ℕ → ℕ) (at : ℕ → Seen) (h : Hart) → Shows ram given m at → length h.regs ≡ 32 → (place : Place) (v : ℕ) → known h at place ≡ Some v
+settled : (ram : List Region) (given : ℕ → Option ℕ) (m : ℕ → ℕ) (at : ℕ → Seen) (h : Hart) → Shows ram given m at → length h.regs ≡ 32 → (place : Place) (v : ℕ) → known h at place ≡ Some v
     → (value_at (zero_elsewhere (known_of h)) m place ≡ v) × (is_set (knows_of h) given place ≡ true)
 settled ram given m at h start size (Reg n) v e = elim (cases_eq n 0) [
   | inl none ↦
@@ -74,7 +74,7 @@ settled ram given m at h start size (Csr addr) v e = some_value (known_at h.regs
 settled ram given m at h start size (Word addr) v e = shown_known ram given m at start (addr / 4) v e
 
 -- a place that isn't known was neither given nor written
-unsettled : (ram : Region) (given : ℕ → Option ℕ) (m : ℕ → ℕ) (at : ℕ → Seen) (h : Hart) → Shows ram given m at → (place : Place) → IsNamed place → known h at place ≡ None
+unsettled : (ram : List Region) (given : ℕ → Option ℕ) (m : ℕ → ℕ) (at : ℕ → Seen) (h : Hart) → Shows ram given m at → (place : Place) → IsNamed place → known h at place ≡ None
     → is_set (knows_of h) given place ≡ false
 unsettled ram given m at h start (Reg n) named e = elim (cases_eq n 0) [
   | inl none ↦
@@ -89,7 +89,7 @@ unsettled ram given m at h start (Reg n) named e = elim (cases_eq n 0) [
 unsettled ram given m at h start (Csr addr) named e = no_value (known_at h.regs h.csrs (csr_key addr)) (known h at (Csr addr)) (known_csr h.regs h.csrs addr) e
 unsettled ram given m at h start (Word addr) named e = shown_unknown ram given m at start (addr / 4) e
 
-has : (ram : Region) (given : ℕ → Option ℕ) (m : ℕ → ℕ) (at : ℕ → Seen) (h : Hart) → Shows ram given m at → length h.regs ≡ 32 → Has (fixed_of h at) (known h at) (whole_of ram h) m
+has : (ram : List Region) (given : ℕ → Option ℕ) (m : ℕ → ℕ) (at : ℕ → Seen) (h : Hart) → Shows ram given m at → length h.regs ≡ 32 → Has (fixed_of h at) (known h at) (whole_of ram h) m
 has ram given m at h start size = record {
   fixed = sym (fixed_same ram given m at h start);
   values = λ place v e. (settled ram given m at h start size place v e).0;
@@ -137,7 +137,7 @@ stepped_outside None None e = (refl, refl)
 stepped_outside None (Some s) e = absurd (cc e)
 
 -- all that the step needs was given or written
-are_set : (ram : Region) (given : ℕ → Option ℕ) (m : ℕ → ℕ) (at : ℕ → Seen) (h : Hart) → Shows ram given m at → length h.regs ≡ 32 → first_needed (known h at) (whole_of ram h) m ≡ None
+are_set : (ram : List Region) (given : ℕ → Option ℕ) (m : ℕ → ℕ) (at : ℕ → Seen) (h : Hart) → Shows ram given m at → length h.regs ≡ 32 → first_needed (known h at) (whole_of ram h) m ≡ None
     → AreSet given (knows_of h) (whole_of ram h) m
 are_set ram given m at h start size none place item =
     let k = all_known (known h at) (log_of (whole_of ram h) m) none place item in
@@ -146,7 +146,7 @@ are_set ram given m at h start size none place item =
 abbrev Machine : (ℕ → Seen) → Hart → Stepped → Type 0
 Machine at h result = IsMachineStep (fixed_of h at) (known h at) result
 
-answer : (ram : Region) (given : ℕ → Option ℕ) (m : ℕ → ℕ) (at : ℕ → Seen) (h : Hart) (result : Stepped) → Shows ram given m at → length h.regs ≡ 32 → Machine at h result
+answer : (ram : List Region) (given : ℕ → Option ℕ) (m : ℕ → ℕ) (at : ℕ → Seen) (h : Hart) (result : Stepped) → Shows ram given m at → length h.regs ≡ 32 → Machine at h result
     → result ≡ stepped_by (first_needed (known h at) (whole_of ram h) m) (step_of (whole_of ram h) m)
 answer ram given m at h result start size machine = machine (whole_of ram h) m (has ram given m at h start size)
 
@@ -191,7 +191,7 @@ nothing_written f c key sound small apart =
 abbrev Done : (ℕ → Seen) → (ℕ → Seen) → Hart → Hart → Record → Type 0
 Done at seen h new did = IsDone (fixed_of h at) (known h at) did (fixed_of new seen) (known new seen)
 
-key_follows : (ram : Region) (given : ℕ → Option ℕ) (m : ℕ → ℕ) (at seen : ℕ → Seen) (h new : Hart) (did : Record) → Shows ram given m at → length h.regs ≡ 32 → (d : Done at seen h new did) → IsSoundWrite did.rd
+key_follows : (ram : List Region) (given : ℕ → Option ℕ) (m : ℕ → ℕ) (at seen : ℕ → Seen) (h new : Hart) (did : Record) → Shows ram given m at → length h.regs ≡ 32 → (d : Done at seen h new did) → IsSoundWrite did.rd
     → (key : ℕ) → Follows (known_of new key) (d.step.writes key) (known_of h key)
 key_follows ram given m at seen h new did start size d sound key = elim (cases_lt key 32) [
   | inl small ↦ elim (cases_eq key 0) [
@@ -239,7 +239,7 @@ key_follows ram given m at seen h new did start size d sound key = elim (cases_l
         (ap (λ (o : Option ℕ). is_some o) now ∙ d.places (Csr addr) ∙ ap (λ (o : Option ℕ). is_some (d.step.writes (csr_key addr)) || is_some o) (sym old))
         (λ v e. made.1.values (Csr addr) v (sym now ∙ e))
 
-pub takes : (ram : Region) (given : ℕ → Option ℕ) (m : ℕ → ℕ) (at seen : ℕ → Seen) (h new : Hart) (did r : Record) → Shows ram given m at → length h.regs ≡ 32 → Machine at h (Did did) → Done at seen h new did
+pub takes : (ram : List Region) (given : ℕ → Option ℕ) (m : ℕ → ℕ) (at seen : ℕ → Seen) (h new : Hart) (did r : Record) → Shows ram given m at → length h.regs ≡ 32 → Machine at h (Did did) → Done at seen h new did
     → IsSoundWrite did.rd → ((n : ℕ) → seen n ≡ seen_after did.accesses at n) → did ≡ r → Takes ram given m h new r
 takes ram given m at seen h new did r start size machine d sound stored same =
     let needed = stepped_did _ _ did (answer ram given m at h (Did did) start size machine) in
@@ -253,19 +253,19 @@ takes ram given m at seen h new did r start size machine d sound stored same =
       knows = fun_ext (λ key. (each key).1);
     }
 
-pub strays_other : (ram : Region) (given : ℕ → Option ℕ) (m : ℕ → ℕ) (at : ℕ → Seen) (h : Hart) (did r : Record) → Shows ram given m at → length h.regs ≡ 32 → Machine at h (Did did) → (did ≢ r) → Strays ram given m h r 1
+pub strays_other : (ram : List Region) (given : ℕ → Option ℕ) (m : ℕ → ℕ) (at : ℕ → Seen) (h : Hart) (did r : Record) → Shows ram given m at → length h.regs ≡ 32 → Machine at h (Did did) → (did ≢ r) → Strays ram given m h r 1
 strays_other ram given m at h did r start size machine other =
     let d = stepped_did _ _ did (answer ram given m at h (Did did) start size machine) in
     inr (inr (refl, are_set ram given m at h start size d.0, d.1, d.2, λ same. other (sym d.3 ∙ same)))
 
-pub strays_missing : (ram : Region) (given : ℕ → Option ℕ) (m : ℕ → ℕ) (at : ℕ → Seen) (h : Hart) (place : Place) (r : Record) → Shows ram given m at → length h.regs ≡ 32 → Machine at h (Missing place) → Strays ram given m h r 2
+pub strays_missing : (ram : List Region) (given : ℕ → Option ℕ) (m : ℕ → ℕ) (at : ℕ → Seen) (h : Hart) (place : Place) (r : Record) → Shows ram given m at → length h.regs ≡ 32 → Machine at h (Missing place) → Strays ram given m h r 2
 strays_missing ram given m at h place r start size machine =
     let missing = stepped_missing _ _ place (answer ram given m at h (Missing place) start size machine) in
     let one = one_missing (known h at) (log_of (whole_of ram h) m) place missing in
     let named : IsNamed place = needs_named (whole_of ram h) m place one.0 in
     inl (refl, place, one.0, unsettled ram given m at h start place named one.1)
 
-pub strays_outside : (ram : Region) (given : ℕ → Option ℕ) (m : ℕ → ℕ) (at : ℕ → Seen) (h : Hart) (r : Record) → Shows ram given m at → length h.regs ≡ 32 → Machine at h Outside → Strays ram given m h r 3
+pub strays_outside : (ram : List Region) (given : ℕ → Option ℕ) (m : ℕ → ℕ) (at : ℕ → Seen) (h : Hart) (r : Record) → Shows ram given m at → length h.regs ≡ 32 → Machine at h Outside → Strays ram given m h r 3
 strays_outside ram given m at h r start size machine =
     let o = stepped_outside _ _ (answer ram given m at h Outside start size machine) in
     inr (inl (refl, are_set ram given m at h start size o.0, o.1))

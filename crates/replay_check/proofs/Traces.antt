@@ -22,7 +22,7 @@ split_at {A} xs i x within is = drop_more xs i x within ∙ ap (λ (y : A). y �
 
 -- ---- the loop over records: all is said by the records that are left, on the memory of now
 
-pub record IsUpTo (ram : Region) (given : ℕ → Option ℕ) (origin : ℕ → ℕ) (first now : Hart) (at : ℕ → Seen) (rs : List Record) (i : ℕ) : Type 0 where
+pub record IsUpTo (ram : List Region) (given : ℕ → Option ℕ) (origin : ℕ → ℕ) (first now : Hart) (at : ℕ → Seen) (rs : List Record) (i : ℕ) : Type 0 where
   pub memory : ℕ → ℕ
   pub shows : Shows ram given memory at
   pub after : memory_after (footprint_of rs) origin ≡ memory_after (footprint_of (drop i rs)) memory
@@ -32,7 +32,7 @@ pub record IsUpTo (ram : Region) (given : ℕ → Option ℕ) (origin : ℕ → 
   pub hart : (solo (length rs) (whole_of ram first) origin).hart ≡ (solo (length (drop i rs)) (whole_of ram now) memory).hart
   pub knows : knows_after (knows_of first) (solo (length rs) (whole_of ram first) origin).moments ≡ knows_after (knows_of now) (solo (length (drop i rs)) (whole_of ram now) memory).moments
 
-pub up_to_none : (ram : Region) (given : ℕ → Option ℕ) (m : ℕ → ℕ) (h : Hart) (at : ℕ → Seen) (rs : List Record) → Shows ram given m at → IsUpTo ram given m h h at rs 0
+pub up_to_none : (ram : List Region) (given : ℕ → Option ℕ) (m : ℕ → ℕ) (h : Hart) (at : ℕ → Seen) (rs : List Record) → Shows ram given m at → IsUpTo ram given m h h at rs 0
 up_to_none ram given m h at rs s = record { memory = m; shows = s; after = refl; words = λ a. a; right = λ a. a; wrong = λ kind step g. g; hart = refl; knows = refl }
 
 -- the course of a hart whose first step is this
@@ -48,7 +48,7 @@ stored : (given : ℕ → Option ℕ) (knows : ℕ → Bool) (h : WholeHart) (m 
 stored given knows h m r s right = ap (λ (q : Record). memory_after q.accesses m) right.did
 
 -- the rest is right, and so all from this step on
-right_next : (ram : Region) (given : ℕ → Option ℕ) (m : ℕ → ℕ) (h new : Hart) (r : Record) (rest : List Record) → Takes ram given m h new r
+right_next : (ram : List Region) (given : ℕ → Option ℕ) (m : ℕ → ℕ) (h new : Hart) (r : Record) (rest : List Record) → Takes ram given m h new r
     → AreRight given (knows_of new) (whole_of ram new) (memory_after r.accesses m) rest → AreRight given (knows_of h) (whole_of ram h) m (r ∷ rest)
 right_next ram given m h new r rest t right = (
   t.step,
@@ -58,7 +58,7 @@ right_next ram given m h new r rest t right = (
       (subst (λ (k : ℕ → Bool). AreRight given k (whole_of ram new) (memory_after r.accesses m) rest) t.knows right)),
 )
 
-wrong_next : (ram : Region) (given : ℕ → Option ℕ) (m : ℕ → ℕ) (h new : Hart) (r : Record) (rest : List Record) (i kind step : ℕ) → Takes ram given m h new r
+wrong_next : (ram : List Region) (given : ℕ → Option ℕ) (m : ℕ → ℕ) (h new : Hart) (r : Record) (rest : List Record) (i kind step : ℕ) → Takes ram given m h new r
     → GoesWrong given (knows_of new) (whole_of ram new) (memory_after r.accesses m) rest (i + 1) kind step
     → GoesWrong given (knows_of h) (whole_of ram h) m (r ∷ rest) i kind step
 wrong_next ram given m h new r rest i kind step t wrong =
@@ -70,7 +70,7 @@ wrong_next ram given m h new r rest i kind step t wrong =
           (subst (λ (k : ℕ → Bool). GoesWrong given k (whole_of ram new) (memory_after r.accesses m) rest (i + 1) kind step) t.knows wrong)),
     )
 
-pub up_to_next : (ram : Region) (given : ℕ → Option ℕ) (origin : ℕ → ℕ) (first now new : Hart) (at seen : ℕ → Seen) (rs : List Record) (i : ℕ) (r : Record) → drop i rs ≡ r ∷ drop (i + 1) rs
+pub up_to_next : (ram : List Region) (given : ℕ → Option ℕ) (origin : ℕ → ℕ) (first now new : Hart) (at seen : ℕ → Seen) (rs : List Record) (i : ℕ) (r : Record) → drop i rs ≡ r ∷ drop (i + 1) rs
     → (u : IsUpTo ram given origin first now at rs i) → Takes ram given u.memory now new r → ((n : ℕ) → seen n ≡ seen_after r.accesses at n) → All IsInWord r.accesses
     → IsUpTo ram given origin first new seen rs (i + 1)
 up_to_next ram given origin first now new at seen rs i r split u t same words =
@@ -91,7 +91,7 @@ up_to_next ram given origin first now new at seen rs i r split u t same words =
       knows = u.knows ∙ ap (λ (s : Solo). knows_after (knows_of now) s.moments) course ∙ ap (λ (k : ℕ → Bool). knows_after k (solo (length rest) (whole_of ram new) m').moments) (sym t.knows);
     }
 
-pub up_to_end : (ram : Region) (given : ℕ → Option ℕ) (origin : ℕ → ℕ) (first now : Hart) (at : ℕ → Seen) (rs : List Record) (i : ℕ) → drop i rs ≡ [] → IsUpTo ram given origin first now at rs i
+pub up_to_end : (ram : List Region) (given : ℕ → Option ℕ) (origin : ℕ → ℕ) (first now : Hart) (at : ℕ → Seen) (rs : List Record) (i : ℕ) → drop i rs ≡ [] → IsUpTo ram given origin first now at rs i
     → TakesAll ram given origin first now rs
 up_to_end ram given origin first now at rs i none u = record {
   right = u.right (rw none tt);
@@ -99,17 +99,17 @@ up_to_end ram given origin first now at rs i none u = record {
   knows = u.knows ∙ ap (λ (l : List Record). knows_after (knows_of now) (solo (length l) (whole_of ram now) u.memory).moments) none;
 }
 
-pub up_to_memory : (ram : Region) (given : ℕ → Option ℕ) (origin : ℕ → ℕ) (first now : Hart) (at : ℕ → Seen) (rs : List Record) (i : ℕ) → drop i rs ≡ [] → IsUpTo ram given origin first now at rs i
+pub up_to_memory : (ram : List Region) (given : ℕ → Option ℕ) (origin : ℕ → ℕ) (first now : Hart) (at : ℕ → Seen) (rs : List Record) (i : ℕ) → drop i rs ≡ [] → IsUpTo ram given origin first now at rs i
     → Shows ram given (memory_after (footprint_of rs) origin) at
 up_to_memory ram given origin first now at rs i none u =
     let last : memory_after (footprint_of rs) origin ≡ u.memory = u.after ∙ ap (λ (l : List Record). memory_after (footprint_of l) u.memory) none in
     subst (λ (w : ℕ → ℕ). Shows ram given w at) (sym last) u.shows
 
-pub up_to_words : (ram : Region) (given : ℕ → Option ℕ) (origin : ℕ → ℕ) (first now : Hart) (at : ℕ → Seen) (rs : List Record) (i : ℕ) → drop i rs ≡ [] → IsUpTo ram given origin first now at rs i
+pub up_to_words : (ram : List Region) (given : ℕ → Option ℕ) (origin : ℕ → ℕ) (first now : Hart) (at : ℕ → Seen) (rs : List Record) (i : ℕ) → drop i rs ≡ [] → IsUpTo ram given origin first now at rs i
     → AreInWords rs
 up_to_words ram given origin first now at rs i none u = u.words (rw none tt)
 
-pub up_to_wrong : (ram : Region) (given : ℕ → Option ℕ) (origin : ℕ → ℕ) (first now : Hart) (at : ℕ → Seen) (rs : List Record) (i : ℕ) (r : Record) (kind : ℕ) → drop i rs ≡ r ∷ drop (i + 1) rs
+pub up_to_wrong : (ram : List Region) (given : ℕ → Option ℕ) (origin : ℕ → ℕ) (first now : Hart) (at : ℕ → Seen) (rs : List Record) (i : ℕ) (r : Record) (kind : ℕ) → drop i rs ≡ r ∷ drop (i + 1) rs
     → (u : IsUpTo ram given origin first now at rs i) → Strays ram given u.memory now r kind → StraysAt ram given origin first rs kind i
 up_to_wrong ram given origin first now at rs i r kind split u strays = u.wrong kind i (rw split (inl (strays, refl)))
 

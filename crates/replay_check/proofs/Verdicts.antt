@@ -14,16 +14,12 @@ use Rattle.tpl_admit.specs.Validity.{IsHartValid, IsValid}
 use Rattle.tpl_admit.specs.Admission.{Admits}
 use Rattle.tpl_admit.specs.WellFormed.{IsWellFormed}
 use Rattle.tpl_admit.specs.Unmet.{IsLeastFailure}
-use Rattle.tpl_admit.specs.Failures.{HartIsRight, HartGoesWrong, EndsAsTold, MemoryEndsAsTold, AllAreRight, FailsInStep, FailsAtEnd, did_before, RacesFrom, FailsInRace, IsFirstFailure}
-use Rattle.tpl_admit.proofs.Failures.{admitted_never, least_once}
+use Rattle.tpl_admit.specs.Failures.{HartIsRight, HartGoesWrong, EndsAsTold, MemoryEndsAsTold, AllAreRight, AllEndAsTold, FailsInStep, FailsAtEnd, did_before, RacesFrom, FailsInRace, IsFirstFailure}
+use Rattle.tpl_admit.proofs.Failures.{admitted_never, one_least}
 use Rattle.replay_check.specs.Memory.{AreInWords}
-use Rattle.replay_check.specs.Replay.{IsReplayed}
+use Rattle.replay_check.specs.Replay.{EndsOtherwise, IsReplayed}
 use Rattle.replay_check.proofs.Ends.{states_places}
 use Rattle.replay_check.proofs.Traces.{course, right_course, right_never, goes_once}
-
--- what holds of hart 0 holds of all harts
-pub of_all : (c : Cert) (P : ℕ → Type 0) → IsWellFormed c → P 0 → (k : ℕ) → k < length c.start → P k
-of_all c P w first k within = let none : 0 ≡ k = omega (arith, within, w.harts) in subst P none first
 
 pub valid : (c : Cert) → IsWellFormed c → IsReplayed c → IsRaceFree (footprints_of (trace_of c)) → Admits c → IsValid c
 valid c w r free admits = record {
@@ -43,40 +39,20 @@ valid c w r free admits = record {
   admits = admits;
 }
 
--- all is as printed where it is so of hart 0
-pub replayed_all : (c : Cert) → IsWellFormed c → HartIsRight c 0 → EndsAsTold c 0 → MemoryEndsAsTold c → AreInWords (trace_of c 0) → IsReplayed c
-replayed_all c w right ends memory words = record {
-  steps = of_all c (HartIsRight c) w right;
-  ends = of_all c (EndsAsTold c) w ends;
-  memory = memory;
-  words = each;
-}
-  where
-    each : (k : ℕ) → AreInWords (trace_of c k)
-    each k = elim (cases_lt k (length c.start)) [
-      | inl within ↦ of_all c (λ n. AreInWords (trace_of c n)) w words k within
-      | inr past ↦ (let none : trace_of c k ≡ [] = get_or_past c.traces k [] (omega (arith, past, w.traces_count)) in rw none tt)
-    ]
-
--- ---- the first failure
-
-pub first_step : (c : Cert) (kind step : ℕ) → IsWellFormed c → HartGoesWrong c 0 kind step → IsFirstFailure c kind 0 step
-first_step c kind step w wrong = inl (record { there = omega (arith, w.harts); before = λ k none. absurd (omega (arith, none)); wrong = wrong })
-
-pub first_end : (c : Cert) (step : ℕ) → IsWellFormed c → HartIsRight c 0 → (EndsAsTold c 0 → ⊥) → step ≡ length (trace_of c 0) → IsFirstFailure c 4 0 step
-first_end c step w right wrong is = inr (inl (record {
-  steps = of_all c (HartIsRight c) w right;
+pub first_end : (c : Cert) (hart step : ℕ) → AllAreRight c → EndsOtherwise c hart → step ≡ length (trace_of c hart) → IsFirstFailure c 4 hart step
+first_end c hart step right other is = inr (inl (record {
+  steps = right;
   kind_is = refl;
-  there = omega (arith, w.harts);
-  before = λ k none. absurd (omega (arith, none));
-  wrong = wrong;
+  there = other.there;
+  before = other.before;
+  wrong = other.wrong;
   step_is = is;
 }))
 
-pub first_of_memory : (c : Cert) (hart : ℕ) → IsWellFormed c → HartIsRight c 0 → EndsAsTold c 0 → (MemoryEndsAsTold c → ⊥) → hart ≡ length c.start → IsFirstFailure c 4 hart 0
-first_of_memory c hart w right ends wrong is = inr (inr (inl (record {
-  steps = of_all c (HartIsRight c) w right;
-  ends = of_all c (EndsAsTold c) w ends;
+pub first_of_memory : (c : Cert) (hart : ℕ) → AllAreRight c → AllEndAsTold c → (MemoryEndsAsTold c → ⊥) → hart ≡ length c.start → IsFirstFailure c 4 hart 0
+first_of_memory c hart right ends wrong is = inr (inr (inl (record {
+  steps = right;
+  ends = ends;
   kind_is = refl;
   wrong = wrong;
   hart_is = is;
@@ -272,5 +248,5 @@ failure_once c kind hart step kind' hart' step' (inr (inr (inr (inr f)))) (inr (
 failure_once c kind hart step kind' hart' step' (inr (inr (inr (inr f)))) (inr (inr (inl g))) = absurd (g.wrong f.memory)
 failure_once c kind hart step kind' hart' step' (inr (inr (inr (inr f)))) (inr (inr (inr (inl g)))) = absurd (race_never c kind' hart' step' f.race_free g)
 failure_once c kind hart step kind' hart' step' (inr (inr (inr (inr f)))) (inr (inr (inr (inr g)))) =
-    let once = least_once c hart step f.atom hart' step' g.atom f.least g.least in
+    let once = one_least c hart step f.atom hart' step' g.atom f.least g.least in
     (f.kind_is ∙ sym g.kind_is, once.0, once.1)

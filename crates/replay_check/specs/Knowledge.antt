@@ -22,7 +22,7 @@ known_of h = known_at h.regs h.csrs
 abbrev pub knows_of : Hart → ℕ → Bool
 knows_of h key = is_some (known_of h key)
 
-abbrev pub fixed_now : Region → Hart → Fixed
+abbrev pub fixed_now : List Region → Hart → Fixed
 fixed_now ram h = record {
   pc = h.pc;
   privilege = h.privilege;
@@ -34,5 +34,5 @@ fixed_now ram h = record {
 }
 
 -- the hart with zero wherever nothing is known
-abbrev pub whole_of : Region → Hart → WholeHart
+abbrev pub whole_of : List Region → Hart → WholeHart
 whole_of ram h = record { fixed = fixed_now ram h; file = zero_elsewhere (known_of h) }

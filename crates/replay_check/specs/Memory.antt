@@ -23,26 +23,29 @@ abbrev pub seen_given : Option ℕ → ℕ → Seen
 seen_given None word = Untouched
 seen_given (Some first) word = Known word
 
-abbrev pub seen_in : Region → (ℕ → Option ℕ) → (ℕ → ℕ) → ℕ → Seen
+abbrev pub seen_in : List Region → (ℕ → Option ℕ) → (ℕ → ℕ) → ℕ → Seen
 seen_in ram given memory n = if is_in ram (n * 4) then seen_given (given n) (memory n) else Vacant
 
 -- of a whole memory just the words are seen to which the start gave a value, which lie in RAM
-pub record Shows (ram : Region) (given : ℕ → Option ℕ) (memory : ℕ → ℕ) (at : ℕ → Seen) : Type 0 where
+pub record Shows (ram : List Region) (given : ℕ → Option ℕ) (memory : ℕ → ℕ) (at : ℕ → Seen) : Type 0 where
   pub words : (n : ℕ) → at n ≡ seen_in ram given memory n
   pub inside : (n v : ℕ) → given n ≡ Some v → is_in ram (n * 4) ≡ true
 
 -- of each RAM, given words and whole memory of which this is seen
-abbrev pub WhereShown : (ℕ → Seen) → (Region → (ℕ → Option ℕ) → (ℕ → ℕ) → Type 0) → Type 0
-WhereShown at P = (ram : Region) (given : ℕ → Option ℕ) (memory : ℕ → ℕ) → Shows ram given memory at → P ram given memory
+abbrev pub WhereShown : (ℕ → Seen) → (List Region → (ℕ → Option ℕ) → (ℕ → ℕ) → Type 0) → Type 0
+WhereShown at P = (ram : List Region) (given : ℕ → Option ℕ) (memory : ℕ → ℕ) → Shows ram given memory at → P ram given memory
 
 -- this is seen of a memory with a certificate's RAM and given words
 abbrev pub ShowsOf : Cert → (ℕ → ℕ) → (ℕ → Seen) → Type 0
 ShowsOf c memory at = Shows c.template.ram (word_of c) memory at
 
+-- regions of whole words
+abbrev pub AreAligned : List Region → Type 0
+AreAligned ram = AllByRecursion (λ r. (r.low % 4 ≡ 0) × (r.high % 4 ≡ 0)) ram
+
 -- aligned words in a RAM of whole words
-pub record IsStart (ram : Region) (words : List (ℕ × ℕ)) : Type 0 where
-  pub low : ram.low % 4 ≡ 0
-  pub high : ram.high % 4 ≡ 0
+pub record IsStart (ram : List Region) (words : List (ℕ × ℕ)) : Type 0 where
+  pub ram_is : AreAligned ram
   pub words_are : AreStartWords ram 0 words
 
 -- the accesses of records keep to words

@@ -1,5 +1,5 @@
 // The whole check of a certificate.
-ghost use Rattle.std.specs.Prelude.{◌≡◌, ◌↔◌, ℕ, ◌≤◌, ◌<◌, IsTrue, IfOk, IfErr, IfSome, OnOk, length};
+ghost use Rattle.std.specs.Prelude.{◌≡◌, ◌↔◌, ℕ, ◌≤◌, ◌<◌, IsTrue, IfOk, IfErr, IfSome, None, OnOk, Some, length};
 ghost use Rattle.rv_mem.specs.Part.{part_at};
 ghost use Rattle.rv_script.specs.Memory.{memory_after};
 ghost use Rattle.tpl_admit.specs.declared.certificate.Cert.{Cert as ACert};
@@ -8,10 +8,10 @@ ghost use Rattle.tpl_admit.specs.Races.{footprint_of, footprints_of};
 ghost use Rattle.tpl_admit.specs.WellFormed.{IsWellFormed, IsState};
 ghost use Rattle.tpl_admit.specs.Validity.{in_turn, IsValid};
 ghost use Rattle.tpl_admit.specs.Faithfulness.{IsFaithful};
-ghost use Rattle.tpl_admit.specs.Failures.{HartIsRight, HartGoesWrong, EndsAsTold, MemoryEndsAsTold, IsFirstFailure};
+ghost use Rattle.tpl_admit.specs.Failures.{HartIsRight, HartGoesWrong, AllAreRight, AllEndAsTold, EndsAsTold, FailsInStep, MemoryEndsAsTold, IsFirstFailure};
 ghost use Rattle.replay_check.specs.declared.verdict.Verdict.TheVariants.{Yes, No};
-ghost use Rattle.replay_check.specs.Memory.{ShowsOf, AreInWords};
-ghost use Rattle.replay_check.specs.Replay.{EndsAs, IsFixedTold, IsReplayed};
+ghost use Rattle.replay_check.specs.Memory.{Shows, ShowsOf, WhereShown, AreInWords};
+ghost use Rattle.replay_check.specs.Replay.{AllEndAs, EndsAs, EndsOtherwise, IsFixedTold, IsReplayed};
 
 use crate::memory::{are_last, memory_of};
 use crate::places::are_told;
@@ -20,10 +20,11 @@ use crate::start::hart_in;
 use crate::stepping::{Wrong, take_all};
 use crate::verdict::Kind;
 use crate::{OutOfMemory, Verdict};
-use rv_hart::{Hart, Record};
+use rv_hart::{Hart, Record, apply_all};
 use rv_mem::PartMem;
 use std::alloc::Global;
 use tpl_admit::{Cert, HartState, admits};
+use tpl_ast::template_law;
 
 /// Where hart k starts.
 fn start_state(cert: &Cert, k: u8) -> &HartState
@@ -60,7 +61,9 @@ fn start_memory(alloc: Global, cert: &Cert) -> Result<PartMem, OutOfMemory>
     requires { IsWellFormed cert.now }
     ensures { IfOk result (λ m. ShowsOf cert.now (first_memory cert.now) (part_at m)) }
 {
-    memory_of(alloc, cert.template.ram, cert.words.as_slice())
+    // RAM is whole frames.
+    template_law();
+    memory_of(alloc, cert.template.ram.as_slice(), cert.words.as_slice())
 }
 
 /// Hart k after all its steps alone on the start's memory, or the first of them that is not that of its record.
@@ -114,36 +117,101 @@ fn memory_ends_as_told(cert: &Cert, memory: &PartMem) -> bool
 }
 
 /// Where a certificate fails, and of which kind that is.
+#[derive(Clone, Copy)]
 struct Failure {
     kind: u8,
     hart: u8,
     step: u32,
 }
 
-/// The first step that is not as printed, or else the first end of a hart, or else that of memory.
-fn unlike_machine(alloc: Global, cert: &Cert) -> Result<Option<Failure>, OutOfMemory>
+/// Hart k after all its steps alone, or the first of them that is not that of its record.
+fn alone(alloc: Global, cert: &Cert, k: u8) -> Result<Result<Hart, Wrong>, OutOfMemory>
+    requires well_formed { IsWellFormed cert.now }
+    requires there { k < length cert.now.start }
+    ensures right { IfOk result (λ r. IfOk r (λ h. HartIsRight cert.now k)) }
+    ensures end { IfOk result (λ r. IfOk r (λ h. EndsAs cert.now k h)) }
+    ensures words { IfOk result (λ r. IfOk r (λ h. AreInWords (trace_of cert.now k))) }
+    ensures wrong { IfOk result (λ r. IfErr r (λ w. HartGoesWrong cert.now k w.kind w.step)) }
+{
+    let mut memory = start_memory(alloc, cert)?;
+    Ok(replayed(cert, k, &mut memory))
+}
+
+/// The harts after all their steps, each alone from the start, or the first step that is not that of its record.
+fn all_alone(alloc: Global, cert: &Cert) -> Result<Result<Vec<Hart>, Failure>, OutOfMemory>
     requires { IsWellFormed cert.now }
+    ensures right { IfOk result (λ r. IfOk r (λ harts. AllAreRight cert.now)) }
+    ensures ends { IfOk result (λ r. IfOk r (λ harts. AllEndAs cert.now harts.items)) }
+    ensures words { IfOk result (λ r. IfOk r (λ harts. (k : ℕ) → AreInWords (trace_of cert.now k))) }
+    ensures wrong { IfOk result (λ r. IfErr r (λ f. FailsInStep cert.now f.kind f.hart f.step)) }
+{
+    let mut harts = Vec::new(alloc);
+    for k in 0..cert.start.len() as u8 {
+        match alone(alloc, cert, k)? {
+            Ok(hart) => harts.push(hart)?,
+            Err(Wrong { kind, step }) => return Ok(Err(Failure {
+                kind,
+                hart: k,
+                step,
+            })),
+        }
+    }
+    Ok(Ok(harts))
+}
+
+/// The first hart that does not end as printed.
+fn other_end(cert: &Cert, harts: &[Hart]) -> Option<u8>
+    requires well_formed { IsWellFormed cert.now }
+    requires ends { AllEndAs cert.now harts.now }
+    ensures none { result ≡ None → AllEndAsTold cert.now }
+    ensures some { (k : ℕ) → result ≡ Some k → EndsOtherwise cert.now k }
+{
+    for k in 0..cert.start.len() as u8 {
+        if !ends_as_told(cert, k, &harts[usize::from(k)]) {
+            return Some(k);
+        }
+    }
+    None
+}
+
+/// Does what the records of a hart do to memory.
+fn do_all(memory: &mut PartMem, records: &[Record])
+    requires { AreInWords records.now }
+    ensures { WhereShown (part_at memory.old) (λ ram given m. Shows ram given (memory_after (footprint_of records.now) m) (part_at memory.new)) }
+{
+    for record in records {
+        apply_all(memory, record.accesses.as_slice());
+    }
+}
+
+/// Memory after the records of all harts, hart by hart in ascending order.
+fn end_memory(alloc: Global, cert: &Cert) -> Result<PartMem, OutOfMemory>
+    requires well_formed { IsWellFormed cert.now }
+    requires words { (k : ℕ) → AreInWords (trace_of cert.now k) }
+    ensures { IfOk result (λ m. ShowsOf cert.now (in_turn (length cert.now.start) (footprints_of (trace_of cert.now)) (first_memory cert.now)) (part_at m)) }
+{
+    let mut memory = start_memory(alloc, cert)?;
+    for k in 0..cert.start.len() as u8 {
+        do_all(&mut memory, trace(cert, k));
+    }
+    Ok(memory)
+}
+
+/// The first end of a hart that is not as printed, or else that of memory.
+fn unlike_end(alloc: Global, cert: &Cert, harts: &[Hart]) -> Result<Option<Failure>, OutOfMemory>
+    requires well_formed { IsWellFormed cert.now }
+    requires right { AllAreRight cert.now }
+    requires ends { AllEndAs cert.now harts.now }
+    requires words { (k : ℕ) → AreInWords (trace_of cert.now k) }
     ensures none { IfOk result (λ o. o ≡ None → IsReplayed cert.now) }
     ensures some { IfOk result (λ o. IfSome o (λ f. IsFirstFailure cert.now f.kind f.hart f.step)) }
 {
-    let mut memory = start_memory(alloc, cert)?;
-    let hart = match replayed(cert, 0, &mut memory) {
-        Ok(hart) => hart,
-        Err(Wrong { kind, step }) => return Ok(Some(Failure {
-            kind,
-            hart: 0,
-            step,
-        })),
-    };
     let kind = Kind::OtherEnd as u8;
-    if !ends_as_told(cert, 0, &hart) {
-        let step = trace(cert, 0).len() as u32;
-        return Ok(Some(Failure {
-            kind,
-            hart: 0,
-            step,
-        }));
+    if let Some(hart) = other_end(cert, harts) {
+        let step = trace(cert, hart).len() as u32;
+        return Ok(Some(Failure { kind, hart, step }));
     }
+    let memory = end_memory(alloc, cert)?;
     if !memory_ends_as_told(cert, &memory) {
         let hart = cert.start.len() as u8;
         return Ok(Some(Failure {
@@ -153,6 +221,18 @@ fn unlike_machine(alloc: Global, cert: &Cert) -> Result<Option<Failure>, OutOfMe
         }));
     }
     Ok(None)
+}
+
+/// The first step that is not as printed, or else the first end of a hart, or else that of memory.
+fn unlike_machine(alloc: Global, cert: &Cert) -> Result<Option<Failure>, OutOfMemory>
+    requires { IsWellFormed cert.now }
+    ensures none { IfOk result (λ o. o ≡ None → IsReplayed cert.now) }
+    ensures some { IfOk result (λ o. IfSome o (λ f. IsFirstFailure cert.now f.kind f.hart f.step)) }
+{
+    match all_alone(alloc, cert)? {
+        Ok(harts) => unlike_end(alloc, cert, &harts),
+        Err(failure) => Ok(Some(failure)),
+    }
 }
 
 /// The first record that races, or else where the template does not admit the trace.

@@ -5,6 +5,8 @@
 
 mod checking;
 mod error;
+#[cfg(test)]
+mod fixtures;
 mod lookup;
 mod memory;
 mod places;

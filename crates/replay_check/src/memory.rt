@@ -1,31 +1,44 @@
 // The memory in which a hart runs alone.
-ghost use Rattle.std.specs.Prelude.{◌≡◌, ◌↔◌, ℕ, ◌*◌, ◌/◌, ◌%◌, ◌<◌, IsTrue, IfOk, if◌then◌else◌, length, slice_index, slice_index_or};
+ghost use Rattle.std.specs.Prelude.{◌≡◌, ◌↔◌, ℕ, ◌*◌, ◌/◌, ◌%◌, ◌<◌, IsTrue, IfOk, if◌then◌else◌, length, map, slice_index, slice_index_or};
 ghost use Rattle.rv_mem.specs.declared.words.Seen.TheVariants.{Known, Untouched, Vacant};
 ghost use Rattle.rv_mem.specs.Part.{part_at};
 ghost use Rattle.tpl_admit.specs.Starts.{is_in, zero_elsewhere};
-ghost use Rattle.replay_check.specs.Memory.{given_word, Shows, IsStart};
+ghost use Rattle.replay_check.specs.Memory.{AreAligned, given_word, Shows, IsStart};
 
 use crate::OutOfMemory;
 use rv_mem::{PartMem, Ram, Seen, Words};
-use std::alloc::Global;
-use tpl_form::Region;
+use std::alloc::{AllocError, Global};
+use tpl_ast::Region;
+
+/// The ends of regions.
+fn ends_of(alloc: Global, ram: &[Region]) -> Result<Vec<(u32, u32)>, AllocError>
+    ensures { IfOk result (λ ends. ends.items ≡ map (λ r. (r.low, r.high)) ram.now) }
+{
+    let mut ends = Vec::new(alloc);
+    for region in ram {
+        ends.push((region.low, region.high))?;
+    }
+    Ok(ends)
+}
 
 /// A memory with this RAM of which no word is known.
-fn bare_memory(alloc: Global, ram: Region) -> Result<PartMem, OutOfMemory>
-    requires low { ram.low % 4 ≡ 0 }
-    requires high { ram.high % 4 ≡ 0 }
-    ensures { IfOk result (λ m. (n : ℕ) → part_at m n ≡ (if is_in ram (n * 4) then Untouched else Vacant)) }
+#[tactic(auto, using(crate::proofs::Regions::same_ram))]
+fn bare_memory(alloc: Global, ram: &[Region]) -> Result<PartMem, OutOfMemory>
+    requires { AreAligned ram.now }
+    ensures { IfOk result (λ m. (n : ℕ) → part_at m n ≡ (if is_in ram.now (n * 4) then Untouched else Vacant)) }
 {
-    let mut regions = Vec::new(alloc);
-    regions.push((ram.low, ram.high))?;
-    let ram = Ram::new(regions);
+    let ram = Ram::new(ends_of(alloc, ram)?);
     Ok(PartMem::new(alloc, &ram)?)
 }
 
 /// A memory with this RAM of which just the words of a start, as pairs of address and value, are known.
-pub fn memory_of(alloc: Global, ram: Region, words: &[(u32, u32)]) -> Result<PartMem, OutOfMemory>
-    requires { IsStart ram words.now }
-    ensures { IfOk result (λ m. Shows ram (given_word words.now) (zero_elsewhere (given_word words.now)) (part_at m)) }
+pub fn memory_of(
+    alloc: Global,
+    ram: &[Region],
+    words: &[(u32, u32)],
+) -> Result<PartMem, OutOfMemory>
+    requires { IsStart ram.now words.now }
+    ensures { IfOk result (λ m. Shows ram.now (given_word words.now) (zero_elsewhere (given_word words.now)) (part_at m)) }
 {
     let mut memory = bare_memory(alloc, ram)?;
     for word in words {

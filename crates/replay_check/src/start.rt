@@ -1,5 +1,5 @@
 // A hart as a certificate's start gives it.
-ghost use Rattle.std.specs.Prelude.{◌≡◌, ℕ, true, nat_eq, if◌then◌else◌};
+ghost use Rattle.std.specs.Prelude.{◌≡◌, ℕ, true, nat_eq, if◌then◌else◌, List};
 ghost use Rattle.std.specs.List.{AllByRecursion};
 ghost use Rattle.tpl_ast.specs.declared.template.Region.{Region as ARegion};
 ghost use Rattle.tpl_admit.specs.Starts.{found, is_key, ArePlaces, fixed_in};
@@ -16,7 +16,7 @@ fn give(hart: &mut Hart, key: u32, value: u32)
     requires legal { is_legal_place (key, value) ≡ true }
     requires untouched { known_of hart.old key ≡ None }
     ensures known { (k : ℕ) → known_of hart.new k ≡ (if nat_eq key k then Some value else known_of hart.old k) }
-    ensures fixed { (ram : ARegion) → fixed_now ram hart.new ≡ fixed_now ram hart.old }
+    ensures fixed { (ram : List ARegion) → fixed_now ram hart.new ≡ fixed_now ram hart.old }
 {
     if key < 32 {
         hart.regs[key as usize] = Some(value);
@@ -31,7 +31,7 @@ fn give_all(hart: &mut Hart, places: &[(u32, u32)])
     requires legal { AllByRecursion (λ e. is_legal_place e ≡ true) places.now }
     requires none { (key : ℕ) → known_of hart.old key ≡ None }
     ensures known { (key : ℕ) → known_of hart.new key ≡ found places.now key }
-    ensures fixed { (ram : ARegion) → fixed_now ram hart.new ≡ fixed_now ram hart.old }
+    ensures fixed { (ram : List ARegion) → fixed_now ram hart.new ≡ fixed_now ram hart.old }
 {
     for place in places {
         give(hart, place.0, place.1);
@@ -42,7 +42,7 @@ fn give_all(hart: &mut Hart, places: &[(u32, u32)])
 fn bare_hart(state: &HartState, number: u32) -> Hart
     requires { IsState state.now }
     ensures known { (key : ℕ) → known_of result key ≡ None }
-    ensures fixed { (ram : ARegion) → fixed_now ram result ≡ fixed_in ram number state.now }
+    ensures fixed { (ram : List ARegion) → fixed_now ram result ≡ fixed_in ram number state.now }
 {
     let csrs = Csrs::new(number, state.mstatus, state.medeleg, state.satp);
     Hart::new(state.pc, state.privilege, csrs)
@@ -52,7 +52,7 @@ fn bare_hart(state: &HartState, number: u32) -> Hart
 pub fn hart_in(state: &HartState, number: u32) -> Hart
     requires { IsState state.now }
     ensures known { (key : ℕ) → known_of result key ≡ found state.now.places key }
-    ensures fixed { (ram : ARegion) → fixed_now ram result ≡ fixed_in ram number state.now }
+    ensures fixed { (ram : List ARegion) → fixed_now ram result ≡ fixed_in ram number state.now }
 {
     let mut hart = bare_hart(state, number);
     give_all(&mut hart, state.places.as_slice());

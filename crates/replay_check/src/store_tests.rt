@@ -1,16 +1,18 @@
 // Certificates whose first step stores.
-ghost use Rattle.std.specs.Prelude.{◌≡◌, ◌%◌, ◌≤◌, ◌<◌, [], ◌∷◌, IfOk, length};
+ghost use Rattle.std.specs.Prelude.{◌≡◌, ◌%◌, ◌≤◌, ◌<◌, true, [], ◌∷◌, IfOk, length};
 ghost use Rattle.std.specs.List.{AllByRecursion};
-ghost use Rattle.tpl_form.specs.Form.{Parses};
+ghost use Rattle.tpl_ast.specs.Parsing.{Parses};
+ghost use Rattle.tpl_admit.specs.Starts.{is_in};
 ghost use Rattle.tpl_admit.specs.WellFormed.{IsState, IsAccess, IsRecord, IsWellFormed};
 
+use crate::fixtures::{is_ram, template_of};
 use crate::{Verdict, check};
 use rv_hart::{Outcome, Priv, Record};
 use rv_script::{Access, Accesses, Role};
 use std::alloc::{AllocError, Global};
 use std::test::Fail;
 use tpl_admit::{Cert, HartState};
-use tpl_form::{Items, Template, parse};
+use tpl_ast::{Items, Template};
 
 const BASE: u32 = 0x8000_0000;
 
@@ -211,8 +213,11 @@ fn final_state(alloc: Global, row: &Row) -> Result<HartState, AllocError>
 /// The certificate that a row says.
 fn made(alloc: Global, template: Template, row: &Row) -> Result<Cert, AllocError>
     requires parses { Parses template.text template }
-    requires low { template.ram.low ≤ 0x80000000 }
-    requires high { 0x80000800 < template.ram.high }
+    requires harts { length template.harts ≡ 1 }
+    requires text { length template.text ≤ 65536 }
+    requires code { is_in template.ram 0x80000000 ≡ true }
+    requires next { is_in template.ram 0x80000004 ≡ true }
+    requires value { is_in template.ram 0x80000800 ≡ true }
     ensures { IfOk result IsWellFormed }
 {
     let start = state(alloc, BASE, row.pointer, row.value)?;
@@ -226,6 +231,9 @@ fn made(alloc: Global, template: Template, row: &Row) -> Result<Cert, AllocError
         finals: single(alloc, end)?,
         last: Items::from_slice(alloc, &last)?,
         template,
+        choices: Items::new(alloc),
+        names: Items::new(alloc),
+        dropped: Items::new(alloc),
     })
 }
 
@@ -323,9 +331,10 @@ fn stores_are_replayed(rt: HostRuntime) -> Result<(), Fail> {
         },
     ] {
         let name = row.name;
-        let template = parse(alloc, TEXT.as_bytes())?;
-        assert!(rt; template.ram.low <= BASE, "{name}");
-        assert!(rt; DATA < template.ram.high, "{name}");
+        let template = template_of(&rt, alloc, TEXT)?;
+        assert!(rt; is_ram(template.ram.as_slice(), BASE), "{name}");
+        assert!(rt; is_ram(template.ram.as_slice(), BASE + 4), "{name}");
+        assert!(rt; is_ram(template.ram.as_slice(), DATA), "{name}");
         let cert = made(alloc, template, &row)?;
         assert_eq!(rt; check(alloc, &cert)?, row.want, "{name}");
     }

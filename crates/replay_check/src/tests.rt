@@ -1,16 +1,17 @@
 ghost use Rattle.std.specs.Prelude.{◌≡◌, ◌%◌, ◌≤◌, ◌<◌, true, [], ◌∷◌, IfOk, length};
 ghost use Rattle.std.specs.List.{AllByRecursion};
-ghost use Rattle.tpl_form.specs.Form.{Parses};
-ghost use Rattle.tpl_admit.specs.Starts.{ArePlaces};
+ghost use Rattle.tpl_ast.specs.Parsing.{Parses};
+ghost use Rattle.tpl_admit.specs.Starts.{is_in, ArePlaces};
 ghost use Rattle.tpl_admit.specs.WellFormed.{is_legal_place, IsState, IsRecord, IsWellFormed};
 
+use crate::fixtures::{is_ram, template_of};
 use crate::{Verdict, check};
 use rv_hart::{Outcome, Priv, Record};
 use rv_script::{Access, Accesses, Role};
 use std::alloc::{AllocError, Global};
 use std::test::Fail;
 use tpl_admit::{Cert, HartState, Unmet, admits};
-use tpl_form::{Items, Template, parse};
+use tpl_ast::{Items, Template};
 
 const BASE: u32 = 0x8000_0000;
 
@@ -142,8 +143,9 @@ fn single<T: Drop>(alloc: Global, item: T) -> Result<Items<T>, AllocError>
 /// The certificate that a row says.
 fn made(alloc: Global, template: Template, row: &Row) -> Result<Cert, AllocError>
     requires parses { Parses template.text template }
-    requires low { template.ram.low ≤ 0x80000000 }
-    requires high { 0x80000000 < template.ram.high }
+    requires harts { length template.harts ≡ 1 }
+    requires text { length template.text ≤ 65536 }
+    requires there { is_in template.ram 0x80000000 ≡ true }
     ensures { IfOk result IsWellFormed }
 {
     let start = state(BASE, places(alloc, None, row.given)?);
@@ -155,6 +157,9 @@ fn made(alloc: Global, template: Template, row: &Row) -> Result<Cert, AllocError
         finals: single(alloc, end)?,
         last: single(alloc, row.last)?,
         template,
+        choices: Items::new(alloc),
+        names: Items::new(alloc),
+        dropped: Items::new(alloc),
     })
 }
 
@@ -304,9 +309,8 @@ do op in {addi}; rd in {5}; rs1 in {0}; imm in {-7}
             "ram 0x80000000 0x80001000\npool 0x80000000\nhart 0 {{\nstart pc {}",
             row.template
         )?;
-        let template = parse(alloc, text.as_bytes())?;
-        assert!(rt; template.ram.low <= BASE, "{name}");
-        assert!(rt; BASE < template.ram.high, "{name}");
+        let template = template_of(&rt, alloc, text.as_str())?;
+        assert!(rt; is_ram(template.ram.as_slice(), BASE), "{name}");
         let cert = made(alloc, template, &row)?;
         assert_eq!(rt; check(alloc, &cert)?, row.want, "{name}");
         assert_eq!(rt; admits(&cert), row.unmet, "{name}");

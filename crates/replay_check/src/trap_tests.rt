@@ -3,10 +3,11 @@ ghost use Rattle.std.specs.Prelude.{◌≡◌, ◌%◌, ◌≤◌, ◌<◌, true
 ghost use Rattle.std.specs.List.{AllByRecursion};
 ghost use Rattle.rv_csr.specs.Causes.{number_of};
 ghost use Rattle.rv_csr.specs.Table.{is_legal_at};
-ghost use Rattle.tpl_form.specs.Form.{Parses};
-ghost use Rattle.tpl_admit.specs.Starts.{ArePlaces};
+ghost use Rattle.tpl_ast.specs.Parsing.{Parses};
+ghost use Rattle.tpl_admit.specs.Starts.{is_in, ArePlaces};
 ghost use Rattle.tpl_admit.specs.WellFormed.{is_legal_place, IsState, IsRecord, IsWellFormed};
 
+use crate::fixtures::{is_ram, template_of};
 use crate::{Verdict, check};
 use rv_csr::{Cause, legal};
 use rv_hart::{Outcome, Priv, Record};
@@ -15,7 +16,7 @@ use std::alloc::{AllocError, Global};
 use std::process::Abort;
 use std::test::Fail;
 use tpl_admit::{Cert, HartState};
-use tpl_form::{Items, Template, parse};
+use tpl_ast::{Items, Template};
 
 const BASE: u32 = 0x8000_0000;
 
@@ -231,8 +232,9 @@ fn made(alloc: Global, template: Template, row: &Row) -> Result<Cert, AllocError
     requires status { is_legal_at 0x300 row.now.status ≡ true }
     requires delegation { is_legal_at 0x302 row.now.medeleg ≡ true }
     requires parses { Parses template.text template }
-    requires low { template.ram.low ≤ 0x80000000 }
-    requires high { 0x80000000 < template.ram.high }
+    requires harts { length template.harts ≡ 1 }
+    requires text { length template.text ≤ 65536 }
+    requires there { is_in template.ram 0x80000000 ≡ true }
     ensures { IfOk result IsWellFormed }
 {
     let start = state(BASE, row.from, 0, row.medeleg, given(alloc, row)?);
@@ -245,6 +247,9 @@ fn made(alloc: Global, template: Template, row: &Row) -> Result<Cert, AllocError
         finals: single(alloc, end)?,
         last: single(alloc, row.word)?,
         template,
+        choices: Items::new(alloc),
+        names: Items::new(alloc),
+        dropped: Items::new(alloc),
     })
 }
 
@@ -271,13 +276,12 @@ do op in {addi}; rd in {5}; rs1 in {0}; imm in {7}
 /// The verdict on a row's certificate is the one that the row wants.
 fn assert_told(rt: &impl Abort, alloc: Global, row: &Row) -> Result<(), Fail> {
     let name = row.name;
-    let template = parse(alloc, TEXT.as_bytes())?;
+    let template = template_of(rt, alloc, TEXT)?;
     assert!(rt; row.epc % 4 == 0, "{name}");
     assert!(rt; is_cause_legal(row), "{name}");
     assert!(rt; legal(0x300, row.status), "{name}");
     assert!(rt; legal(0x302, row.medeleg), "{name}");
-    assert!(rt; template.ram.low <= BASE, "{name}");
-    assert!(rt; BASE < template.ram.high, "{name}");
+    assert!(rt; is_ram(template.ram.as_slice(), BASE), "{name}");
     let cert = made(alloc, template, row)?;
     assert_eq!(rt; check(alloc, &cert)?, row.want, "{name}");
     Ok(())

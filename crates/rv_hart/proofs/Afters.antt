@@ -15,20 +15,21 @@ use Rattle.rv_csr.specs.Table.{csr_address, csr_key}
 use Rattle.rv_script.specs.declared.access.Access.{Access}
 use Rattle.rv_script.specs.declared.place.Place.{Place}
 use Rattle.rv_script.specs.declared.place.Place.TheVariants.{Reg, Csr, Word}
-use Rattle.rv_script.specs.Folds.{Known, Answer, Answer.Does, Answer.Missing as Lacks, Answer.Nowhere, answer_on}
+use Rattle.rv_script.specs.Folds.{Known, Answer, Answer.Does, Answer.Missing as Lacks, Answer.Nowhere, Teller}
 use Rattle.rv_script.specs.Memory.{word_after, accessed, memory_after}
 use Rattle.rv_hart.specs.declared.hart.Hart.{Hart}
 use Rattle.rv_hart.specs.declared.record.Change.{Change}
 use Rattle.rv_hart.specs.Changes.{IsSoundWrite, csrs_after, fixed_after, given_by, privilege_after, writes_of}
-use Rattle.rv_hart.specs.Clauses.{is_written, IsDone}
+use Rattle.rv_hart.specs.Clauses.{is_written, IsDoneWith}
 use Rattle.rv_hart.specs.Effects.{seen_word_after, seen_accessed, seen_after}
 use Rattle.rv_hart.specs.Fixed.{Fixed, fixed_csrs}
 use Rattle.rv_hart.specs.Machine.{script}
 use Rattle.rv_hart.specs.Registers.{written}
+use Rattle.rv_hart.specs.Sighted.{answer_seen}
 use Rattle.rv_hart.specs.View.{known, fixed_of, change_in}
 use Rattle.rv_hart.specs.Whole.{value_at, record_of, step_by, file_after}
 use Rattle.rv_hart.proofs.Overlays.{or_old, over_control, over_at}
-use Rattle.rv_hart.proofs.Steps.{takes}
+use Rattle.rv_hart.proofs.Steps.{told_by}
 
 -- ---- words
 
@@ -220,13 +221,13 @@ fixed_now h new at new_at xs c w =
 
 -- ---- the step
 
-pub done : (h new : Hart) (at new_at : ℕ → Seen) (xs : List Access) (c : Change) → answer_on (known h at) (script (fixed_of h at)) ≡ Does xs c → Went h new at new_at xs c
-    → IsDone (fixed_of h at) (known h at) (record_of (fixed_of h at) xs c) (fixed_of new new_at) (known new new_at)
-done h new at new_at xs c answered w = record {
+pub done : (sights : Teller) (h new : Hart) (at new_at : ℕ → Seen) (xs : List Access) (c : Change) → answer_seen sights (known h at) (script (fixed_of h at)) ≡ Does xs c → Went h new at new_at xs c
+    → IsDoneWith sights (fixed_of h at) (known h at) (record_of (fixed_of h at) xs c) (fixed_of new new_at) (known new new_at)
+done sights h new at new_at xs c answered w = record {
   step = step_by (fixed_of h at) xs c;
   did = refl;
   wholes = λ x words has. (
-    (takes (fixed_of h at) (known h at) x words xs c has answered).step,
+    (told_by sights (fixed_of h at) (known h at) x words xs c has answered).step,
     record {
       fixed = fixed_now h new at new_at xs c w;
       values = values_after h new at new_at xs c w x.file words has.values;

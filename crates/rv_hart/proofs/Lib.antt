@@ -6,4 +6,5 @@ pub mod Stores
 pub mod CsrPlaces
 pub mod Overlays
 pub mod Afters
+pub mod Walks
 pub mod Reaches

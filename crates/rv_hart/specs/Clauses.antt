@@ -1,4 +1,5 @@
--- What a step on known places says of whole harts and memories.
+-- What a step on known places says of whole harts and memories. The words that end in With are of a step that sees sights, and a place whose
+-- word has one counts as known; the same words without With are of the step without sights.
 use Rattle.std.specs.Prelude.{◌≡◌, ◌↔◌, ℕ, ◌%◌, Bool, false, ◌&&◌, ◌||◌, nat_lt, All, IsTrue, IsSome, List, Option, Some, None}
 use Rattle.std.specs.Option.{unwrap_or, is_some}
 use Rattle.rv_isa.specs.declared.operation.Op.{Op}
@@ -10,8 +11,8 @@ use Rattle.rv_script.specs.declared.access.Access.{Access}
 use Rattle.rv_script.specs.declared.place.Place.{Place}
 use Rattle.rv_script.specs.declared.place.Place.TheVariants.{Reg, Csr, Word}
 use Rattle.rv_script.specs.Lists.{HasItem}
-use Rattle.rv_script.specs.Script.{place_of}
-use Rattle.rv_script.specs.Folds.{Known, by_known, Sight, Entry, Answer.Does as DoesSo, answer_on, asked_of, first_missing}
+use Rattle.rv_script.specs.Script.{Question}
+use Rattle.rv_script.specs.Folds.{Known, Teller, Sight, Entry, Answer.Does as DoesSo, answer_on, asked_of, first_missing}
 use Rattle.rv_script.specs.Laws.{IsSeenAlike}
 use Rattle.rv_script.specs.Memory.{memory_after}
 use Rattle.rv_hart.specs.declared.record.Change.{Change}
@@ -24,6 +25,7 @@ use Rattle.rv_hart.specs.Changes.{IsSoundChange, IsSoundWrite}
 use Rattle.rv_hart.specs.Effects.{IsInWord}
 use Rattle.rv_hart.specs.Fixed.{Fixed}
 use Rattle.rv_hart.specs.Machine.{script, is_taken}
+use Rattle.rv_hart.specs.Sighted.{no_sights, sighted, told_with, seen_with, step_seen_of}
 use Rattle.rv_hart.specs.Whole.{WholeHart, value_at, sight_of, Step, step_by, step_of, needed_places, hart_after}
 
 -- a whole hart and memory have these fixed parts and all that is known
@@ -37,30 +39,45 @@ stepped_by (Some place) step = Missing place
 stepped_by None None = Outside
 stepped_by None (Some s) = Did s.did
 
+-- the first place that the step needs, that has no sight and that is not known
+abbrev pub first_needed_with : Teller → Known → WholeHart → (ℕ → ℕ) → Option Place
+first_needed_with sights known h words = first_missing (told_with sights known) (asked_of (script h.fixed) (seen_with sights (sight_of h.file words)))
+
 abbrev pub first_needed : Known → WholeHart → (ℕ → ℕ) → Option Place
-first_needed known h words = first_missing (by_known known) (asked_of (script h.fixed) (sight_of h.file words))
+first_needed known h words = first_needed_with no_sights known h words
 
 -- the answer is that of every whole hart and memory that have what is known
-abbrev pub IsMachineStep : Fixed → Known → Stepped → Type 0
-IsMachineStep f known result = (h : WholeHart) (words : ℕ → ℕ) → Has f known h words → result ≡ stepped_by (first_needed known h words) (step_of h words)
+abbrev pub IsMachineStepWith : Teller → Fixed → Known → Stepped → Type 0
+IsMachineStepWith sights f known result = (h : WholeHart) (words : ℕ → ℕ) → Has f known h words → result ≡ stepped_by (first_needed_with sights known h words) (step_seen_of sights h words)
 
--- what is known, and zero elsewhere
-abbrev pub zero_filled : Known → Sight
-zero_filled known q = unwrap_or (known (place_of q)) 0
+abbrev pub IsMachineStep : Fixed → Known → Stepped → Type 0
+IsMachineStep f known result = IsMachineStepWith no_sights f known result
+
+-- what is told, and zero elsewhere
+abbrev pub zero_filled : Teller → Sight
+zero_filled tell q = unwrap_or (tell q) 0
+
+-- a question that has a sight does not rest on the state; the others see alike
+abbrev pub IsAlike : Option ℕ → Question → ℕ → ℕ → Type 0
+IsAlike (Some sight) q v w = Unit {0}
+IsAlike None q v w = IsSeenAlike q v w
 
 -- there is one step with this record that each whole hart makes which has these fixed parts and the registers and CSRs that the step asked
 -- for, over each memory that has the bytes that it looked at
-abbrev pub IsLocal : Fixed → Known → Record → Type 0
-IsLocal f known r =
+abbrev pub IsLocal : Teller → Fixed → Known → Record → Type 0
+IsLocal sights f known r =
     (s : Step) × (s.did ≡ r)
     × ((h : WholeHart) (words : ℕ → ℕ) → h.fixed ≡ f
-    → ((e : Entry) → HasItem (asked_of (script f) (zero_filled known)) e → IsSeenAlike e.question e.value (sight_of h.file words e.question))
-    → step_of h words ≡ Some s)
+    → ((e : Entry) → HasItem (asked_of (script f) (zero_filled (told_with sights known))) e → IsAlike (sights e.question) e.question e.value (sight_of h.file words e.question))
+    → step_seen_of sights h words ≡ Some s)
+
+abbrev pub IsLocalStepWith : Teller → Fixed → Known → Stepped → Type 0
+IsLocalStepWith sights f known (Did r) = IsLocal sights f known r
+IsLocalStepWith sights f known (Missing place) = Unit {0}
+IsLocalStepWith sights f known Outside = Unit {0}
 
 abbrev pub IsLocalStep : Fixed → Known → Stepped → Type 0
-IsLocalStep f known (Did r) = IsLocal f known r
-IsLocalStep f known (Missing place) = Unit {0}
-IsLocalStep f known Outside = Unit {0}
+IsLocalStep f known result = IsLocalStepWith no_sights f known result
 
 -- a register or lazy CSR is written
 abbrev pub is_written : (ℕ → Option ℕ) → Place → Bool
@@ -69,24 +86,30 @@ is_written writes (Csr addr) = is_some (writes (csr_key addr))
 is_written writes (Word addr) = false
 
 -- from what was known to what is known, by a step
-pub record IsDone (f : Fixed) (known : Known) (r : Record) (new_f : Fixed) (new_known : Known) : Type 0 where
+pub record IsDoneWith (sights : Teller) (f : Fixed) (known : Known) (r : Record) (new_f : Fixed) (new_known : Known) : Type 0 where
   pub step : Step
   pub did : step.did ≡ r
   -- each whole hart and memory that have what was known make this step, and with its changes they have what is known
-  pub wholes : (h : WholeHart) (words : ℕ → ℕ) → Has f known h words → (step_of h words ≡ Some step) × Has new_f new_known (hart_after step h) (memory_after r.accesses words)
+  pub wholes : (h : WholeHart) (words : ℕ → ℕ) → Has f known h words → (step_seen_of sights h words ≡ Some step) × Has new_f new_known (hart_after step h) (memory_after r.accesses words)
   pub fixed : step.fixed ≡ new_f
   -- known are the places that were known, and those that were written
   pub places : (place : Place) → is_some (new_known place) ≡ (is_written step.writes place || is_some (known place))
+
+abbrev pub IsDone : Fixed → Known → Record → Fixed → Known → Type 0
+IsDone f known r new_f new_known = IsDoneWith no_sights f known r new_f new_known
 
 -- from what was known to what is known, where nothing was done
 pub record IsKept (f : Fixed) (known : Known) (new_f : Fixed) (new_known : Known) : Type 0 where
   pub fixed : new_f ≡ f
   pub places : (place : Place) → new_known place ≡ known place
 
+abbrev pub IsAfterWith : Teller → Fixed → Known → Stepped → Fixed → Known → Type 0
+IsAfterWith sights f known (Did r) new_f new_known = IsDoneWith sights f known r new_f new_known
+IsAfterWith sights f known (Missing place) new_f new_known = IsKept f known new_f new_known
+IsAfterWith sights f known Outside new_f new_known = IsKept f known new_f new_known
+
 abbrev pub IsAfter : Fixed → Known → Stepped → Fixed → Known → Type 0
-IsAfter f known (Did r) new_f new_known = IsDone f known r new_f new_known
-IsAfter f known (Missing place) new_f new_known = IsKept f known new_f new_known
-IsAfter f known Outside new_f new_known = IsKept f known new_f new_known
+IsAfter f known result new_f new_known = IsAfterWith no_sights f known result new_f new_known
 
 -- what would be done can be done, and leaves a hart as it must be
 abbrev pub IsSound : Priv → CsrValues → Looked → Type 0
@@ -118,3 +141,7 @@ ToldAreTaken = (f : Fixed) (known : Known) (h : WholeHart) (words : ℕ → ℕ)
 -- a branch is taken where its condition holds (Unprivileged, 2.5.2)
 abbrev pub TakenAreTaken : Type 0
 TakenAreTaken = (op : Op) (x y : ℕ) → IsTrue (is_taken op x y) ↔ IsTaken op x y
+
+-- a step without sights is the step
+abbrev pub IsSightless : Type 0
+IsSightless = (h : WholeHart) (words : ℕ → ℕ) → step_seen_of (sighted (λ role addr. None)) h words ≡ step_of h words

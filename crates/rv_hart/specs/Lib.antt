@@ -4,6 +4,7 @@ pub mod Changes
 pub mod Privileged
 pub mod Machine
 pub mod Whole
+pub mod Sighted
 pub mod View
 pub mod Reaching
 pub mod Effects

@@ -59,6 +59,23 @@ pub const MTVAL: u16 = 0x343;
 
 pub const MHARTID: u16 = 0xF14;
 
+/// The root table stands at 0x80001000.
+pub const TABLES: u32 = 0x8008_0001;
+
+/// A virtual address, with the places of its root entry and its second entry.
+pub const VA: u32 = 0x0040_0ABC;
+
+pub const ROOT: u32 = 0x8000_1004;
+
+pub const SECOND: u32 = 0x8000_2000;
+
+/// An entry of the root table that leads to the second one.
+pub const POINTER: u32 = 0x2000_0801;
+
+pub const STORE: u32 = 0x0052_A023; // sw x5, 0(x5)
+
+pub const ADDI: u32 = 0x0070_0293; // addi x5, x0, 7
+
 /// RAM of these regions, of which nothing is known.
 pub fn untouched(alloc: Global, low: u32, high: u32) -> Result<PartMem, OutOfMemory>
     requires { (low % 4 ≡ 0) × (high % 4 ≡ 0) }
@@ -79,6 +96,14 @@ pub fn put_all(rt: &impl Abort, memory: &mut PartMem, words: &[(u32, u32)]) {
 /// RAM of which these words are known.
 pub fn known(rt: &impl Abort, alloc: Global, words: &[(u32, u32)]) -> PartMem {
     let mut memory = untouched(alloc, RAM, BEYOND).expect(rt, "memory");
+    put_all(rt, &mut memory, words);
+    memory
+}
+
+/// RAM from 0x80000000 to 0x80004000 of which these words are known.
+pub fn pages(rt: &impl Abort, alloc: Global, words: &[(u32, u32)]) -> PartMem {
+    let ram = Ram::new(vec![in alloc; (RAM, 0x8000_4000)].expect(rt, "memory"));
+    let mut memory = PartMem::new(alloc, &ram).expect(rt, "memory");
     put_all(rt, &mut memory, words);
     memory
 }
@@ -261,7 +286,8 @@ pub fn unfetched(hart: &Hart, cause: u8, to: Priv) -> Done {
     done
 }
 
-fn assert_same(rt: &impl Abort, hart: &Hart, want: &Hart, word: u32) {
+/// The hart is this one.
+pub fn assert_same(rt: &impl Abort, hart: &Hart, want: &Hart, word: u32) {
     assert_eq!(rt; hart.pc, want.pc, "pc after {word:#x}");
     assert_eq!(rt; hart.privilege, want.privilege, "privilege after {word:#x}");
     assert_eq!(rt; hart.regs, want.regs, "registers after {word:#x}");
@@ -284,6 +310,25 @@ fn assert_step(
     assert_same(rt, hart, want, word);
 }
 
+/// The hart after a step with this record that ends in this privilege and changes these CSRs.
+pub fn left_by(
+    rt: &impl Abort,
+    hart: &Hart,
+    done: &Done,
+    to: Priv,
+    changes: &[(u16, u32)],
+) -> Hart {
+    let mut left = copy_of(hart);
+    assert_eq!(rt; done.next_pc % 4, 0);
+    left.pc = done.next_pc;
+    left.privilege = to;
+    write_all(rt, &mut left.csrs, changes);
+    if let Some((n, value)) = done.rd {
+        give_all(rt, &mut left, &[(n, value)]);
+    }
+    left
+}
+
 /// The step has this record, ends in this privilege and changes these CSRs, and nothing else.
 pub fn assert_did(
     rt: &impl Abort,
@@ -293,14 +338,7 @@ pub fn assert_did(
     to: Priv,
     changes: &[(u16, u32)],
 ) {
-    let mut want = copy_of(hart);
-    assert_eq!(rt; done.next_pc % 4, 0);
-    want.pc = done.next_pc;
-    want.privilege = to;
-    write_all(rt, &mut want.csrs, changes);
-    if let Some((n, value)) = done.rd {
-        give_all(rt, &mut want, &[(n, value)]);
-    }
+    let want = left_by(rt, hart, &done, to, changes);
     assert_step(rt, hart, memory, done.word, Told::Did(done), &want);
 }
 

@@ -1,5 +1,5 @@
 // Laws of the machine.
-ghost use Rattle.rv_hart.specs.Clauses.{TakenAreTaken, ToldAreTaken};
+ghost use Rattle.rv_hart.specs.Clauses.{IsSightless, TakenAreTaken, ToldAreTaken};
 
 /// Does nothing. Its contract says that the machine takes a branch exactly where the branch's condition holds.
 #[tactic(auto, using(crate::proofs::Branches::taken_are_taken))]
@@ -11,4 +11,10 @@ pub fn branch_law()
 /// and needs no place that isn't known.
 pub fn step_law()
     ensures { ToldAreTaken }
+{}
+
+/// Does nothing. Its contract says that a step that sees no sight is the step.
+#[tactic(auto, using(crate::proofs::Steps::sightless))]
+pub fn no_sights_law()
+    ensures { IsSightless }
 {}

@@ -14,6 +14,10 @@ mod privileged;
 mod reaching;
 mod record;
 mod rows;
+mod seeing;
+#[cfg(test)]
+mod sighted_tests;
+mod sights;
 mod stepping;
 mod storing;
 #[cfg(test)]
@@ -24,9 +28,11 @@ mod translated_tests;
 mod trap_tests;
 
 pub use hart::Hart;
-pub use laws::{branch_law, step_law};
+pub use laws::{branch_law, no_sights_law, step_law};
 pub use record::{Change, Control, Outcome, Record, Stepped};
 pub use rv_csr::{Csrs, Priv};
 pub use rv_mem::{Mem, Seen, Words};
 pub use rv_script::{Access, Accesses, Place, Role};
-pub use stepping::{look, step};
+pub use sights::{NoSights, Sights};
+pub use stepping::{look, step, step_seen};
+pub use storing::apply_all;

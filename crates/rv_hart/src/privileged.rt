@@ -1,14 +1,16 @@
 // Traps, instructions on control and status registers, and returns from traps.
 ghost use Rattle.std.specs.Prelude.{◌≡◌};
-ghost use Rattle.rv_script.specs.Folds.{answer_on, prefixed};
+ghost use Rattle.rv_script.specs.Folds.{prefixed};
 ghost use Rattle.rv_isa.specs.Encoding.{IsInRange};
 ghost use Rattle.rv_hart.specs.Privileged.{lazy_address, trap, refused, is_swap, writes_csr, csr_result, write_csr, csr_granted, csr_row, csr_immediate_row, mret_row, sret_row, is_withheld, address_fence_row, call_row};
 ghost use Rattle.rv_hart.specs.Changes.{IsSoundWrite};
+ghost use Rattle.rv_hart.specs.Sighted.{answer_seen, sighted};
 ghost use Rattle.rv_hart.specs.View.{known, fixed_of, looked};
 ghost use Rattle.rv_hart.specs.Clauses.{IsSound};
 
 use crate::looked::{Looked, go_to, rd_of, retire};
-use crate::{Control, Hart, Words};
+use crate::seeing::Sighted;
+use crate::{Control, Hart};
 use rv_csr::{Cause, CsrAccess, Flag, LazyRegister, Priv, Register, row_of, vector_register};
 use rv_isa::{Instr, Op};
 use rv_script::{Accesses, Place};
@@ -22,7 +24,7 @@ fn place_of(register: LazyRegister) -> Place
 
 /// A trap.
 #[tactic(auto, using(crate::proofs::Prefixes::prefixed_none, crate::proofs::CsrPlaces::own_address), unfolding(crate::specs::Privileged::trap))]
-pub fn trap<M: Words>(
+pub fn trap<M: Sighted>(
     h: &Hart,
     m: &M,
     word: u32,
@@ -31,7 +33,7 @@ pub fn trap<M: Words>(
     log: &Accesses,
 ) -> Looked
     ensures sound { IsSound h.now.privilege h.now.csrs result }
-    ensures answer { looked log.now result ≡ prefixed log.now (answer_on (known h.now (M.at m.now)) (trap (fixed_of h.now (M.at m.now)) word cause value)) }
+    ensures answer { looked log.now result ≡ prefixed log.now (answer_seen (sighted (M.sights m.now)) (known h.now (M.at m.now)) (trap (fixed_of h.now (M.at m.now)) word cause value)) }
 {
     let number = cause.number();
     match h.csrs.vector(h.privilege, number) {
@@ -47,17 +49,17 @@ pub fn trap<M: Words>(
 }
 
 /// An illegal instruction.
-pub fn refuse<M: Words>(h: &Hart, m: &M, word: u32, log: &Accesses) -> Looked
+pub fn refuse<M: Sighted>(h: &Hart, m: &M, word: u32, log: &Accesses) -> Looked
     ensures sound { IsSound h.now.privilege h.now.csrs result }
-    ensures answer { looked log.now result ≡ prefixed log.now (answer_on (known h.now (M.at m.now)) (refused (fixed_of h.now (M.at m.now)) word)) }
+    ensures answer { looked log.now result ≡ prefixed log.now (answer_seen (sighted (M.sights m.now)) (known h.now (M.at m.now)) (refused (fixed_of h.now (M.at m.now)) word)) }
 {
     trap(h, m, word, Cause::Illegal, word, log)
 }
 
 /// ECALL.
-pub fn call<M: Words>(h: &Hart, m: &M, word: u32, log: &Accesses) -> Looked
+pub fn call<M: Sighted>(h: &Hart, m: &M, word: u32, log: &Accesses) -> Looked
     ensures sound { IsSound h.now.privilege h.now.csrs result }
-    ensures answer { looked log.now result ≡ prefixed log.now (answer_on (known h.now (M.at m.now)) (call_row (fixed_of h.now (M.at m.now)) word)) }
+    ensures answer { looked log.now result ≡ prefixed log.now (answer_seen (sighted (M.sights m.now)) (known h.now (M.at m.now)) (call_row (fixed_of h.now (M.at m.now)) word)) }
 {
     let cause = match h.privilege {
         Priv::U => Cause::CallFromU,
@@ -94,7 +96,7 @@ fn csr_result(op: Op, old: u32, operand: u32) -> u32
 
 /// A write of a value that is known, which has to be legal.
 #[tactic(auto, using(crate::proofs::Prefixes::prefixed_none))]
-fn write_csr<M: Words>(
+fn write_csr<M: Sighted>(
     h: &Hart,
     m: &M,
     word: u32,
@@ -105,7 +107,7 @@ fn write_csr<M: Words>(
 ) -> Looked
     requires { IsSoundWrite rd }
     ensures sound { IsSound h.now.privilege h.now.csrs result }
-    ensures answer { looked log.now result ≡ prefixed log.now (answer_on (known h.now (M.at m.now)) (write_csr (fixed_of h.now (M.at m.now)) word rd register value)) }
+    ensures answer { looked log.now result ≡ prefixed log.now (answer_seen (sighted (M.sights m.now)) (known h.now (M.at m.now)) (write_csr (fixed_of h.now (M.at m.now)) word rd register value)) }
 {
     if row_of(register).allows(value) {
         let next_pc = h.pc.wrapping_add(4);
@@ -117,7 +119,7 @@ fn write_csr<M: Words>(
 
 /// An access to a CSR that is granted, with a known operand.
 #[tactic(auto, using(crate::proofs::Prefixes::prefixed_none, crate::proofs::CsrPlaces::old_told), unfolding(crate::specs::Privileged::csr_granted))]
-fn granted<M: Words>(
+fn granted<M: Sighted>(
     h: &Hart,
     m: &M,
     word: u32,
@@ -129,7 +131,7 @@ fn granted<M: Words>(
 ) -> Looked
     requires { IsInRange i.now }
     ensures sound { IsSound h.now.privilege h.now.csrs result }
-    ensures answer { looked log.now result ≡ prefixed log.now (answer_on (known h.now (M.at m.now)) (csr_granted (fixed_of h.now (M.at m.now)) word i.now writes register operand)) }
+    ensures answer { looked log.now result ≡ prefixed log.now (answer_seen (sighted (M.sights m.now)) (known h.now (M.at m.now)) (csr_granted (fixed_of h.now (M.at m.now)) word i.now writes register operand)) }
 {
     if is_swap(i.op) && i.rd == 0 {
         return write_csr(h, m, word, None, register, operand, log);
@@ -148,10 +150,10 @@ fn granted<M: Words>(
 
 /// CSRRW, CSRRS and CSRRC.
 #[tactic(auto, unfolding(crate::specs::Privileged::csr_row))]
-pub fn csr_register<M: Words>(h: &Hart, m: &M, word: u32, i: &Instr, log: &Accesses) -> Looked
+pub fn csr_register<M: Sighted>(h: &Hart, m: &M, word: u32, i: &Instr, log: &Accesses) -> Looked
     requires { IsInRange i.now }
     ensures sound { IsSound h.now.privilege h.now.csrs result }
-    ensures answer { looked log.now result ≡ prefixed log.now (answer_on (known h.now (M.at m.now)) (csr_row (fixed_of h.now (M.at m.now)) word i.now)) }
+    ensures answer { looked log.now result ≡ prefixed log.now (answer_seen (sighted (M.sights m.now)) (known h.now (M.at m.now)) (csr_row (fixed_of h.now (M.at m.now)) word i.now)) }
 {
     let writes = writes_csr(i.op, u32::from(i.rs1));
     match h.csrs.access(i.csr, h.privilege, writes) {
@@ -166,10 +168,10 @@ pub fn csr_register<M: Words>(h: &Hart, m: &M, word: u32, i: &Instr, log: &Acces
 
 /// CSRRWI, CSRRSI and CSRRCI.
 #[tactic(auto, unfolding(crate::specs::Privileged::csr_immediate_row))]
-pub fn csr_immediate<M: Words>(h: &Hart, m: &M, word: u32, i: &Instr, log: &Accesses) -> Looked
+pub fn csr_immediate<M: Sighted>(h: &Hart, m: &M, word: u32, i: &Instr, log: &Accesses) -> Looked
     requires { IsInRange i.now }
     ensures sound { IsSound h.now.privilege h.now.csrs result }
-    ensures answer { looked log.now result ≡ prefixed log.now (answer_on (known h.now (M.at m.now)) (csr_immediate_row (fixed_of h.now (M.at m.now)) word i.now)) }
+    ensures answer { looked log.now result ≡ prefixed log.now (answer_seen (sighted (M.sights m.now)) (known h.now (M.at m.now)) (csr_immediate_row (fixed_of h.now (M.at m.now)) word i.now)) }
 {
     let writes = writes_csr(i.op, i.imm);
     match h.csrs.access(i.csr, h.privilege, writes) {
@@ -181,9 +183,9 @@ pub fn csr_immediate<M: Words>(h: &Hart, m: &M, word: u32, i: &Instr, log: &Acce
 
 /// MRET.
 #[tactic(auto, using(crate::proofs::Prefixes::prefixed_none, crate::proofs::CsrPlaces::own_address), unfolding(crate::specs::Privileged::mret_row))]
-pub fn return_from_machine<M: Words>(h: &Hart, m: &M, word: u32, log: &Accesses) -> Looked
+pub fn return_from_machine<M: Sighted>(h: &Hart, m: &M, word: u32, log: &Accesses) -> Looked
     ensures sound { IsSound h.now.privilege h.now.csrs result }
-    ensures answer { looked log.now result ≡ prefixed log.now (answer_on (known h.now (M.at m.now)) (mret_row (fixed_of h.now (M.at m.now)) word)) }
+    ensures answer { looked log.now result ≡ prefixed log.now (answer_seen (sighted (M.sights m.now)) (known h.now (M.at m.now)) (mret_row (fixed_of h.now (M.at m.now)) word)) }
 {
     if !matches!(h.privilege, Priv::M) {
         return refuse(h, m, word, log);
@@ -195,7 +197,7 @@ pub fn return_from_machine<M: Words>(h: &Hart, m: &M, word: u32, log: &Accesses)
 }
 
 /// Whether an instruction for the supervisor is illegal.
-fn is_withheld<M: Words>(h: &Hart, m: &M, flag: Flag) -> bool
+fn is_withheld<M: Sighted>(h: &Hart, m: &M, flag: Flag) -> bool
     ensures { result ≡ is_withheld flag (fixed_of h.now (M.at m.now)) }
 {
     match h.privilege {
@@ -207,9 +209,9 @@ fn is_withheld<M: Words>(h: &Hart, m: &M, flag: Flag) -> bool
 
 /// SRET.
 #[tactic(auto, using(crate::proofs::Prefixes::prefixed_none, crate::proofs::CsrPlaces::own_address), unfolding(crate::specs::Privileged::sret_row))]
-pub fn return_from_supervisor<M: Words>(h: &Hart, m: &M, word: u32, log: &Accesses) -> Looked
+pub fn return_from_supervisor<M: Sighted>(h: &Hart, m: &M, word: u32, log: &Accesses) -> Looked
     ensures sound { IsSound h.now.privilege h.now.csrs result }
-    ensures answer { looked log.now result ≡ prefixed log.now (answer_on (known h.now (M.at m.now)) (sret_row (fixed_of h.now (M.at m.now)) word)) }
+    ensures answer { looked log.now result ≡ prefixed log.now (answer_seen (sighted (M.sights m.now)) (known h.now (M.at m.now)) (sret_row (fixed_of h.now (M.at m.now)) word)) }
 {
     if is_withheld(h, m, Flag::Tsr) {
         return refuse(h, m, word, log);
@@ -222,9 +224,9 @@ pub fn return_from_supervisor<M: Words>(h: &Hart, m: &M, word: u32, log: &Access
 
 /// SFENCE.VMA.
 #[tactic(auto, using(crate::proofs::Prefixes::prefixed_none), unfolding(crate::specs::Privileged::address_fence_row))]
-pub fn fence_addresses<M: Words>(h: &Hart, m: &M, word: u32, log: &Accesses) -> Looked
+pub fn fence_addresses<M: Sighted>(h: &Hart, m: &M, word: u32, log: &Accesses) -> Looked
     ensures sound { IsSound h.now.privilege h.now.csrs result }
-    ensures answer { looked log.now result ≡ prefixed log.now (answer_on (known h.now (M.at m.now)) (address_fence_row (fixed_of h.now (M.at m.now)) word)) }
+    ensures answer { looked log.now result ≡ prefixed log.now (answer_seen (sighted (M.sights m.now)) (known h.now (M.at m.now)) (address_fence_row (fixed_of h.now (M.at m.now)) word)) }
 {
     if is_withheld(h, m, Flag::Tvm) {
         refuse(h, m, word, log)

@@ -6,13 +6,15 @@ ghost use Rattle.rv_hart.specs.Clauses.{IsSound};
 ghost use Rattle.rv_hart.specs.Effects.{IsInWord};
 ghost use Rattle.rv_hart.specs.Machine.{data_view, fetch_view};
 ghost use Rattle.rv_hart.specs.Reaching.{IsReached};
+ghost use Rattle.rv_hart.specs.Sighted.{sighted};
 ghost use Rattle.rv_hart.specs.View.{fixed_of, known};
 
 use crate::looked::Looked;
 use crate::privileged::trap;
+use crate::seeing::{Sighted, walk_with};
 use crate::{Hart, Words};
 use rv_script::{Access, Accesses, Place, Role};
-use sv_walk::{Kind, View, WalkEnd, walk};
+use sv_walk::{Kind, View, WalkEnd};
 
 /// What the translation of a fetch goes by.
 pub fn fetch_view<M: Words>(h: &Hart, m: &M) -> View
@@ -56,8 +58,8 @@ fn note(entries: &[(u32, u32)], log: &mut Accesses)
 }
 
 /// The physical address that an address leads to, with the entries that tell it in the log; or what the step does
-/// where it leads to none.
-pub fn reach<M: Words>(
+/// where it leads to none. The walk sees the sights' words.
+pub fn reach<M: Sighted>(
     h: &Hart,
     m: &M,
     word: u32,
@@ -67,14 +69,14 @@ pub fn reach<M: Words>(
     log: &mut Accesses,
 ) -> Result<u32, Looked>
     requires { length log.old ≤ 6 }
-    ensures answer { IsReached (known h.now (M.at m.now)) (fixed_of h.now (M.at m.now)) word v kind va log.old log.new result }
+    ensures answer { IsReached (sighted (M.sights m.now)) (known h.now (M.at m.now)) (fixed_of h.now (M.at m.now)) word v kind va log.old log.new result }
     ensures sound { IfErr result (IsSound h.now.privilege h.now.csrs) }
     ensures words { All IsInWord log.old → All IsInWord log.new }
     ensures few { length log.new ≤ length log.old + 2 }
     ensures there { IfOk result (λ pa. is_there (M.at m.now (pa / 4)) ≡ true) }
     ensures offset { IfOk result (λ pa. pa % 2 ^ 12 ≡ va % 2 ^ 12) }
 {
-    let walk = walk(m, v, va, kind);
+    let walk = walk_with(m, v, va, kind);
     note(walk.ptes.as_slice(), log);
     match walk.outcome {
         WalkEnd::Pa(pa) => Ok(pa),

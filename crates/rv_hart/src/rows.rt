@@ -1,6 +1,6 @@
 // What instructions do, row by row of the table of encodings.
 ghost use Rattle.std.specs.Prelude.{◌≡◌, ◌<◌, ◌≤◌, ◌%◌, ◌/◌, All, IsTrue, length, true};
-ghost use Rattle.rv_script.specs.Folds.{answer_on, prefixed};
+ghost use Rattle.rv_script.specs.Folds.{prefixed};
 ghost use Rattle.rv_isa.specs.Arithmetic.{is_alu, is_branch};
 ghost use Rattle.rv_isa.specs.Reading.{decoded};
 ghost use Rattle.rv_isa.specs.Table.{row_of};
@@ -8,6 +8,7 @@ ghost use Rattle.rv_isa.specs.Encoding.{IsInRange};
 ghost use Rattle.rv_mem.specs.Seen.{is_there};
 ghost use Rattle.rv_hart.specs.Machine.{instruction, immediate_row, register_row, upper_row, upper_pc_row, jump_row, jump_register_row, branch_row, load_row, load_from, store_row, store_to, fence_row, is_taken, jumped, size_of, load_at, store_at, effect};
 ghost use Rattle.rv_hart.specs.Changes.{IsSoundWrite};
+ghost use Rattle.rv_hart.specs.Sighted.{answer_seen, sighted};
 ghost use Rattle.rv_hart.specs.View.{known, fixed_of, looked};
 ghost use Rattle.rv_hart.specs.Effects.{IsInWord};
 ghost use Rattle.rv_hart.specs.Clauses.{IsSound};
@@ -19,7 +20,8 @@ use crate::privileged::{
     return_from_supervisor, trap,
 };
 use crate::reaching::{data_view, reach};
-use crate::{Control, Hart, Seen, Words};
+use crate::seeing::Sighted;
+use crate::{Control, Hart, Seen};
 use rv_csr::Cause;
 use rv_isa::{Instr, Op, alu, decode, taken};
 use rv_script::{Access, Accesses, Place, Role};
@@ -27,11 +29,11 @@ use sv_walk::Kind;
 
 /// An operation on a register and an immediate.
 #[tactic(auto, using(crate::proofs::Prefixes::prefixed_none), unfolding(crate::specs::Machine::immediate_row))]
-fn immediate<M: Words>(h: &Hart, m: &M, word: u32, i: &Instr, log: &Accesses) -> Looked
+fn immediate<M: Sighted>(h: &Hart, m: &M, word: u32, i: &Instr, log: &Accesses) -> Looked
     requires alu { IsTrue (is_alu i.now.op) }
     requires ranges { IsInRange i.now }
     ensures sound { IsSound h.now.privilege h.now.csrs result }
-    ensures answer { looked log.now result ≡ prefixed log.now (answer_on (known h.now (M.at m.now)) (immediate_row (fixed_of h.now (M.at m.now)) word i.now)) }
+    ensures answer { looked log.now result ≡ prefixed log.now (answer_seen (sighted (M.sights m.now)) (known h.now (M.at m.now)) (immediate_row (fixed_of h.now (M.at m.now)) word i.now)) }
 {
     match h.register(i.rs1) {
         None => Looked::Missing(Place::Reg(i.rs1)),
@@ -41,11 +43,11 @@ fn immediate<M: Words>(h: &Hart, m: &M, word: u32, i: &Instr, log: &Accesses) ->
 
 /// An operation on two registers.
 #[tactic(auto, using(crate::proofs::Prefixes::prefixed_none), unfolding(crate::specs::Machine::register_row))]
-fn registers<M: Words>(h: &Hart, m: &M, word: u32, i: &Instr, log: &Accesses) -> Looked
+fn registers<M: Sighted>(h: &Hart, m: &M, word: u32, i: &Instr, log: &Accesses) -> Looked
     requires alu { IsTrue (is_alu i.now.op) }
     requires ranges { IsInRange i.now }
     ensures sound { IsSound h.now.privilege h.now.csrs result }
-    ensures answer { looked log.now result ≡ prefixed log.now (answer_on (known h.now (M.at m.now)) (register_row (fixed_of h.now (M.at m.now)) word i.now)) }
+    ensures answer { looked log.now result ≡ prefixed log.now (answer_seen (sighted (M.sights m.now)) (known h.now (M.at m.now)) (register_row (fixed_of h.now (M.at m.now)) word i.now)) }
 {
     let Some(a) = h.register(i.rs1) else {
         return Looked::Missing(Place::Reg(i.rs1));
@@ -58,7 +60,7 @@ fn registers<M: Words>(h: &Hart, m: &M, word: u32, i: &Instr, log: &Accesses) ->
 
 /// A jump, which traps where its target is no multiple of 4.
 #[tactic(auto, using(crate::proofs::Prefixes::prefixed_none))]
-fn jump<M: Words>(
+fn jump<M: Sighted>(
     h: &Hart,
     m: &M,
     word: u32,
@@ -68,7 +70,7 @@ fn jump<M: Words>(
 ) -> Looked
     requires { IsSoundWrite rd }
     ensures sound { IsSound h.now.privilege h.now.csrs result }
-    ensures answer { looked log.now result ≡ prefixed log.now (answer_on (known h.now (M.at m.now)) (jumped (fixed_of h.now (M.at m.now)) word rd target)) }
+    ensures answer { looked log.now result ≡ prefixed log.now (answer_seen (sighted (M.sights m.now)) (known h.now (M.at m.now)) (jumped (fixed_of h.now (M.at m.now)) word rd target)) }
 {
     if target % 4 == 0 {
         Looked::Does(go_to(word, rd, Control::Stay, target))
@@ -79,10 +81,10 @@ fn jump<M: Words>(
 
 /// A jump to a register's value and the immediate.
 #[tactic(auto, using(crate::proofs::Prefixes::prefixed_none), unfolding(crate::specs::Machine::jump_register_row))]
-fn jump_register<M: Words>(h: &Hart, m: &M, word: u32, i: &Instr, log: &Accesses) -> Looked
+fn jump_register<M: Sighted>(h: &Hart, m: &M, word: u32, i: &Instr, log: &Accesses) -> Looked
     requires { IsInRange i.now }
     ensures sound { IsSound h.now.privilege h.now.csrs result }
-    ensures answer { looked log.now result ≡ prefixed log.now (answer_on (known h.now (M.at m.now)) (jump_register_row (fixed_of h.now (M.at m.now)) word i.now)) }
+    ensures answer { looked log.now result ≡ prefixed log.now (answer_seen (sighted (M.sights m.now)) (known h.now (M.at m.now)) (jump_register_row (fixed_of h.now (M.at m.now)) word i.now)) }
 {
     match h.register(i.rs1) {
         None => Looked::Missing(Place::Reg(i.rs1)),
@@ -105,11 +107,11 @@ fn decide(op: Op, a: u32, b: u32) -> bool
 
 /// A branch.
 #[tactic(auto, using(crate::proofs::Prefixes::prefixed_none), unfolding(crate::specs::Machine::branch_row))]
-fn branch<M: Words>(h: &Hart, m: &M, word: u32, i: &Instr, log: &Accesses) -> Looked
+fn branch<M: Sighted>(h: &Hart, m: &M, word: u32, i: &Instr, log: &Accesses) -> Looked
     requires branch { IsTrue (is_branch i.now.op) }
     requires ranges { IsInRange i.now }
     ensures sound { IsSound h.now.privilege h.now.csrs result }
-    ensures answer { looked log.now result ≡ prefixed log.now (answer_on (known h.now (M.at m.now)) (branch_row (fixed_of h.now (M.at m.now)) word i.now)) }
+    ensures answer { looked log.now result ≡ prefixed log.now (answer_seen (sighted (M.sights m.now)) (known h.now (M.at m.now)) (branch_row (fixed_of h.now (M.at m.now)) word i.now)) }
 {
     let Some(a) = h.register(i.rs1) else {
         return Looked::Missing(Place::Reg(i.rs1));
@@ -126,14 +128,14 @@ fn branch<M: Words>(h: &Hart, m: &M, word: u32, i: &Instr, log: &Accesses) -> Lo
 
 /// A load from a physical address.
 #[tactic(auto, unfolding(crate::specs::Machine::load_at))]
-fn load_at<M: Words>(h: &Hart, m: &M, word: u32, i: &Instr, pa: u32, log: &mut Accesses) -> Looked
+fn load_at<M: Sighted>(h: &Hart, m: &M, word: u32, i: &Instr, pa: u32, log: &mut Accesses) -> Looked
     requires rd { i.now.rd < 32 }
     requires aligned { pa % size_of i.now.op ≡ 0 }
     requires there { is_there (M.at m.now (pa / 4)) ≡ true }
     requires room { length log.old < 8 }
     ensures sound { IsSound h.now.privilege h.now.csrs result }
     ensures words { All IsInWord log.old → All IsInWord log.new }
-    ensures answer { looked log.new result ≡ prefixed log.old (answer_on (known h.now (M.at m.now)) (load_at (fixed_of h.now (M.at m.now)) word i.now pa)) }
+    ensures answer { looked log.new result ≡ prefixed log.old (answer_seen (sighted (M.sights m.now)) (known h.now (M.at m.now)) (load_at (fixed_of h.now (M.at m.now)) word i.now pa)) }
 {
     let size = size_of(i.op);
     match word_of(m, pa) {
@@ -153,7 +155,7 @@ fn load_at<M: Words>(h: &Hart, m: &M, word: u32, i: &Instr, pa: u32, log: &mut A
 }
 
 /// A load from any address.
-fn load_from<M: Words>(
+fn load_from<M: Sighted>(
     h: &Hart,
     m: &M,
     word: u32,
@@ -165,7 +167,7 @@ fn load_from<M: Words>(
     requires room { length log.old ≤ 5 }
     ensures sound { IsSound h.now.privilege h.now.csrs result }
     ensures words { All IsInWord log.old → All IsInWord log.new }
-    ensures answer { looked log.new result ≡ prefixed log.old (answer_on (known h.now (M.at m.now)) (load_from (fixed_of h.now (M.at m.now)) word i.now addr)) }
+    ensures answer { looked log.new result ≡ prefixed log.old (answer_seen (sighted (M.sights m.now)) (known h.now (M.at m.now)) (load_from (fixed_of h.now (M.at m.now)) word i.now addr)) }
 {
     if addr % u32::from(size_of(i.op)) != 0 {
         return trap(h, m, word, Cause::LoadMisaligned, addr, log);
@@ -178,12 +180,12 @@ fn load_from<M: Words>(
 
 /// A load.
 #[tactic(auto, unfolding(crate::specs::Machine::load_row))]
-fn load<M: Words>(h: &Hart, m: &M, word: u32, i: &Instr, log: &mut Accesses) -> Looked
+fn load<M: Sighted>(h: &Hart, m: &M, word: u32, i: &Instr, log: &mut Accesses) -> Looked
     requires ranges { IsInRange i.now }
     requires room { length log.old ≤ 5 }
     ensures sound { IsSound h.now.privilege h.now.csrs result }
     ensures words { All IsInWord log.old → All IsInWord log.new }
-    ensures answer { looked log.new result ≡ prefixed log.old (answer_on (known h.now (M.at m.now)) (load_row (fixed_of h.now (M.at m.now)) word i.now)) }
+    ensures answer { looked log.new result ≡ prefixed log.old (answer_seen (sighted (M.sights m.now)) (known h.now (M.at m.now)) (load_row (fixed_of h.now (M.at m.now)) word i.now)) }
 {
     match h.register(i.rs1) {
         None => Looked::Missing(Place::Reg(i.rs1)),
@@ -193,7 +195,7 @@ fn load<M: Words>(h: &Hart, m: &M, word: u32, i: &Instr, log: &mut Accesses) -> 
 
 /// A store of a value's low bytes to a physical address.
 #[tactic(auto, unfolding(crate::specs::Machine::store_at))]
-fn store_at<M: Words>(
+fn store_at<M: Sighted>(
     h: &Hart,
     m: &M,
     word: u32,
@@ -207,7 +209,7 @@ fn store_at<M: Words>(
     requires room { length log.old < 8 }
     ensures sound { IsSound h.now.privilege h.now.csrs result }
     ensures words { All IsInWord log.old → All IsInWord log.new }
-    ensures answer { looked log.new result ≡ prefixed log.old (answer_on (known h.now (M.at m.now)) (store_at (fixed_of h.now (M.at m.now)) word i.now value pa)) }
+    ensures answer { looked log.new result ≡ prefixed log.old (answer_seen (sighted (M.sights m.now)) (known h.now (M.at m.now)) (store_at (fixed_of h.now (M.at m.now)) word i.now value pa)) }
 {
     let size = size_of(i.op);
     match word_of(m, pa) {
@@ -226,7 +228,7 @@ fn store_at<M: Words>(
 }
 
 /// A store of a value's low bytes at any address.
-fn store_to<M: Words>(
+fn store_to<M: Sighted>(
     h: &Hart,
     m: &M,
     word: u32,
@@ -238,7 +240,7 @@ fn store_to<M: Words>(
     requires { length log.old ≤ 5 }
     ensures sound { IsSound h.now.privilege h.now.csrs result }
     ensures words { All IsInWord log.old → All IsInWord log.new }
-    ensures answer { looked log.new result ≡ prefixed log.old (answer_on (known h.now (M.at m.now)) (store_to (fixed_of h.now (M.at m.now)) word i.now addr value)) }
+    ensures answer { looked log.new result ≡ prefixed log.old (answer_seen (sighted (M.sights m.now)) (known h.now (M.at m.now)) (store_to (fixed_of h.now (M.at m.now)) word i.now addr value)) }
 {
     if addr % u32::from(size_of(i.op)) != 0 {
         return trap(h, m, word, Cause::StoreMisaligned, addr, log);
@@ -251,12 +253,12 @@ fn store_to<M: Words>(
 
 /// A store.
 #[tactic(auto, unfolding(crate::specs::Machine::store_row))]
-fn store<M: Words>(h: &Hart, m: &M, word: u32, i: &Instr, log: &mut Accesses) -> Looked
+fn store<M: Sighted>(h: &Hart, m: &M, word: u32, i: &Instr, log: &mut Accesses) -> Looked
     requires ranges { IsInRange i.now }
     requires room { length log.old ≤ 5 }
     ensures sound { IsSound h.now.privilege h.now.csrs result }
     ensures words { All IsInWord log.old → All IsInWord log.new }
-    ensures answer { looked log.new result ≡ prefixed log.old (answer_on (known h.now (M.at m.now)) (store_row (fixed_of h.now (M.at m.now)) word i.now)) }
+    ensures answer { looked log.new result ≡ prefixed log.old (answer_seen (sighted (M.sights m.now)) (known h.now (M.at m.now)) (store_row (fixed_of h.now (M.at m.now)) word i.now)) }
 {
     let Some(a) = h.register(i.rs1) else {
         return Looked::Missing(Place::Reg(i.rs1));
@@ -269,12 +271,12 @@ fn store<M: Words>(h: &Hart, m: &M, word: u32, i: &Instr, log: &mut Accesses) ->
 
 /// What an instruction does.
 #[tactic(auto, using(crate::proofs::Prefixes::prefixed_none), unfolding(crate::specs::Machine::upper_row, crate::specs::Machine::upper_pc_row, crate::specs::Machine::jump_row, crate::specs::Machine::fence_row))]
-fn perform<M: Words>(h: &Hart, m: &M, word: u32, i: &Instr, log: &mut Accesses) -> Looked
+fn perform<M: Sighted>(h: &Hart, m: &M, word: u32, i: &Instr, log: &mut Accesses) -> Looked
     requires ranges { IsInRange i.now }
     requires room { length log.old ≤ 5 }
     ensures sound { IsSound h.now.privilege h.now.csrs result }
     ensures words { All IsInWord log.old → All IsInWord log.new }
-    ensures answer { looked log.new result ≡ prefixed log.old (answer_on (known h.now (M.at m.now)) (effect (row_of i.now.op) (fixed_of h.now (M.at m.now)) word i.now)) }
+    ensures answer { looked log.new result ≡ prefixed log.old (answer_seen (sighted (M.sights m.now)) (known h.now (M.at m.now)) (effect (row_of i.now.op) (fixed_of h.now (M.at m.now)) word i.now)) }
 {
     match i.op {
         Op::Lui => Looked::Does(retire(h.pc, word, rd_of(i.rd, i.imm))),
@@ -309,11 +311,11 @@ fn perform<M: Words>(h: &Hart, m: &M, word: u32, i: &Instr, log: &mut Accesses) 
 
 /// What the instruction word does.
 #[tactic(auto, unfolding(crate::specs::Machine::instruction))]
-pub fn execute<M: Words>(h: &Hart, m: &M, word: u32, log: &mut Accesses) -> Looked
+pub fn execute<M: Sighted>(h: &Hart, m: &M, word: u32, log: &mut Accesses) -> Looked
     requires { length log.old ≤ 5 }
     ensures sound { IsSound h.now.privilege h.now.csrs result }
     ensures words { All IsInWord log.old → All IsInWord log.new }
-    ensures answer { looked log.new result ≡ prefixed log.old (answer_on (known h.now (M.at m.now)) (instruction (fixed_of h.now (M.at m.now)) word (decoded word))) }
+    ensures answer { looked log.new result ≡ prefixed log.old (answer_seen (sighted (M.sights m.now)) (known h.now (M.at m.now)) (instruction (fixed_of h.now (M.at m.now)) word (decoded word))) }
 {
     match decode(word) {
         Some(i) => perform(h, m, word, &i, log),

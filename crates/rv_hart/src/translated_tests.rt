@@ -1,39 +1,15 @@
 // Translated fetches, loads and stores, as the Privileged manual has them in 3.1.6.3, 4.3.1 and 4.3.2.
-ghost use Rattle.std.specs.Prelude.{◌≡◌, ◌%◌};
-
 use crate::fixtures::{
-    DATA, MEDELEG, MSTATUS, MTVEC, NEXT, RAM, SATP, STVEC, TO_MACHINE, TO_SUPERVISOR, Told,
-    assert_did, assert_none, assert_traps, entry_of, fetched, hart_with, known, load_of, put_all,
-    retired, saved_by, store_of, trapped, unfetched,
+    ADDI, DATA, MEDELEG, MSTATUS, MTVEC, NEXT, POINTER, RAM, ROOT, SATP, SECOND, STORE, STVEC,
+    TABLES, TO_MACHINE, TO_SUPERVISOR, Told, VA, assert_did, assert_none, assert_traps, entry_of,
+    fetched, hart_with, known, load_of, pages, put_all, retired, saved_by, store_of, trapped,
+    unfetched,
 };
 use crate::{Access, Place, Priv, Seen, Words};
-use rv_mem::{PartMem, Ram};
 use std::alloc::Global;
 use std::process::Abort;
 
-/// RAM from 0x80000000 to 0x80004000 of which these words are known.
-fn pages(rt: &impl Abort, alloc: Global, words: &[(u32, u32)]) -> PartMem {
-    let ram = Ram::new(vec![in alloc; (RAM, 0x8000_4000)].expect(rt, "memory"));
-    let mut memory = PartMem::new(alloc, &ram).expect(rt, "memory");
-    put_all(rt, &mut memory, words);
-    memory
-}
-
-/// The root table stands at 0x80001000.
-const TABLES: u32 = 0x8008_0001;
-
-/// A virtual address, with the places of its root entry and its second entry.
-const VA: u32 = 0x0040_0ABC;
-
-const ROOT: u32 = 0x8000_1004;
-
-const SECOND: u32 = 0x8000_2000;
-
 const LOAD: u32 = 0x0002_A303; // lw x6, 0(x5)
-
-const STORE: u32 = 0x0052_A023; // sw x5, 0(x5)
-
-const ADDI: u32 = 0x0070_0293; // addi x5, x0, 7
 
 const MPRV: u32 = 0x0002_0000;
 
@@ -77,8 +53,6 @@ fn access_cause(way: Way) -> u8 {
 /// The root entry, the second entry, how many of them are read, the privilege that the access has, SUM and MXR, and
 /// what a load, a store and a fetch at `VA` come to.
 type Row = (u32, u32, u8, Priv, u32, End, End, End);
-
-const POINTER: u32 = 0x2000_0801;
 
 const PAGE: End = End::Pa(0x8000_3ABC);
 

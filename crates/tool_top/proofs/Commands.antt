@@ -1,23 +1,28 @@
 -- What the bytes that were read say of what the source had left, and what a command can't have made of them.
-use Rattle.std.proofs.Common.{◌≡◌, ℕ, ◌<◌, ◌≤◌, inl, inr, List, [], ◌++◌, length, drop, take, refl, sym, ◌∙◌, ap, subst, arith, None, Some, true}
+use Rattle.std.proofs.Common.{◌≡◌, ℕ, ◌<◌, ◌≤◌, inl, inr, List, [], ◌++◌, length, drop, take, refl, sym, ◌∙◌, ap, subst, arith, None, Some, true, Result, Ok, Err}
 use Rattle.std.specs.declared.option.Option.{Option}
 use Rattle.std.specs.Io.KnownBytes.{Consumes, IsAtEnd}
 use Rattle.std.proofs.lemmas.Bool.{cases_lt}
 use Rattle.std.proofs.lemmas.List.{append-nil, length-append, drop_all, take_all}
 use Rattle.std.proofs.Math.Seq.{drop-append_seam, take-append_seam}
 use Rattle.std.proofs.lemmas.Option.{same_Some}
-use Rattle.tpl_form.specs.declared.template.Template.{Template}
-use Rattle.tpl_form.specs.Form.{Parses}
+use Rattle.tpl_ast.specs.declared.fault.Fault.{Fault}
+use Rattle.tpl_ast.specs.declared.template.Template.{Template}
+use Rattle.tpl_ast.specs.Laws.{TemplatesAreSound}
+use Rattle.tpl_ast.specs.Parsing.{Parses, Said, parses, said_by}
+use Rattle.tpl_form.specs.Form.{IsFormOf}
+use Rattle.tpl_admit.specs.Laws.{SaidDecides, with_template}
 use Rattle.tpl_admit.specs.declared.certificate.Cert.{Cert}
 use Rattle.tpl_admit.specs.WellFormed.{IsWellFormed}
 use Rattle.tpl_admit.specs.Validity.{IsValid}
 use Rattle.tpl_admit.specs.Failures.{IsFirstFailure}
 use Rattle.elf_image.specs.File.{file_bytes}
 use Rattle.elf_image.specs.Parts.{IsFirstWrong}
+use Rattle.elf_image.specs.Told.{Told, told}
 use Rattle.elf_image.proofs.Lengths.{length-file}
 use Rattle.tool_top.specs.declared.words.Command.{Command}
 use Rattle.tool_top.specs.declared.words.Command.TheVariants.{Gen, List as Listing, Replay}
-use Rattle.tool_top.specs.Promise.{AreTexts, IsFileOf, IsInput, IsUnfit, IsNoFile, IsNoTemplate, IsWrongFile, IsMalformed, limit_of, takes_template, writes_out_alone}
+use Rattle.tool_top.specs.Promise.{AreTexts, IsBuilt, IsFileOf, IsInput, IsTemplateLine, IsUnfit, IsNoFile, IsNoTemplate, IsWrongFile, IsMalformed, LacksTemplate, limit_of, takes_template, writes_out_alone}
 
 -- some bytes, up to a limit, were read, and all that there was where they are fewer
 pub record Reads (old new : Option (List ℕ)) (bytes : List ℕ) (limit : ℕ) : Type 0 where
@@ -89,24 +94,19 @@ file_small c is = omega (arith, length-file c, is.size)
 file_short : (bytes : List ℕ) (c : Cert) → IsFileOf bytes c → length bytes < 8388609
 file_short bytes c is = omega (arith, ap length is.is_file, length-file c, is.well_formed.size)
 
-template_short : (bytes : List ℕ) (t : Template) → Parses bytes t → length bytes < 65537
-template_short bytes t says = omega (arith, says.size)
+template_short : TemplatesAreSound → (bytes : List ℕ) (t : Template) → Parses bytes t → length bytes < 65537
+template_short sound bytes t says = omega (arith, (sound bytes t says).text)
 
-input_short : (command : Command) (bytes : List ℕ) → IsInput command bytes → length bytes < limit_of command
-input_short (Gen seed) bytes input = template_short bytes input.0 input.1
-input_short (Listing seed) bytes input = template_short bytes input.0 input.1
-input_short Replay bytes input = file_short bytes input.0 input.1
-
-texts_short : (command : Command) (bytes out beside : List ℕ) → AreTexts command bytes out beside → length bytes < limit_of command
-texts_short (Gen seed) bytes out beside made = template_short bytes made.certificate.template made.is_made.parses
-texts_short (Listing seed) bytes out beside made = template_short bytes made.certificate.template made.is_made.parses
-texts_short Replay bytes out beside made = file_short bytes made.certificate made.is_made.file
+texts_short : TemplatesAreSound → (command : Command) (bytes out beside : List ℕ) → AreTexts command bytes out beside → length bytes < limit_of command
+texts_short sound (Gen seed) bytes out beside made = template_short sound bytes made.certificate.template made.is_made.parses
+texts_short sound (Listing seed) bytes out beside made = template_short sound bytes made.certificate.template made.is_made.parses
+texts_short sound Replay bytes out beside made = file_short bytes made.certificate made.is_made.file
 
 -- the texts of what was read are those of what the source had left
-pub texts_are : (old new : Option (List ℕ)) (bytes text : List ℕ) (command : Command) (out beside : List ℕ) → Reads old new bytes (limit_of command) → old ≡ Some text
+pub texts_are : TemplatesAreSound → (old new : Option (List ℕ)) (bytes text : List ℕ) (command : Command) (out beside : List ℕ) → Reads old new bytes (limit_of command) → old ≡ Some text
     → AreTexts command bytes out beside → AreTexts command text out beside
-texts_are old new bytes text command out beside reads is made =
-    subst (λ (t : List ℕ). AreTexts command t out beside) (all_read old new bytes text (limit_of command) reads is (texts_short command bytes out beside made)) made
+texts_are sound old new bytes text command out beside reads is made =
+    subst (λ (t : List ℕ). AreTexts command t out beside) (all_read old new bytes text (limit_of command) reads is (texts_short sound command bytes out beside made)) made
 
 -- a command that writes to `out` alone writes nothing beside that
 pub nothing_beside : (command : Command) (bytes out beside : List ℕ) → AreTexts command bytes out beside → writes_out_alone command ≡ true → length beside ≡ 0
@@ -118,27 +118,70 @@ nothing_beside Replay bytes out beside made alone = ap length made.beside_is
 
 -- the laws of files and of checks
 abbrev pub OneSpelling : Type 0
-OneSpelling = (a b : Cert) → IsWellFormed a → IsWellFormed b → file_bytes a ≡ file_bytes b → a ≡ b
+OneSpelling = (a b : Cert) → IsWellFormed a → IsWellFormed b → file_bytes a ≡ file_bytes b → told a ≡ told b
 
 abbrev pub ValidHasNoFailure : Type 0
 ValidHasNoFailure = (c : Cert) (kind hart step : ℕ) → IsFirstFailure c kind hart step → IsValid c → ⊥
 
-same_certificate : OneSpelling → (bytes : List ℕ) (a b : Cert) → IsFileOf bytes a → IsFileOf bytes b → a ≡ b
-same_certificate one bytes a b f g = one a b f.well_formed g.well_formed (sym f.is_file ∙ g.is_file)
+told_same : (a b : Cert) → told a ≡ told b → with_template a b.template ≡ b
+told_same a b e = λ i. record {
+  start = ap (λ (x : Told). x.start) e i;
+  words = ap (λ (x : Told). x.words) e i;
+  traces = ap (λ (x : Told). x.traces) e i;
+  finals = ap (λ (x : Told). x.finals) e i;
+  last = ap (λ (x : Told). x.last) e i;
+  template = b.template;
+  choices = ap (λ (x : Told). x.choices) e i;
+  names = ap (λ (x : Told). x.names) e i;
+  dropped = ap (λ (x : Told). x.dropped) e i;
+}
+
+-- certificates of one file are valid alike
+same_valid : OneSpelling → SaidDecides → (bytes : List ℕ) (a b : Cert) → IsFileOf bytes a → IsFileOf bytes b → IsValid a → IsValid b
+same_valid one decides bytes a b f g v =
+    let same : told a ≡ told b = one a b f.well_formed g.well_formed (sym f.is_file ∙ g.is_file) in
+    subst IsValid (told_same a b same) (decides a b.template (ap (λ (x : Told). x.said) same) v)
+
+-- this build generates from all templates of a text, or from none
+said_same : (bytes : List ℕ) (t u : Template) → Parses bytes t → Parses bytes u → said_by t ≡ said_by u
+said_same bytes t u p q = same_ok _ _ (sym p.says ∙ q.says)
+  where
+    same_ok : (x y : Said) → ◌≡◌ {A = Result Said Fault} (Ok x) (Ok y) → x ≡ y
+    same_ok x y e = cc
+
+pub built_same : (bytes : List ℕ) (t u : Template) → Parses bytes t → Parses bytes u → IsBuilt t → IsBuilt u
+built_same bytes t u p q built = (built.0, subst (λ (s : Said). IsFormOf s built.0) (said_same bytes t u p q) built.1)
+
+-- bytes with a fault are no template
+pub fault_is_none : (bytes : List ℕ) (f : Fault) → parses bytes ≡ Err f → IsNoTemplate bytes
+fault_is_none bytes f wrong t says built = let never : ◌≡◌ {A = Result Said Fault} (Err f) (Ok (said_by t)) = sym wrong ∙ says.says in absurd (cc never)
+
+pub unbuilt_is_none : (bytes : List ℕ) (t : Template) → Parses bytes t → (IsBuilt t → ⊥) → IsNoTemplate bytes
+unbuilt_is_none bytes t says none u says' built = none (built_same bytes u t says' says built)
 
 -- what something was made of is not unfit
-pub made_is_fit : OneSpelling → (command : Command) (bytes out beside : List ℕ) (why : ℕ) → AreTexts command bytes out beside → IsUnfit command bytes why → ⊥
-made_is_fit one (Gen seed) bytes out beside why made unfit = unfit.1 made.certificate.template made.is_made.parses
-made_is_fit one (Listing seed) bytes out beside why made unfit = unfit.1 made.certificate.template made.is_made.parses
-made_is_fit one Replay bytes out beside why made (inl none) = none.1 made.certificate made.is_made.file
-made_is_fit one Replay bytes out beside why made (inr wrong) =
-    wrong.1.2 (subst IsValid (same_certificate one bytes made.certificate wrong.1.0 made.is_made.file wrong.1.1) made.is_made.valid)
+pub made_is_fit : OneSpelling → SaidDecides → (command : Command) (bytes out beside : List ℕ) (why : ℕ) → AreTexts command bytes out beside → IsUnfit command bytes why → ⊥
+made_is_fit one decides (Gen seed) bytes out beside why made unfit = unfit.1 made.certificate.template made.is_made.parses made.is_made.built
+made_is_fit one decides (Listing seed) bytes out beside why made unfit = unfit.1 made.certificate.template made.is_made.parses made.is_made.built
+made_is_fit one decides Replay bytes out beside why made (inl none) = none.1 made.certificate made.is_made.file
+made_is_fit one decides Replay bytes out beside why made (inr wrong) = wrong.1.2 (same_valid one decides bytes made.certificate wrong.1.0 made.is_made.file wrong.1.1 made.is_made.valid)
 
 -- where what was read is no template, what the source had left is none
-pub no_template_left : (old new : Option (List ℕ)) (bytes text : List ℕ) (command : Command) → Reads old new bytes (limit_of command) → takes_template command ≡ true → IsNoTemplate bytes → old ≡ Some text → IsNoTemplate text
-no_template_left old new bytes text (Gen seed) reads takes none is = λ t says. none t (subst (λ (l : List ℕ). Parses l t) (sym (all_left old new bytes text 65537 reads is (template_short text t says))) says)
-no_template_left old new bytes text (Listing seed) reads takes none is = λ t says. none t (subst (λ (l : List ℕ). Parses l t) (sym (all_left old new bytes text 65537 reads is (template_short text t says))) says)
-no_template_left old new bytes text Replay reads takes none is = absurd (cc takes)
+pub no_template_left : TemplatesAreSound → (old new : Option (List ℕ)) (bytes text : List ℕ) (command : Command) → Reads old new bytes (limit_of command) → takes_template command ≡ true → IsNoTemplate bytes → old ≡ Some text → IsNoTemplate text
+no_template_left sound old new bytes text (Gen seed) reads takes none is = λ t says. none t (subst (λ (l : List ℕ). Parses l t) (sym (all_left old new bytes text 65537 reads is (template_short sound text t says))) says)
+no_template_left sound old new bytes text (Listing seed) reads takes none is = λ t says. none t (subst (λ (l : List ℕ). Parses l t) (sym (all_left old new bytes text 65537 reads is (template_short sound text t says))) says)
+no_template_left sound old new bytes text Replay reads takes none is = absurd (cc takes)
+
+-- and the line that says why is that of what was read
+line_left : (old new : Option (List ℕ)) (bytes text line : List ℕ) (command : Command) → Reads old new bytes (limit_of command) → takes_template command ≡ true → IsTemplateLine bytes line → old ≡ Some text → IsTemplateLine (take 65537 text) line
+line_left old new bytes text line (Gen seed) reads takes why is = subst (λ (l : List ℕ). IsTemplateLine l line) (front_left old new bytes text 65537 reads is) why
+line_left old new bytes text line (Listing seed) reads takes why is = subst (λ (l : List ℕ). IsTemplateLine l line) (front_left old new bytes text 65537 reads is) why
+line_left old new bytes text line Replay reads takes why is = absurd (cc takes)
+
+pub lacking_left : TemplatesAreSound → (old new : Option (List ℕ)) (bytes text line : List ℕ) (command : Command) → Reads old new bytes (limit_of command) → takes_template command ≡ true → IsNoTemplate bytes → IsTemplateLine bytes line → old ≡ Some text
+    → LacksTemplate text line
+lacking_left sound old new bytes text line command reads takes none why is =
+    (no_template_left sound old new bytes text command reads takes none is, line_left old new bytes text line command reads takes why is)
 
 -- where what was read is no file, what the source had left is none
 pub no_file_left : (old new : Option (List ℕ)) (bytes text : List ℕ) → Reads old new bytes 8388609 → IsNoFile bytes → old ≡ Some text → IsNoFile text
@@ -155,16 +198,16 @@ wrong_left old new bytes text kind hart step reads wrong is =
 -- ---- inputs that a status refuses
 
 pub no_template_is_no_input : (command : Command) (text : List ℕ) → takes_template command ≡ true → IsNoTemplate text → IsInput command text → ⊥
-no_template_is_no_input (Gen seed) text takes none input = none input.0 input.1
-no_template_is_no_input (Listing seed) text takes none input = none input.0 input.1
+no_template_is_no_input (Gen seed) text takes none input = none input.0 input.1 input.2
+no_template_is_no_input (Listing seed) text takes none input = none input.0 input.1 input.2
 no_template_is_no_input Replay text takes none input = absurd (cc takes)
 
 pub no_file_is_no_input : (text : List ℕ) → IsNoFile text → IsInput Replay text → ⊥
 no_file_is_no_input text none input = none input.0 input.1
 
-pub wrong_is_no_input : OneSpelling → ValidHasNoFailure → (text : List ℕ) (kind hart step : ℕ) → IsWrongFile text kind hart step → IsInput Replay text → ⊥
-wrong_is_no_input one valid text kind hart step wrong input =
-    valid wrong.certificate kind hart step wrong.failure (subst IsValid (same_certificate one text input.0 wrong.certificate input.1 wrong.file) input.2)
+pub wrong_is_no_input : OneSpelling → SaidDecides → ValidHasNoFailure → (text : List ℕ) (kind hart step : ℕ) → IsWrongFile text kind hart step → IsInput Replay text → ⊥
+wrong_is_no_input one decides valid text kind hart step wrong input =
+    valid wrong.certificate kind hart step wrong.failure (same_valid one decides text input.0 wrong.certificate input.1 wrong.file input.2)
 
 pub no_template_says_3 : (command : Command) (text : List ℕ) (why : ℕ) → takes_template command ≡ true → IsUnfit command text why → 3 ≡ why
 no_template_says_3 (Gen seed) text why takes unfit = sym unfit.0

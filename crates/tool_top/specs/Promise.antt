@@ -1,10 +1,13 @@
 -- What the program promises.
-use Rattle.std.specs.Prelude.{◌≡◌, ℕ, ◌==◌, if◌then◌else◌, List, [], drop, take, codes, Some, length, ◌<◌, Bool, true, false, ◌||◌, ◌⊎◌, ⊤}
+use Rattle.std.specs.Prelude.{◌≡◌, ℕ, ◌==◌, if◌then◌else◌, List, [], drop, take, codes, Some, Err, length, ◌<◌, Bool, true, false, ◌||◌, ◌⊎◌, ⊤}
 use Rattle.std.specs.declared.option.Option.{Option}
 use Rattle.std.specs.Io.KnownBytes.{Appends}
 use Rattle.streams.specs.Sink.{GrowsByPrefix}
-use Rattle.tpl_form.specs.declared.template.Template.{Template}
-use Rattle.tpl_form.specs.Form.{Parses}
+use Rattle.tpl_ast.specs.declared.fault.Fault.{Fault}
+use Rattle.tpl_ast.specs.declared.template.Template.{Template}
+use Rattle.tpl_ast.specs.Parsing.{Parses, parses, said_by}
+use Rattle.tpl_form.specs.declared.form.Form.{Form}
+use Rattle.tpl_form.specs.Form.{IsFormOf}
 use Rattle.tpl_admit.specs.declared.certificate.Cert.{Cert}
 use Rattle.tpl_admit.specs.Validity.{IsValid}
 use Rattle.tpl_admit.specs.Faithfulness.{IsFaithful}
@@ -14,6 +17,7 @@ use Rattle.replay_check.specs.declared.verdict.Verdict.TheVariants.{Yes, No}
 use Rattle.elf_image.specs.File.{file_bytes}
 use Rattle.elf_image.specs.Parts.{IsFirstWrong}
 use Rattle.gen_engine.specs.Given.{GivesCodeAlone}
+use Rattle.trace_text.specs.Faults.{fault_text}
 use Rattle.trace_text.specs.Report.{report_text}
 use Rattle.trace_text.specs.Verdicts.{verdict_text, malformed_text}
 use Rattle.tool_top.specs.declared.words.Command.{Command}
@@ -34,13 +38,18 @@ pub record IsFileOf (bytes : List ℕ) (certificate : Cert) : Type 0 where
   pub well_formed : IsWellFormed certificate
   pub is_file : bytes ≡ file_bytes certificate
 
--- what a command can do something with: a template, or the file of a valid certificate
+-- this build generates from the template
+abbrev pub IsBuilt : Template → Type 0
+IsBuilt t = (f : Form) × IsFormOf (said_by t) f
+
+-- what a command can do something with: a template that this build generates from, or the file of a valid certificate
 abbrev pub IsInput : Command → List ℕ → Type 0
 IsInput Replay bytes = (certificate : Cert) × IsFileOf bytes certificate × IsValid certificate
-IsInput _ bytes = (t : Template) × Parses bytes t
+IsInput _ bytes = (t : Template) × Parses bytes t × IsBuilt t
 
+-- the bytes are no template that this build generates from
 abbrev pub IsNoTemplate : List ℕ → Type 0
-IsNoTemplate bytes = (t : Template) → Parses bytes t → ⊥
+IsNoTemplate bytes = (t : Template) → Parses bytes t → IsBuilt t → ⊥
 
 abbrev pub IsNoFile : List ℕ → Type 0
 IsNoFile bytes = (certificate : Cert) → IsFileOf bytes certificate → ⊥
@@ -65,6 +74,7 @@ takes_template _ = true
 -- steps are its records, and its end holds; the template admits the trace; and nothing is given at the start but the code
 pub record IsTest (text : List ℕ) (certificate : Cert) : Type 0 where
   pub parses : Parses text certificate.template
+  pub built : IsBuilt certificate.template
   pub well_formed : IsWellFormed certificate
   pub valid : IsValid certificate
   pub faithful : IsFaithful certificate
@@ -120,9 +130,15 @@ IsCutShort command left old_out new_out old_report new_report =
     → (out : List ℕ) × (beside : List ℕ) × AreTexts command bytes out beside
     × ((GrowsByPrefix old_out new_out out × (new_report ≡ old_report)) ⊎ (Appends old_out new_out out × GrowsByPrefix old_report new_report beside))
 
--- 3: what the source had left is no template
-abbrev pub LacksTemplate : Option (List ℕ) → Type 0
-LacksTemplate left = (bytes : List ℕ) → left ≡ Some bytes → IsNoTemplate bytes
+-- the line that says why: what is wrong with the text, or that this build doesn't generate from its template
+abbrev pub IsTemplateLine : List ℕ → List ℕ → Type 0
+IsTemplateLine bytes line =
+    ((f : Fault) × (parses bytes ≡ Err f) × (line ≡ fault_text f))
+    ⊎ ((t : Template) × Parses bytes t × (IsBuilt t → ⊥) × (line ≡ codes "template line 0: not built\n"))
+
+-- 3: what the source had left is no template that this build generates from, and the line says why what was read of it is none
+abbrev pub LacksTemplate : List ℕ → List ℕ → Type 0
+LacksTemplate bytes line = IsNoTemplate bytes × IsTemplateLine (take 65537 bytes) line
 
 -- 9: `malformed part N`, where what was read of what the source had left is no file, and N is its first wrong part
 abbrev pub IsMalformed : List ℕ → ℕ → Type 0
@@ -149,12 +165,11 @@ IsRefused words left failed status =
 abbrev pub told_line : ℕ → List ℕ
 told_line status =
     if status == 2 then codes "usage: testgen gen --seed N [--nodes N] [--turns N] | replay | exec --order N | show | demo N\n"
-    else (if status == 3 then codes "template line 0: not built\n"
-    else (if status == 6 then codes "read fault\n" else []))
+    else (if status == 6 then codes "read fault\n" else [])
 
 -- the statuses that tell such a line
 abbrev pub tells : ℕ → Bool
-tells status = status == 2 || (status == 3 || status == 6)
+tells status = status == 2 || status == 6
 
 -- the statuses on which something was written to `out`
 abbrev pub writes : ℕ → Bool
@@ -176,7 +191,7 @@ is_status n = n == 0 || (n == 2 || (n == 3 || (n == 6 || (n == 7 || (n == 8 || (
 
 -- a refusal is right of the bytes that were read, and brings the line that tells it
 abbrev pub IsRefusedRightly : Command → List ℕ → Refusal → Type 0
-IsRefusedRightly command bytes NoTemplate = (takes_template command ≡ true) × IsNoTemplate bytes
+IsRefusedRightly command bytes (NoTemplate line) = (takes_template command ≡ true) × IsNoTemplate bytes × IsTemplateLine bytes line.items × (length line.items < 16777216)
 IsRefusedRightly command bytes (NoFile line) =
     (command ≡ Replay) × ((part : ℕ) × (line.items ≡ malformed_text part) × (length line.items < 16777216) × IsFirstWrong bytes part × IsNoFile bytes)
 IsRefusedRightly command bytes (NotValid line) =

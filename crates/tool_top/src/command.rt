@@ -17,6 +17,8 @@ use elf_image::one_spelling;
 use replay_check::one_verdict;
 use std::alloc::Global;
 use streams::{ReadStop, Sink, Source, read_up_to, write_whole};
+use tpl_admit::said_law;
+use tpl_ast::template_law;
 
 const USAGE: &[u8] =
     b"usage: testgen gen --seed N [--nodes N] [--turns N] | replay | exec --order N | show | demo N\n";
@@ -37,7 +39,8 @@ fn limit_of(command: Command) -> usize
 ///   `report`; on `list` the report to `out`; on `replay` the source had left the file of a valid certificate, and `yes`
 ///   was written to `out`;
 /// - 2: the words are neither `gen --seed N` nor `list --seed N` nor `replay`; the usage line was written to `report`;
-/// - 3: what the source had left is no template; a line that says so was written to `report`;
+/// - 3: what the source had left is no template, or none that this build generates from; a line that says why was
+///   written to `report`;
 /// - 6: a read failed; a line that says so was written to `report`;
 /// - 7: a write of the command's texts failed;
 /// - 8: memory ran out;
@@ -59,7 +62,9 @@ pub fn run<S: Source, K: Sink, R: Sink>(
         × IsDone command (S.left source.old) (K.held out.old) (K.held out.new) (R.held report.old) (R.held report.new) }
     ensures usage { result ≡ 2 → (command : ACommand) → IsCommand words.now command → ⊥ }
     ensures words { result ≢ 2 → (command : ACommand) × IsCommand words.now command }
-    ensures template { result ≡ 3 → (command : ACommand) × IsCommand words.now command × (takes_template command ≡ true) × LacksTemplate (S.left source.old) }
+    ensures template { result ≡ 3 → (command : ACommand) × IsCommand words.now command × (takes_template command ≡ true) × ((line : List ℕ)
+        × Tells (R.held report.old) (R.held report.new) line (R.fault_at report.new) (R.faults report.old) (R.faults report.new)
+        × ((bytes : List ℕ) → S.left source.old ≡ Some bytes → LacksTemplate bytes line)) }
     ensures malformed { result ≡ 9 → IsCommand words.now Replay × ((part : ℕ)
         × Tells (R.held report.old) (R.held report.new) (malformed_text part) (R.fault_at report.new) (R.faults report.old) (R.faults report.new)
         × ((bytes : List ℕ) → S.left source.old ≡ Some bytes → IsMalformed bytes part)) }
@@ -97,9 +102,12 @@ pub fn run<S: Source, K: Sink, R: Sink>(
     ensures out_later { K.faults out.old ≤ K.faults out.new }
     ensures report_later { R.faults report.old ≤ R.faults report.new }
 {
-    // The laws that bytes are the file of one certificate at most, and that a valid one has no failure.
+    // The laws that a file tells one certificate, that what a template says decides whether one is valid, that a valid
+    // one has no failure, and how long templates are.
     one_spelling();
+    said_law();
     one_verdict();
+    template_law();
     let Some(command) = words.command() else {
         let _ = write_whole(report, USAGE);
         return 2;
@@ -117,8 +125,8 @@ pub fn run<S: Source, K: Sink, R: Sink>(
             Ok(()) => 0,
             Err(_) => 7,
         },
-        Err(Refusal::NoTemplate) => {
-            let _ = write_whole(report, b"template line 0: not built\n");
+        Err(Refusal::NoTemplate(line)) => {
+            let _ = write_whole(report, &line);
             3
         }
         Err(Refusal::NoFile(line)) => {

@@ -3,6 +3,8 @@
 #![tactic(auto)]
 
 mod command;
+#[cfg(test)]
+mod file_tests;
 mod making;
 #[cfg(test)]
 mod tests;

@@ -1,5 +1,5 @@
 // From what was read to the texts that a command writes.
-ghost use Rattle.std.specs.Prelude.{◌≡◌, ◌<◌, ◌≤◌, ℕ, List, length, IfOk, IfErr, IfSome, true};
+ghost use Rattle.std.specs.Prelude.{◌≡◌, ◌<◌, ◌≤◌, ℕ, List, length, IfOk, IfErr, IfSome, Err, true};
 ghost use Rattle.tpl_admit.specs.Sizes.{certificate_size};
 ghost use Rattle.tpl_admit.specs.WellFormed.{IsWellFormed};
 ghost use Rattle.elf_image.specs.File.{file_bytes};
@@ -7,7 +7,10 @@ ghost use Rattle.elf_image.specs.Parts.{IsFirstWrong};
 ghost use Rattle.trace_text.specs.Report.{report_text};
 ghost use Rattle.trace_text.specs.Verdicts.{verdict_text, malformed_text};
 ghost use Rattle.tool_top.specs.declared.words.Command.TheVariants.{Replay};
-ghost use Rattle.tool_top.specs.Promise.{AreTexts, IsRefusedRightly, IsNoFile, out_text, beside_text, takes_template};
+ghost use Rattle.tool_top.specs.declared.words.Command.{Command as ACommand};
+ghost use Rattle.tpl_ast.specs.declared.template.Template.{Template as ATemplate};
+ghost use Rattle.tpl_ast.specs.Parsing.{Parses, parses};
+ghost use Rattle.tool_top.specs.Promise.{AreTexts, IsBuilt, IsRefusedRightly, IsNoFile, out_text, beside_text, takes_template};
 
 use crate::words::Command;
 use elf_image::{ReadError, read, write};
@@ -15,8 +18,13 @@ use gen_engine::generate;
 use replay_check::{Verdict, check};
 use std::alloc::Global;
 use tpl_admit::Cert;
-use tpl_form::{ParseError, parse};
-use trace_text::{malformed, report, verdict};
+use tpl_ast::Fault;
+use tpl_form::form_of;
+use tpl_parse::{ParseError, parse};
+use trace_text::{fault_text, malformed, report, verdict};
+
+/// What is said of a template that this build doesn't generate from.
+const NOT_BUILT: &[u8] = b"template line 0: not built\n";
 
 /// What a command writes: to `out`, and beside that to `report`.
 #[derive(Drop)]
@@ -28,8 +36,8 @@ pub struct Texts {
 /// Why a command writes no texts.
 #[derive(Drop)]
 pub enum Refusal {
-    /// The bytes are no template.
-    NoTemplate,
+    /// The bytes are no template that this build generates from; with the line that says why.
+    NoTemplate(Vec<u8>),
     /// The bytes are no file; with the line that says which part is the first wrong one.
     NoFile(Vec<u8>),
     /// The bytes are the file of a certificate that is not valid; with the line that says its first failure.
@@ -56,15 +64,40 @@ fn test_texts(alloc: Global, command: Command, bytes: &[u8]) -> Result<Texts, Re
 {
     let template = match parse(alloc, bytes) {
         Ok(template) => template,
-        Err(ParseError::Fault(_)) => return Err(Refusal::NoTemplate),
+        Err(ParseError::Fault(fault)) => return Err(faulty(alloc, &fault)),
         Err(ParseError::OutOfMemory) => return Err(Refusal::OutOfMemory),
     };
-    let Ok(certificate) = generate(alloc, template) else {
+    let form = match form_of(alloc, &template) {
+        Ok(Some(form)) => form,
+        Ok(None) => return Err(not_built(alloc)),
+        Err(_) => return Err(Refusal::OutOfMemory),
+    };
+    let Ok(certificate) = generate(alloc, template, &form) else {
         return Err(Refusal::OutOfMemory);
     };
     match texts_of(alloc, command, &certificate) {
         Some(texts) => Ok(texts),
         None => Err(Refusal::OutOfMemory),
+    }
+}
+
+/// That bytes are no template, with the line that tells what is wrong with them.
+fn faulty(alloc: Global, fault: &Fault) -> Refusal
+    ensures { (command : ACommand) (bytes : List ℕ) → takes_template command ≡ true → parses bytes ≡ Err fault.now → IsRefusedRightly command bytes result }
+{
+    match fault_text(alloc, fault) {
+        Ok(line) => Refusal::NoTemplate(line.into_bytes()),
+        Err(_) => Refusal::OutOfMemory,
+    }
+}
+
+/// That this build doesn't generate from the template of the bytes, with the line that tells so.
+fn not_built(alloc: Global) -> Refusal
+    ensures { (command : ACommand) (bytes : List ℕ) (t : ATemplate) → takes_template command ≡ true → Parses bytes t → (IsBuilt t → ⊥) → IsRefusedRightly command bytes result }
+{
+    match Vec::from_slice(alloc, NOT_BUILT) {
+        Ok(line) => Refusal::NoTemplate(line),
+        Err(_) => Refusal::OutOfMemory,
     }
 }
 

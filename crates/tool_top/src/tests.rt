@@ -96,8 +96,6 @@ word 00001ff8 00508013 00508013
 word 00001ffc 7ff08f93 7ff08f93
 ";
 
-const NOT_BUILT: &str = "template line 0: not built\n";
-
 const USAGE: &str =
     "usage: testgen gen --seed N [--nodes N] [--turns N] | replay | exec --order N | show | demo N\n";
 
@@ -216,11 +214,18 @@ fn what_is_no_template_is_told(rt: HostRuntime) -> Result<(), Fail> {
     subtracts.push_str(before)?;
     subtracts.push_str("sub")?;
     subtracts.push_str(after)?;
-    for text in [
-        subtracts.as_bytes().to_vec(alloc)?,
-        vec![in alloc; b' '; 65_537]?,
-        vec![in alloc; 0xFF; 1000]?,
-        Vec::new(alloc),
+    for (text, line) in [
+        (
+            subtracts.as_bytes().to_vec(alloc)?,
+            "template line 0: not built\n",
+        ),
+        (vec![in alloc; b' '; 65_537]?, "template line 0: too long\n"),
+        (vec![in alloc; 0xFF; 1000]?, "template line 1: bad byte\n"),
+        (Vec::new(alloc), "template line 1: unexpected\n"),
+        (
+            "ram 0x80000000 0x80001000\nfoo\n".as_bytes().to_vec(alloc)?,
+            "template line 2: unexpected\n",
+        ),
     ] {
         let mut source = SureSource::new(text);
         let mut out = SureSink::with_room(alloc, ROOM)?;
@@ -228,7 +233,7 @@ fn what_is_no_template_is_told(rt: HostRuntime) -> Result<(), Fail> {
         let status = status_of(alloc, &GEN, &mut source, &mut out, &mut report)?;
         assert_eq!(rt; status, 3);
         assert_eq!(rt; out.bytes().len(), 0);
-        assert_eq!(rt; report.bytes(), NOT_BUILT.as_bytes());
+        assert_eq!(rt; report.bytes(), line.as_bytes());
     }
     Ok(())
 }
@@ -423,7 +428,7 @@ fn replayed(alloc: Global, file: &[u8]) -> Result<Answer, AllocError> {
 }
 
 /// Whether `replay` ends with this status and writes just these texts.
-fn answers(
+pub fn answers(
     alloc: Global,
     file: &[u8],
     status: u8,

@@ -1,176 +1,162 @@
 -- A trace has one least failure at most, and none where its template admits it.
-use Rattle.std.proofs.Common.{◌≡◌, ◌≢◌, ℕ, ◌+◌, ◌⊎◌, eqb, true, false, List, [], ◌∷◌, length, Option, Some, if◌then◌else◌, refl, sym, ap, ◌∙◌, subst, inl, inr}
-use Rattle.std.proofs.lemmas.Bool.{eq-eqb, ne_eqb}
-use Rattle.rv_isa.specs.declared.instruction.Instr.{Instr}
-use Rattle.rv_isa.specs.Encoding.{IsEncoded}
-use Rattle.rv_isa.proofs.Codec.{read_encoded}
-use Rattle.rv_hart.specs.declared.record.Record.{Record}
-use Rattle.rv_hart.specs.declared.record.Outcome.{Outcome}
-use Rattle.tpl_form.specs.declared.template.Leaf.{Leaf}
-use Rattle.tpl_admit.specs.declared.certificate.Cert.{Cert}
+use Rattle.std.proofs.Common.{◌≡◌, ℕ, ◌<◌, ◌⊎◌, ◌&&◌, ◌||◌, eqb, ltb, Bool, true, false, cond, List, [], ◌∷◌, Some, None, refl, sym, ◌∙◌, subst, inl, inr, arith}
+use Rattle.std.specs.List.{AllByRecursion}
+use Rattle.std.proofs.lemmas.Bool.{cases_Bool, eqb-true, eqb-false, eq-eqb, lt-ltb, ltb-true, ltb-false, le-ltb, ne_eqb}
+use Rattle.std.proofs.lemmas.Option.{same_Some}
+use Rattle.rv_script.specs.Lists.{HasItem}
 use Rattle.tpl_admit.specs.declared.admission.Unmet.{Unmet}
-use Rattle.tpl_admit.specs.Starts.{trace_of}
-use Rattle.tpl_admit.specs.Admission.{instr_of, Meets, AreMet, Admits}
-use Rattle.tpl_admit.specs.Unmet.{is_fetch_fault, IsAddi, IsFirstFalse, FailsOn, FailsFrom, StartsAsTold, LeavesFail, IsLeastFailure}
+use Rattle.tpl_admit.specs.declared.certificate.Cert.{Cert}
+use Rattle.tpl_admit.specs.Admission.{Admits, trace_in}
+use Rattle.tpl_admit.specs.Admitting.{comes_before, failures_of, least_among}
+use Rattle.tpl_admit.specs.Unmet.{IsLeast, IsLeastFailure}
 
--- a word has one instruction
-same_some : {A : Type 0} (o : Option A) (x y : A) → o ≡ Some x → o ≡ Some y → x ≡ y
-same_some o x y a b = let e : Some x ≡ Some y = sym a ∙ b in cc
+-- ---- the order, of numbers
 
-encoded_once : (w : ℕ) (i j : Instr) → IsEncoded i w → IsEncoded j w → i ≡ j
-encoded_once w i j a b = same_some _ i j (read_encoded w i a) (read_encoded w j b)
+abbrev before : ℕ → ℕ → Bool → Bool
+before a b rest = ltb a b || (eqb a b && rest)
 
-leaf_addi : (l : Leaf) (w : ℕ) → IsEncoded (instr_of l) w → IsAddi w (instr_of l)
-leaf_addi l w e = record { encoded = e; op = refl }
+-- one of three is so
+data Compared (a b : ℕ) : Type 0 where
+  Less : a < b → Compared a b
+  Same : a ≡ b → Compared a b
+  More : b < a → Compared a b
 
--- the number of the first atom that is false of an ADDI, or else 4
-false_number : Leaf → Instr → ℕ
-false_number l i = if eqb i.rd l.rd then (if eqb i.rs1 l.rs1 then (if eqb i.imm l.imm then 4 else 3) else 2) else 1
-
-numbered : (l : Leaf) (r : Record) (i : Instr) (a : ℕ) → IsAddi r.word i → IsFirstFalse l r a → a ≡ false_number l i
-unfolding false_number
-numbered l r i a is f = elim f [
-  | inl none ↦ absurd (none.1 i is)
-  | inr g ↦ elim g [
-    | inl h ↦
-        let same : h.1 ≡ i = encoded_once r.word h.1 i h.2.encoded is.encoded in
-        let rd : i.rd ≢ l.rd = λ e. h.3 (ap (λ (j : Instr). j.rd) same ∙ e) in
-        rw (ne_eqb i.rd l.rd rd) h.0
-    | inr k ↦ elim k [
-      | inl h ↦
-          let same : h.1 ≡ i = encoded_once r.word h.1 i h.2.encoded is.encoded in
-          let rd : i.rd ≡ l.rd = sym (ap (λ (j : Instr). j.rd) same) ∙ h.3 in
-          let rs1 : i.rs1 ≢ l.rs1 = λ e. h.4 (ap (λ (j : Instr). j.rs1) same ∙ e) in
-          rw (eq-eqb i.rd l.rd rd, ne_eqb i.rs1 l.rs1 rs1) h.0
-      | inr m ↦ elim m [
-        | inl h ↦
-            let same : h.1 ≡ i = encoded_once r.word h.1 i h.2.encoded is.encoded in
-            let rd : i.rd ≡ l.rd = sym (ap (λ (j : Instr). j.rd) same) ∙ h.3 in
-            let rs1 : i.rs1 ≡ l.rs1 = sym (ap (λ (j : Instr). j.rs1) same) ∙ h.4 in
-            let imm : i.imm ≢ l.imm = λ e. h.5 (ap (λ (j : Instr). j.imm) same ∙ e) in
-            rw (eq-eqb i.rd l.rd rd, eq-eqb i.rs1 l.rs1 rs1, ne_eqb i.imm l.imm imm) h.0
-        | inr h ↦
-            let same : instr_of l ≡ i = encoded_once r.word (instr_of l) i h.1 is.encoded in
-            let rd : i.rd ≡ l.rd = sym (ap (λ (j : Instr). j.rd) same) in
-            let rs1 : i.rs1 ≡ l.rs1 = sym (ap (λ (j : Instr). j.rs1) same) in
-            let imm : i.imm ≡ l.imm = sym (ap (λ (j : Instr). j.imm) same) in
-            rw (eq-eqb i.rd l.rd rd, eq-eqb i.rs1 l.rs1 rs1, eq-eqb i.imm l.imm imm) h.0
-      ]
-    ]
+compared : (a b : ℕ) → Compared a b
+compared a b = elim (cases_Bool (ltb a b)) [
+  | inl less ↦ Less (ltb-true a b less)
+  | inr not_less ↦ elim (cases_Bool (eqb a b)) [
+    | inl same ↦ Same (eqb-true a b same)
+    | inr apart ↦ More (omega (arith, ltb-false a b not_less, eqb-false a b apart))
   ]
 ]
 
--- the word is no ADDI, or is one
-addi_cases : (l : Leaf) (r : Record) (a : ℕ) → IsFirstFalse l r a → ((a ≡ 0) × ((i : Instr) → IsAddi r.word i → ⊥)) ⊎ ((i : Instr) × IsAddi r.word i)
-addi_cases l r a f = elim f [
-  | inl none ↦ inl none
-  | inr g ↦ inr (elim g [
-    | inl h ↦ (h.1, h.2)
-    | inr k ↦ elim k [
-      | inl h ↦ (h.1, h.2)
-      | inr m ↦ elim m [ inl h ↦ (h.1, h.2) | inr h ↦ (instr_of l, leaf_addi l r.word h.1) ]
-    ]
-  ])
-]
+less_before : (a b : ℕ) (rest : Bool) → a < b → before a b rest ≡ true
+less_before a b rest l = rw (lt-ltb a b l) refl
 
-false_once : (l : Leaf) (r : Record) (a b : ℕ) → IsFirstFalse l r a → IsFirstFalse l r b → a ≡ b
-false_once l r a b f g = elim (addi_cases l r a f) [
-  | inl none ↦ elim (addi_cases l r b g) [ inl also ↦ none.0 ∙ sym also.0 | inr is ↦ absurd (none.1 is.0 is.1) ]
-  | inr is ↦ numbered l r is.0 a is.1 f ∙ sym (numbered l r is.0 b is.1 g)
-]
+more_before : (a b : ℕ) (rest : Bool) → b < a → before a b rest ≡ false
+more_before a b rest m = rw (le-ltb a b (omega (arith, m)), ne_eqb a b (λ e. omega (arith, e, m))) refl
 
--- a leaf that is met has no false atom
-meets_never : (l : Leaf) (r : Record) (a : ℕ) → Meets l r → IsFirstFalse l r a → ⊥
-meets_never l r a m f = elim f [
-  | inl none ↦ none.1 (instr_of l) (leaf_addi l r.word m.word)
-  | inr g ↦ elim g [
-    | inl h ↦ h.3 (ap (λ (j : Instr). j.rd) (encoded_once r.word h.1 (instr_of l) h.2.encoded m.word))
-    | inr k ↦ elim k [
-      | inl h ↦ h.4 (ap (λ (j : Instr). j.rs1) (encoded_once r.word h.1 (instr_of l) h.2.encoded m.word))
-      | inr n ↦ elim n [
-        | inl h ↦ h.5 (ap (λ (j : Instr). j.imm) (encoded_once r.word h.1 (instr_of l) h.2.encoded m.word))
-        | inr h ↦ h.2 m.outcome
-      ]
-    ]
-  ]
-]
+same_before : (a : ℕ) (rest : Bool) → before a a rest ≡ rest
+same_before a rest = rw (le-ltb a a (omega arith), eq-eqb a a refl) refl
 
-true_false : true ≡ false → ⊥
-true_false e = cc
+never_true : (t : Bool) → t ≡ true → t ≡ false → ⊥
+never_true t a b = let e : true ≡ false = sym a ∙ b in absurd (cc e)
 
-pub fails_once : (l : Leaf) (r : Record) (a b : ℕ) → FailsOn l r a → FailsOn l r b → a ≡ b
-fails_once l r a b f g = elim f [
-  | inl fault ↦ elim g [ inl also ↦ fault.1 ∙ sym also.1 | inr none ↦ absurd (true_false (sym fault.0 ∙ none.0)) ]
-  | inr none ↦ elim g [ inl fault ↦ absurd (true_false (sym fault.0 ∙ none.0)) | inr also ↦ false_once l r a b none.1 also.1 ]
-]
+-- what isn't before the second, which isn't before the third, isn't before the third; and so for what decides where numbers are the same
+steps : (a b c : ℕ) (ab bc ac : Bool) → (ab ≡ false → bc ≡ false → ac ≡ false) → before a b ab ≡ false → before b c bc ≡ false → before a c ac ≡ false
+steps a b c ab bc ac rest x y = go (compared a b) (compared b c) where
+  go : Compared a b → Compared b c → before a c ac ≡ false
+  go (Less l) q = absurd (never_true (before a b ab) (less_before a b ab l) x)
+  go p (Less l) = absurd (never_true (before b c bc) (less_before b c bc l) y)
+  go (More m) (More n) = more_before a c ac (omega (arith, m, n))
+  go (More m) (Same n) = more_before a c ac (omega (arith, m, n))
+  go (Same m) (More n) = more_before a c ac (omega (arith, m, n))
+  go (Same m) (Same n) =
+      let first : ab ≡ false = sym (same_before b ab) ∙ subst (λ (i : ℕ). before i b ab ≡ false) m x in
+      let second : bc ≡ false = sym (same_before c bc) ∙ subst (λ (i : ℕ). before i c bc ≡ false) n y in
+      subst (λ (i : ℕ). before i c ac ≡ false) (sym (m ∙ n)) (same_before c ac ∙ rest first second)
 
-pub meets_fails : (l : Leaf) (r : Record) (a : ℕ) → Meets l r → FailsOn l r a → ⊥
-meets_fails l r a m f = elim f [
-  | inl fault ↦ true_false (sym fault.0 ∙ ap (λ (o : Outcome). is_fetch_fault o) m.outcome)
-  | inr none ↦ meets_never l r a m none.1
-]
+-- neither is before the other only where they are the same
+ties : (a b : ℕ) (ab ba : Bool) → before a b ab ≡ false → before b a ba ≡ false → (a ≡ b) × (ab ≡ false) × (ba ≡ false)
+ties a b ab ba x y = go (compared a b) where
+  go : Compared a b → (a ≡ b) × (ab ≡ false) × (ba ≡ false)
+  go (Less l) = absurd (never_true (before a b ab) (less_before a b ab l) x)
+  go (More m) = absurd (never_true (before b a ba) (less_before b a ba m) y)
+  go (Same s) = (s, sym (same_before b ab) ∙ subst (λ (i : ℕ). before i b ab ≡ false) s x, sym (same_before b ba) ∙ subst (λ (i : ℕ). before b i ba ≡ false) s y)
 
--- the first difference is one
-pub from_once : (ls : List Leaf) (rs : List Record) (n s a s' a' : ℕ) → FailsFrom ls rs n s a → FailsFrom ls rs n s' a' → (s ≡ s') × (a ≡ a')
-from_once [] [] n s a s' a' f g = absurd f
-from_once (l ∷ ls) [] n s a s' a' f g = (f.0 ∙ sym g.0, f.1 ∙ sym g.1)
-from_once [] (r ∷ rs) n s a s' a' f g = (f.0 ∙ sym g.0, f.1 ∙ sym g.1)
-from_once (l ∷ ls) (r ∷ rs) n s a s' a' f g = go (from_once ls rs (n + 1) s a s' a') f g
-  where
-    go : (FailsFrom ls rs (n + 1) s a → FailsFrom ls rs (n + 1) s' a' → (s ≡ s') × (a ≡ a')) → FailsFrom (l ∷ ls) (r ∷ rs) n s a → FailsFrom (l ∷ ls) (r ∷ rs) n s' a' → (s ≡ s') × (a ≡ a')
-    go ih (inl here) (inl also) = (here.0 ∙ sym also.0, fails_once l r a a' here.1 also.1)
-    go ih (inl here) (inr later) = absurd (meets_fails l r a later.0 here.1)
-    go ih (inr later) (inl here) = absurd (meets_fails l r a' later.0 here.1)
-    go ih (inr later) (inr also) = ih later.1 also.1
+-- what is before another isn't behind it
+turned : (a b : ℕ) (ab ba : Bool) → (ab ≡ true → ba ≡ false) → before a b ab ≡ true → before b a ba ≡ false
+turned a b ab ba rest x = go (compared a b) where
+  go : Compared a b → before b a ba ≡ false
+  go (Less l) = more_before b a ba l
+  go (More m) = absurd (never_true (before a b ab) x (more_before a b ab m))
+  go (Same s) = subst (λ (i : ℕ). before b i ba ≡ false) (sym s) (same_before b ba ∙ rest (sym (same_before b ab) ∙ subst (λ (i : ℕ). before i b ab ≡ true) s x))
 
-pub met_never : (ls : List Leaf) (rs : List Record) (n s a : ℕ) → AreMet ls rs → FailsFrom ls rs n s a → ⊥
-met_never [] [] n s a m f = f
-met_never (l ∷ ls) [] n s a m f = m
-met_never [] (r ∷ rs) n s a m f = m
-met_never (l ∷ ls) (r ∷ rs) n s a m f = go (met_never ls rs (n + 1) s a m.1) f
-  where
-    go : (FailsFrom ls rs (n + 1) s a → ⊥) → FailsFrom (l ∷ ls) (r ∷ rs) n s a → ⊥
-    go ih (inl here) = meets_fails l r a m.0 here.1
-    go ih (inr later) = ih later.1
+-- ---- the order of failures
 
-told_of : (c : Cert) → Admits c → StartsAsTold c
-told_of c v = record { pc = v.pc; privilege = v.privilege; mstatus = v.mstatus; medeleg = v.medeleg; satp = v.satp }
+abbrev last : Unmet → Unmet → Bool
+last f g = ltb f.atom g.atom
+
+abbrev middle : Unmet → Unmet → Bool
+middle f g = before f.step g.step (last f g)
+
+atoms_turned : (f g : Unmet) → last f g ≡ true → last g f ≡ false
+atoms_turned f g h = le-ltb g.atom f.atom (omega (arith, ltb-true f.atom g.atom h))
+
+atoms_step : (f g h : Unmet) → last f g ≡ false → last g h ≡ false → last f h ≡ false
+atoms_step f g h x y = le-ltb f.atom h.atom (omega (arith, ltb-false f.atom g.atom x, ltb-false g.atom h.atom y))
+
+not_before_step : (f g h : Unmet) → comes_before f g ≡ false → comes_before g h ≡ false → comes_before f h ≡ false
+not_before_step f g h = steps f.hart g.hart h.hart (middle f g) (middle g h) (middle f h) (steps f.step g.step h.step (last f g) (last g h) (last f h) (atoms_step f g h))
+
+before_turned : (f g : Unmet) → comes_before f g ≡ true → comes_before g f ≡ false
+before_turned f g = turned f.hart g.hart (middle f g) (middle g f) (turned f.step g.step (last f g) (last g f) (atoms_turned f g))
+
+never_before_itself : (f : Unmet) → comes_before f f ≡ false
+never_before_itself f = same_before f.hart (middle f f) ∙ same_before f.step (last f f) ∙ le-ltb f.atom f.atom (omega arith)
+
+-- ---- the least of some failures
+
+-- the least of these and of one that was found before
+record IsLeastWith (fs : List Unmet) (g u : Unmet) : Type 0 where
+  one : (g ≡ u) ⊎ HasItem fs u
+  found : comes_before g u ≡ false
+  least : AllByRecursion (λ f. comes_before f u ≡ false) fs
+
+least_with : (fs : List Unmet) (g u : Unmet) → least_among fs (Some g) ≡ Some u → IsLeastWith fs g u
+least_with [] g u is =
+    let same : g ≡ u = same_Some g u is in
+    record { one = inl same; found = subst (λ (x : Unmet). comes_before g x ≡ false) same (never_before_itself g); least = tt }
+least_with (f ∷ fs) g u is = go (comes_before f g) refl is (λ x. least_with fs x u) where
+  go : (b : Bool) → comes_before f g ≡ b → least_among fs (cond b (Some f) (Some g)) ≡ Some u → ((x : Unmet) → least_among fs (Some x) ≡ Some u → IsLeastWith fs x u) → IsLeastWith (f ∷ fs) g u
+  go true b is rest =
+      let so = rest f is in
+      record { one = inr so.one; found = not_before_step g f u (before_turned f g b) so.found; least = (so.found, so.least) }
+  go false b is rest =
+      let so = rest g is in
+      record {
+        one = elim so.one [ inl same ↦ inl same | inr there ↦ inr (inr there) ];
+        found = so.found;
+        least = (not_before_step f g u b so.found, so.least);
+      }
+
+some_least : (fs : List Unmet) (g : Unmet) → least_among fs (Some g) ≡ None → ⊥
+some_least [] g is = absurd (cc is)
+some_least (f ∷ fs) g is = go (comes_before f g) is (some_least fs) where
+  go : (b : Bool) → least_among fs (cond b (Some f) (Some g)) ≡ None → ((x : Unmet) → least_among fs (Some x) ≡ None → ⊥) → ⊥
+  go true is rest = rest f is
+  go false is rest = rest g is
+
+pub none_least : (fs : List Unmet) → least_among fs None ≡ None → fs ≡ []
+none_least [] is = refl
+none_least (f ∷ fs) is = absurd (some_least fs f is)
+
+pub least_is : (fs : List Unmet) (u : Unmet) → least_among fs None ≡ Some u → IsLeast fs u
+least_is [] u is = absurd (cc is)
+least_is (f ∷ fs) u is = let so = least_with fs f u is in record { one = so.one; least = (so.found, so.least) }
+
+-- ---- of a certificate
+
+item_of_none : (fs : List Unmet) (u : Unmet) → fs ≡ [] → HasItem fs u → ⊥
+item_of_none [] u none there = there
+item_of_none (f ∷ fs) u none there = absurd (cc none)
 
 pub admitted_never : (c : Cert) (hart step atom : ℕ) → Admits c → IsLeastFailure c hart step atom → ⊥
-admitted_never c hart step atom v f = elim f.1 [
-  | inl told ↦ met_never c.template.leaves (trace_of c 0) 0 step atom v.leaves told.1
-  | inr untold ↦ untold.0 (told_of c v)
-]
+admitted_never c hart step atom none l = item_of_none (failures_of (trace_in c)) (record { hart = hart; step = step; atom = atom }) none l.one
 
-pub least_once : (c : Cert) (hart step atom hart' step' atom' : ℕ) → IsLeastFailure c hart step atom → IsLeastFailure c hart' step' atom' → (hart ≡ hart') × (step ≡ step') × (atom ≡ atom')
-least_once c hart step atom hart' step' atom' f g = go f.1 g.1
-  where
-    atoms : (LeavesFail c 0 atom ⊎ (((a : ℕ) → LeavesFail c 0 a → ⊥) × (atom ≡ 65535))) → (LeavesFail c 0 atom' ⊎ (((a : ℕ) → LeavesFail c 0 a → ⊥) × (atom' ≡ 65535))) → atom ≡ atom'
-    atoms (inl here) (inl also) = (from_once c.template.leaves (trace_of c 0) 0 0 atom 0 atom' here also).1
-    atoms (inl here) (inr none) = absurd (none.0 atom here)
-    atoms (inr none) (inl here) = absurd (none.0 atom' here)
-    atoms (inr none) (inr also) = none.1 ∙ sym also.1
+all_at : (P : Unmet → Type 0) (fs : List Unmet) (u : Unmet) → AllByRecursion P fs → HasItem fs u → P u
+all_at P [] u all there = absurd there
+all_at P (f ∷ fs) u all (inl same) = subst P same all.0
+all_at P (f ∷ fs) u all (inr there) = all_at P fs u all.1 there
 
-    go : (StartsAsTold c × LeavesFail c step atom) ⊎ ((StartsAsTold c → ⊥) × (step ≡ 0) × (LeavesFail c 0 atom ⊎ (((a : ℕ) → LeavesFail c 0 a → ⊥) × (atom ≡ 65535))))
-        → (StartsAsTold c × LeavesFail c step' atom') ⊎ ((StartsAsTold c → ⊥) × (step' ≡ 0) × (LeavesFail c 0 atom' ⊎ (((a : ℕ) → LeavesFail c 0 a → ⊥) × (atom' ≡ 65535))))
-        → (hart ≡ hart') × (step ≡ step') × (atom ≡ atom')
-    go (inl told) (inl also) = let e = from_once c.template.leaves (trace_of c 0) 0 step atom step' atom' told.1 also.1 in (f.0 ∙ sym g.0, e.0, e.1)
-    go (inl told) (inr untold) = absurd (untold.0 told.0)
-    go (inr untold) (inl told) = absurd (untold.0 told.0)
-    go (inr other) (inr also) = (f.0 ∙ sym g.0, other.1 ∙ sym also.1, atoms other.2 also.2)
+least_ties : (fs : List Unmet) (u v : Unmet) → IsLeast fs u → IsLeast fs v → (u.hart ≡ v.hart) × (u.step ≡ v.step) × (u.atom ≡ v.atom)
+least_ties fs u v l m =
+    let uv : comes_before u v ≡ false = all_at (λ f. comes_before f v ≡ false) fs u m.least l.one in
+    let vu : comes_before v u ≡ false = all_at (λ f. comes_before f u ≡ false) fs v l.least m.one in
+    let harts = ties u.hart v.hart (middle u v) (middle v u) uv vu in
+    let by_step = ties u.step v.step (last u v) (last v u) harts.1 harts.2 in
+    (harts.0, by_step.0, omega (arith, ltb-false u.atom v.atom by_step.1, ltb-false v.atom u.atom by_step.2))
 
--- ---- what `admits` answers
-
-pub admitted : (c : Cert) → length c.start ≡ 1 → StartsAsTold c → AreMet c.template.leaves (trace_of c 0) → Admits c
-admitted c one told met = record { harts = one; pc = told.pc; privilege = told.privilege; mstatus = told.mstatus; medeleg = told.medeleg; satp = told.satp; leaves = met }
-
--- the answer has the numbers of the failure
-pub told_least : (c : Cert) (v u : Unmet) → Some v ≡ Some u → IsLeastFailure c v.hart v.step v.atom → IsLeastFailure c u.hart u.step u.atom
-told_least c v u e f = let same : v ≡ u = cc in subst (λ (w : Unmet). IsLeastFailure c w.hart w.step w.atom) same f
-
-pub least_of_start : (c : Cert) (step atom : ℕ) → (StartsAsTold c → ⊥) → LeavesFail c step atom → step ≢ 0 → IsLeastFailure c 0 0 65535
-least_of_start c step atom untold f later =
-    (refl, inr (untold, refl, inr ((λ a g. later (from_once c.template.leaves (trace_of c 0) 0 step atom 0 a f g).0), refl)))
-
-pub least_of_met : (c : Cert) → (StartsAsTold c → ⊥) → AreMet c.template.leaves (trace_of c 0) → IsLeastFailure c 0 0 65535
-least_of_met c untold met = (refl, inr (untold, refl, inr ((λ a g. met_never c.template.leaves (trace_of c 0) 0 0 a met g), refl)))
+pub one_least : (c : Cert) (hart step atom hart' step' atom' : ℕ) → IsLeastFailure c hart step atom → IsLeastFailure c hart' step' atom' → (hart ≡ hart') × (step ≡ step') × (atom ≡ atom')
+one_least c hart step atom hart' step' atom' l m =
+    least_ties (failures_of (trace_in c)) (record { hart = hart; step = step; atom = atom }) (record { hart = hart'; step = step'; atom = atom' }) l m

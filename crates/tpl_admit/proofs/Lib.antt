@@ -1,3 +1,4 @@
-pub mod Leaves
 pub mod Failures
 pub mod Layouts
+mod Limits
+mod Said

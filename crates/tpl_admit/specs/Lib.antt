@@ -14,3 +14,4 @@ pub mod Sizes
 pub mod WellFormed
 pub mod Unmet
 pub mod Failures
+pub mod Laws

@@ -26,11 +26,12 @@ abbrev pub ArePlaces : ℕ → List (ℕ × ℕ) → Type 0
 ArePlaces from [] = Unit {0}
 ArePlaces from (e ∷ es) = (from ≤ e.0) × (is_key e.0 ≡ true) × (e.1 < 2 ^ 32) × ArePlaces (e.0 + 1) es
 
-abbrev pub is_in : Region → ℕ → Bool
-is_in ram a = nat_le ram.low a && nat_lt a ram.high
+-- the address lies in one of the regions
+abbrev pub is_in : List Region → ℕ → Bool
+is_in ram a = list_any (λ r. nat_le r.low a && nat_lt a r.high) ram
 
 -- aligned words of RAM from an address on, in ascending order and each once, with words as values
-abbrev pub AreStartWords : Region → ℕ → List (ℕ × ℕ) → Type 0
+abbrev pub AreStartWords : List Region → ℕ → List (ℕ × ℕ) → Type 0
 AreStartWords ram from [] = Unit {0}
 AreStartWords ram from (e ∷ es) = (from ≤ e.0) × (e.0 % 4 ≡ 0) × (is_in ram e.0 ≡ true) × (e.1 < 2 ^ 32) × AreStartWords ram (e.0 + 4) es
 
@@ -53,7 +54,7 @@ abbrev pub word_of : Cert → ℕ → Option ℕ
 word_of c n = found c.words (n * 4)
 
 -- the fixed parts that a state gives to hart k
-abbrev pub fixed_in : Region → ℕ → HartState → Fixed
+abbrev pub fixed_in : List Region → ℕ → HartState → Fixed
 fixed_in ram k s = record {
   pc = s.pc;
   privilege = s.privilege;
@@ -65,7 +66,7 @@ fixed_in ram k s = record {
 }
 
 -- a hart has these fixed parts, and the values that are given
-pub record IsInState (ram : Region) (k : ℕ) (s : HartState) (h : WholeHart) : Type 0 where
+pub record IsInState (ram : List Region) (k : ℕ) (s : HartState) (h : WholeHart) : Type 0 where
   pub fixed : h.fixed ≡ fixed_in ram k s
   pub places : (key v : ℕ) → found s.places key ≡ Some v → h.file key ≡ v
 

@@ -1,5 +1,5 @@
 -- Which certificates have a file: values that a file can hold, within its limits.
-use Rattle.std.specs.Prelude.{◌≡◌, ℕ, ◌*◌, ◌%◌, ◌^◌, ◌<◌, ◌≤◌, Bool, true, ◌||◌, ◌==◌, nat_lt, length, sum_by, Option, Some, None}
+use Rattle.std.specs.Prelude.{◌≡◌, ℕ, ◌+◌, ◌*◌, ◌%◌, ◌^◌, ◌<◌, ◌≤◌, Bool, true, ◌||◌, ◌==◌, nat_lt, List, [], ◌∷◌, length, sum_by, Option, Some, None, slice_get}
 use Rattle.std.specs.List.{AllByRecursion}
 use Rattle.rv_csr.specs.Table.{csr_address, is_legal_at}
 use Rattle.rv_csr.specs.Causes.{is_cause}
@@ -7,8 +7,11 @@ use Rattle.rv_script.specs.declared.access.Access.{Access}
 use Rattle.rv_hart.specs.declared.record.Outcome.{Outcome}
 use Rattle.rv_hart.specs.declared.record.Outcome.TheVariants.{Retired, Trap}
 use Rattle.rv_hart.specs.declared.record.Record.{Record}
-use Rattle.tpl_form.specs.Form.{Parses}
+use Rattle.dom_set.specs.Elements.{is_in}
+use Rattle.tpl_ast.specs.declared.template.NameDecl.{NameDecl}
+use Rattle.tpl_ast.specs.Parsing.{Parses}
 use Rattle.tpl_admit.specs.declared.certificate.Cert.{Cert}
+use Rattle.tpl_admit.specs.declared.dropped.Dropped.{Dropped}
 use Rattle.tpl_ast.specs.declared.template.HartState.{HartState}
 use Rattle.tpl_admit.specs.Starts.{ArePlaces, AreStartWords}
 use Rattle.tpl_admit.specs.Sizes.{file_size}
@@ -57,10 +60,30 @@ pub record IsRecord (r : Record) : Type 0 where
   pub accesses : AllByRecursion IsAccess r.accesses
   pub count : length r.accesses ≤ 8
 
--- the values that a file can hold, and its limits; this build's files are those of one hart
+-- the name is one of the template's, and the value is in its domain
+abbrev pub IsNamed : Option NameDecl → ℕ → Type 0
+IsNamed None value = ⊥
+IsNamed (Some d) value = is_in d.set value ≡ true
+
+-- values of names from an index on, by ascending index
+abbrev pub AreNamed : List NameDecl → ℕ → List (ℕ × ℕ) → Type 0
+AreNamed names from [] = Unit {0}
+AreNamed names from (e ∷ es) = (from ≤ e.0) × IsWord e.0 × IsWord e.1 × IsNamed (slice_get names e.0) e.1 × AreNamed names (e.0 + 1) es
+
+-- where an entry stands among all that could be dropped: 8,192 steps a hart and 32 atoms a step
+abbrev pub drop_place : Dropped → ℕ
+drop_place d = (d.hart * 8192 + d.step) * 32 + d.atom
+
+-- dropped biases of so many harts from a place on, by ascending hart, step and atom
+abbrev pub AreDropped : ℕ → ℕ → List Dropped → Type 0
+AreDropped harts from [] = Unit {0}
+AreDropped harts from (d ∷ ds) = (d.hart < harts) × (d.step < 8192) × (d.atom < 32) × (from ≤ drop_place d) × AreDropped harts (drop_place d + 1) ds
+
+-- the values that a file can hold, and its limits
 pub record IsWellFormed (c : Cert) : Type 0 where
   pub size : file_size c ≤ 8388608
-  pub harts : length c.start ≡ 1
+  pub some_harts : 1 ≤ length c.start
+  pub harts : length c.start ≤ 4
   pub start : AllByRecursion IsState c.start
   pub finals_count : length c.finals ≡ length c.start
   pub finals : AllByRecursion IsState c.finals
@@ -72,3 +95,9 @@ pub record IsWellFormed (c : Cert) : Type 0 where
   pub last_count : length c.last ≡ length c.words
   pub last : AllByRecursion IsWord c.last
   pub template : Parses c.template.text c.template
+  pub template_harts : length c.template.harts ≡ length c.start
+  pub choices_count : length c.choices ≤ 8192
+  pub choices : AllByRecursion IsWord c.choices
+  pub names : AreNamed c.template.names 0 c.names
+  pub dropped_count : length c.dropped ≤ 262144
+  pub dropped : AreDropped (length c.start) 0 c.dropped

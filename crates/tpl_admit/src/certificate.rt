@@ -1,6 +1,6 @@
+use crate::dropped::Dropped;
 use rv_hart::Record;
-use tpl_ast::{HartState, Items};
-use tpl_form::Template;
+use tpl_ast::{HartState, Items, Template};
 
 /// A test with all that it promises, hart by hart.
 #[derive(Drop)]
@@ -17,4 +17,10 @@ pub struct Cert {
     pub last: Items<u32>,
     /// The template that the test is made from.
     pub template: Template,
+    /// Which alternative each choice takes, from 0, in the order in which the choices are entered.
+    pub choices: Items<u32>,
+    /// Pairs of a name's index and its value by ascending index.
+    pub names: Items<(u32, u32)>,
+    /// The biases that are not kept, by ascending hart, step and atom.
+    pub dropped: Items<Dropped>,
 }

@@ -7,6 +7,7 @@ mod certificate;
 mod dropped;
 mod harts;
 mod judging;
+mod laws;
 mod moment;
 #[cfg(test)]
 mod tests;
@@ -16,4 +17,5 @@ pub use admission::{Unmet, admits, least_failures_are_unique};
 pub use certificate::Cert;
 pub use dropped::{Dropped, Why};
 pub use judging::Trace;
+pub use laws::said_law;
 pub use tpl_ast::HartState;

@@ -14,7 +14,7 @@ pub long_texts : (text : List ℕ) → 65536 < length text → parses text ≡ E
 unfolding parses
 long_texts text long = rw (lt-ltb 65536 (length text) long) refl
 
-parses_by : (text : List ℕ) → length text ≤ 65536 → parses text ≡ run nothing 1 (lines text)
+pub parses_by : (text : List ℕ) → length text ≤ 65536 → parses text ≡ run nothing 1 (lines text)
 unfolding parses
 parses_by text short = rw (le-ltb 65536 (length text) short) refl
 

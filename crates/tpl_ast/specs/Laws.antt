@@ -1,15 +1,20 @@
 -- Laws of the language.
-use Rattle.std.specs.Prelude.{◌≡◌, ℕ, ◌<◌, ◌≤◌, true, List, [], ◌∷◌, ◌++◌, length, Err, ◌+◌, Vec, slice_index_or}
+use Rattle.std.specs.Prelude.{◌≡◌, ℕ, ◌%◌, ◌<◌, ◌≤◌, true, List, [], ◌∷◌, ◌++◌, length, Err, ◌+◌, Vec, slice_index_or, Some}
 use Rattle.std.specs.Global.{Global}
-use Rattle.std.specs.List.{list_any}
+use Rattle.std.specs.List.{AllByRecursion, list_any}
 use Rattle.tpl_ast.specs.declared.fault.Kind.{Kind}
 use Rattle.tpl_ast.specs.declared.fault.Kind.TheVariants.{TooLong}
 use Rattle.tpl_ast.specs.declared.template.Item.{Item}
 use Rattle.tpl_ast.specs.declared.template.Item.TheViews as views
+use Rattle.tpl_ast.specs.declared.template.Region.{Region}
+use Rattle.tpl_ast.specs.declared.template.Template.{Template}
+use Rattle.tpl_ast.specs.Bodies.{lines_of_body}
 use Rattle.tpl_ast.specs.Depths.{size_of_body, size_of_item, size_of_ways}
+use Rattle.tpl_ast.specs.Expansion.{layout_of, records_in}
+use Rattle.tpl_ast.specs.Lengths.{fixed_of_body, length_of_body}
 use Rattle.tpl_ast.specs.Lines.{is_bad_byte, lines, stripped, uncommented}
 use Rattle.tpl_ast.specs.Tokens.{is_blank, tokens_of}
-use Rattle.tpl_ast.specs.Parsing.{fault, parses}
+use Rattle.tpl_ast.specs.Parsing.{Parses, fault, parses}
 
 -- a text of more than 65,536 bytes is refused as a whole
 abbrev pub LongTextsAreRefused : Type 0
@@ -60,3 +65,31 @@ pub record SizesFall : Type 0 where
   pub seq : (body : Vec Item Global) → size_of_item (views.Seq body) ≡ 1 + size_of_body body.items
   pub repeat : (times : ℕ) (body : Vec Item Global) → size_of_item (views.Repeat times body) ≡ 1 + size_of_body body.items
   pub choose : (line : ℕ) (ways : Vec (ℕ × Vec Item Global) Global) → size_of_item (views.Choose line ways) ≡ 1 + size_of_ways ways.items
+
+-- ---- what holds of every template
+
+-- whole frames of 4,096 bytes, up to 0xFFFFF000
+pub record IsFramed (r : Region) : Type 0 where
+  pub low : r.low % 4096 ≡ 0
+  pub high : r.high % 4096 ≡ 0
+  pub some : r.low < r.high
+  pub most : r.high ≤ 0xFFFFF000
+
+pub record IsSound (bytes : List ℕ) (t : Template) : Type 0 where
+  pub text : length bytes ≤ 65536
+  pub ram : AllByRecursion IsFramed t.ram
+
+abbrev pub TemplatesAreSound : Type 0
+TemplatesAreSound = (text : List ℕ) (t : Template) → Parses text t → IsSound text t
+
+-- bodies of the same lines are laid out alike
+abbrev pub LinesTellLayouts : Type 0
+LinesTellLayouts = (is js : List Item) → lines_of_body is ≡ lines_of_body js → layout_of is ≡ layout_of js
+
+-- a body is laid out as at most as many records as its length says
+abbrev pub LengthsBound : Type 0
+LengthsBound = (items : List Item) (choices : List ℕ) → records_in (layout_of items choices).pieces ≤ length_of_body items
+
+-- and as just as many where their number is left to no choice
+abbrev pub FixedLengthsAreExact : Type 0
+FixedLengthsAreExact = (items : List Item) (choices : List ℕ) (n : ℕ) → fixed_of_body items ≡ Some n → (length_of_body items ≡ n) × (records_in (layout_of items choices).pieces ≡ n)

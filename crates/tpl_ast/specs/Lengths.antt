@@ -1,5 +1,5 @@
 -- The lengths of bodies, in records.
-use Rattle.std.specs.Prelude.{ℕ, ◌+◌, ◌-◌, ◌*◌, ◌^◌, max, min, List, [], ◌∷◌, map, Vec}
+use Rattle.std.specs.Prelude.{ℕ, zero, suc, ◌+◌, ◌-◌, ◌*◌, ◌^◌, max, min, List, [], ◌∷◌, map, Option, Some, None, Vec}
 use Rattle.std.specs.Global.{Global}
 use Rattle.tpl_ast.specs.declared.template.Item.{Item}
 use Rattle.tpl_ast.specs.declared.template.Item.TheOpen.{Item-F}
@@ -39,3 +39,35 @@ length_of_body items = sum_of (map length_of_item items)
 abbrev pub longest_body : List (ℕ × Vec Item Global) → ℕ
 longest_body [] = 0
 longest_body (w ∷ ws) = max (length_of_body w.1.items) (longest_body ws)
+
+-- ---- the records of bodies that leave their number to no choice
+
+abbrev pub plus : Option ℕ → Option ℕ → Option ℕ
+plus None o = None
+plus (Some n) None = None
+plus (Some n) (Some m) = Some (n + m)
+
+abbrev pub total_of : List (Option ℕ) → Option ℕ
+total_of [] = Some 0
+total_of (o ∷ os) = plus o (total_of os)
+
+abbrev pub some_times : ℕ → Option ℕ → Option ℕ
+some_times times None = None
+some_times times (Some zero) = None
+some_times times (Some (suc n)) = Some (times * suc n)
+
+-- one item, with that of each inner item in its place: None for a choice, and for a repeat of a body without a record
+abbrev pub fixed_in : Item-F (Option ℕ) → Option ℕ
+fixed_in (layers.Leaf line wishes) = Some 1
+fixed_in (layers.FetchFault line causes) = Some 1
+fixed_in (layers.Seq body) = total_of body.items
+fixed_in (layers.Repeat times body) = some_times times (total_of body.items)
+fixed_in (layers.Choose line ways) = None
+fixed_in (layers.Label name) = Some 0
+
+abbrev pub fixed_of_item : Item → Option ℕ
+fixed_of_item = fold-Item (Option ℕ) fixed_in
+
+-- how many records a body has whatever is chosen, where no choice stands in it and no repeat of a body without a record
+abbrev pub fixed_of_body : List Item → Option ℕ
+fixed_of_body items = total_of (map fixed_of_item items)

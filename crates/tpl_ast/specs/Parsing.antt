@@ -1,5 +1,5 @@
 -- What the lines so far have said, what is wrong with the next one, and what it says.
-use Rattle.std.specs.Prelude.{ℕ, ◌+◌, ◌-◌, ◌*◌, ◌%◌, ◌^◌, Bool, true, false, not, ◌&&◌, ◌||◌, ◌==◌, nat_lt, nat_le, max, List, [], ◌∷◌, ◌++◌, map, length, Option, Some, None, is_none, is_some, Result, Ok, Err, if◌then◌else◌}
+use Rattle.std.specs.Prelude.{◌≡◌, ℕ, ◌+◌, ◌-◌, ◌*◌, ◌%◌, ◌^◌, Bool, true, false, not, ◌&&◌, ◌||◌, ◌==◌, nat_lt, nat_le, max, List, [], ◌∷◌, ◌++◌, map, length, Option, Some, None, is_none, is_some, Result, Ok, Err, if◌then◌else◌}
 use Rattle.std.specs.List.{list_any}
 use Rattle.std.specs.Option.{unwrap_or}
 use Rattle.std.specs.Str.{bytes_eq}
@@ -616,3 +616,8 @@ run k n (l ∷ m ∷ ls) = elim (judged k n (stripped l) false) [
 -- what a text says, or its first faulty line with the least kind of fault on it
 unfoldable pub parses : List ℕ → Result Said AFault
 parses text = if nat_lt 65536 (length text) then Err (fault 0 kinds.TooLong) else run nothing 1 (lines text)
+
+-- the template is what the text says
+pub record Parses (bytes : List ℕ) (t : Template) : Type 0 where
+  pub text : t.text ≡ bytes
+  pub says : parses bytes ≡ Ok (said_by t)

@@ -1,5 +1,5 @@
 // Laws of the language.
-ghost use Rattle.tpl_ast.specs.Laws.{BlanksSayNothing, CarriageReturnsSayNothing, CommentsSayNothing, FirstFaultDecides, LongTextsAreRefused, SizesFall, TokensDecide};
+ghost use Rattle.tpl_ast.specs.Laws.{BlanksSayNothing, CarriageReturnsSayNothing, CommentsSayNothing, FirstFaultDecides, FixedLengthsAreExact, LengthsBound, LinesTellLayouts, LongTextsAreRefused, SizesFall, TemplatesAreSound, TokensDecide};
 
 /// Does nothing. Its contract says that a text says what the tokens of its lines say, that comments, blanks and
 /// carriage returns before line feeds say nothing, that the answer for a faulty text depends on its lines up to
@@ -18,4 +18,21 @@ pub fn language_laws()
 /// over items end.
 pub fn size_law()
     ensures { SizesFall }
+{}
+
+/// Does nothing. Its contract says what holds of every template: how long its text is, and that RAM is whole frames.
+pub fn template_law()
+    ensures { TemplatesAreSound }
+{}
+
+/// Does nothing. Its contract says that what a body is laid out as is told by its lines.
+pub fn layout_law()
+    ensures { LinesTellLayouts }
+{}
+
+/// Does nothing. Its contract says that a body is laid out as at most as many records as its length says, and as
+/// just as many where their number is left to no choice.
+pub fn length_laws()
+    ensures bound { LengthsBound }
+    ensures exact { FixedLengthsAreExact }
 {}

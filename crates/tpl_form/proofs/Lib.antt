@@ -1,6 +1,2 @@
-pub mod Digits
-pub mod Literals
-pub mod Numbers
-pub mod Lines
-pub mod Leaves
+pub mod Items
 pub mod Registers

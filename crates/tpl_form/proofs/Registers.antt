@@ -5,7 +5,7 @@ use Rattle.std.proofs.lemmas.Grind.{get_or-set_at}
 use Rattle.std.proofs.lemmas.List.{get_or-set_other, get_or-replicate, length-replicate}
 use Rattle.std.proofs.Math.ListN.{get_or-eq_default}
 use Rattle.std.proofs.lemmas.List.Elements.{All-nil, All-cons, All-head, All-tail}
-use Rattle.tpl_form.specs.declared.template.Leaf.{Leaf}
+use Rattle.tpl_form.specs.declared.form.Leaf.{Leaf}
 use Rattle.tpl_form.specs.Form.{IsFit, AreLeavesFit, HasTarget, AreFed}
 
 pub fit_from_all : (ls : List Leaf) → All IsFit ls → AreLeavesFit ls

@@ -1,111 +1,19 @@
--- The texts of a template, and what each says. A text is these lines, with as many `do` lines as it likes:
---   ram LOW HIGH
---   pool FRAME
---   hart 0 {
---   start pc PC priv m
---   body {
+-- The templates that this build generates from, and what each says. Such a template has one region of memory, one pool frame, neither started
+-- words nor names, and one hart that starts in M with no CSR or register given; each item of its body is a leaf
 --   do op in {addi}; rd in {RD}; rs1 in {RS1}; imm in {IMM}
---   }
---   }
-use Rattle.std.specs.Prelude.{◌≡◌, ℕ, ◌+◌, ◌-◌, ◌*◌, ◌%◌, ◌^◌, ◌<◌, ◌≤◌, ◌⊎◌, List, [], ◌∷◌, ◌++◌, length, codes, nat_lt, if◌then◌else◌}
-use Rattle.tpl_ast.specs.declared.template.Region.{Region}
-use Rattle.tpl_form.specs.declared.template.Leaf.{Leaf}
-use Rattle.tpl_form.specs.declared.template.Template.{Template}
-use Rattle.tpl_form.specs.declared.error.ParseError.{ParseError}
-use Rattle.tpl_form.specs.declared.error.ParseError.TheVariants.{Fault, OutOfMemory}
+use Rattle.std.specs.Prelude.{◌≡◌, ℕ, ◌+◌, ◌-◌, ◌*◌, ◌%◌, ◌^◌, ◌<◌, ◌≤◌, ◌⊎◌, false, List, [], ◌∷◌, length}
+use Rattle.rv_csr.specs.declared.privilege.Priv.TheVariants.{M}
+use Rattle.tpl_ast.specs.declared.template.Atom.TheVariants.{In}
+use Rattle.tpl_ast.specs.declared.template.HartState.{HartState}
+use Rattle.tpl_ast.specs.declared.template.Var.{Var}
+use Rattle.tpl_ast.specs.declared.template.Var.TheVariants as vars
+use Rattle.tpl_ast.specs.declared.template.Wish.{Wish}
+use Rattle.tpl_ast.specs.Bodies.{BodyLine, Leaf as LeafLine}
+use Rattle.tpl_ast.specs.Parsing.{HartLines, Said}
+use Rattle.tpl_form.specs.declared.form.Form.{Form}
+use Rattle.tpl_form.specs.declared.form.Leaf.{Leaf}
 
--- ---- numbers
-
--- the value of a digit 0 to 9, A to F or a to f; 99, which no base has, of any other byte
-abbrev pub digit_of : ℕ → ℕ
-digit_of b =
-    if nat_lt b 48 then 99
-    else (if nat_lt b 58 then b - 48
-    else (if nat_lt b 65 then 99
-    else (if nat_lt b 71 then b - 55
-    else (if nat_lt b 97 then 99
-    else (if nat_lt b 103 then b - 87 else 99)))))
-
--- the value of digits that stand behind those of the value n
-abbrev pub digits_value : ℕ → ℕ → List ℕ → ℕ
-digits_value base n [] = n
-digits_value base n (d ∷ ds) = digits_value base (base * n + digit_of d) ds
-
--- each is a digit of the base
-abbrev pub AreDigits : ℕ → List ℕ → Type 0
-AreDigits base [] = Unit {0}
-AreDigits base (d ∷ ds) = (digit_of d < base) × AreDigits base ds
-
--- one digit or more, of a number below 2 ^ 32
-pub record IsWhole (base : ℕ) (ds : List ℕ) (n : ℕ) : Type 0 where
-  pub some : 0 < length ds
-  pub digits : AreDigits base ds
-  pub value : n ≡ digits_value base 0 ds
-  pub below : n < 2 ^ 32
-
--- hexadecimal digits behind 0x
-pub record IsHex (token : List ℕ) (n : ℕ) : Type 0 where
-  pub digits : List ℕ
-  pub whole : IsWhole 16 digits n
-  pub token_is : token ≡ codes "0x" ++ digits
-
--- decimal digits behind a minus, of a number up to 2 ^ 31, which stand for 2 ^ 32 minus it
-pub record IsNegative (token : List ℕ) (n : ℕ) : Type 0 where
-  pub digits : List ℕ
-  pub size : ℕ
-  pub whole : IsWhole 10 digits size
-  pub most : size ≤ 2 ^ 31
-  pub value : n ≡ (2 ^ 32 - size) % 2 ^ 32
-  pub token_is : token ≡ codes "-" ++ digits
-
--- a number in any of the three spellings
-abbrev pub IsNumber : List ℕ → ℕ → Type 0
-IsNumber token n = IsWhole 10 token n ⊎ (IsHex token n ⊎ IsNegative token n)
-
--- ---- lines
-
--- a number, and a literal behind it
-pub record IsField (literal text : List ℕ) (n : ℕ) : Type 0 where
-  pub token : List ℕ
-  pub number : IsNumber token n
-  pub text_is : text ≡ token ++ literal
-
--- the lines before the first leaf
-pub record IsHead (text : List ℕ) (ram : Region) (pool pc : ℕ) : Type 0 where
-  pub low : List ℕ
-  pub high : List ℕ
-  pub frame : List ℕ
-  pub start : List ℕ
-  pub low_is : IsField (codes " ") low ram.low
-  pub high_is : IsField (codes "\npool ") high ram.high
-  pub frame_is : IsField (codes "\nhart 0 {\nstart pc ") frame pool
-  pub start_is : IsField (codes " priv m\nbody {\n") start pc
-  pub text_is : text ≡ codes "ram " ++ (low ++ (high ++ (frame ++ start)))
-
--- the line of a leaf
-pub record IsLeaf (text : List ℕ) (l : Leaf) : Type 0 where
-  pub rd : List ℕ
-  pub rs1 : List ℕ
-  pub imm : List ℕ
-  pub rd_is : IsField (codes "}; rs1 in {") rd l.rd
-  pub rs1_is : IsField (codes "}; imm in {") rs1 l.rs1
-  pub imm_is : IsField (codes "}\n") imm l.imm
-  pub text_is : text ≡ codes "do op in {addi}; rd in {" ++ (rd ++ (rs1 ++ imm))
-
--- the lines of leaves, one after another
-abbrev pub AreLeaves : List ℕ → List Leaf → Type 0
-AreLeaves text [] = text ≡ []
-AreLeaves text (l ∷ ls) = (line : List ℕ) × (rest : List ℕ) × IsLeaf line l × AreLeaves rest ls × (text ≡ line ++ rest)
-
--- the lines of a template
-pub record HasLines (text : List ℕ) (t : Template) : Type 0 where
-  pub head : List ℕ
-  pub body : List ℕ
-  pub head_is : IsHead head t.ram t.pool t.start_pc
-  pub body_is : AreLeaves body t.leaves
-  pub text_is : text ≡ head ++ (body ++ codes "}\n}\n")
-
--- ---- what a template may say
+-- ---- what a template of the form may say
 
 -- registers, and an immediate of 12 bits with its sign
 pub record IsFit (l : Leaf) : Type 0 where
@@ -129,31 +37,58 @@ AreFed targets [] = Unit {0}
 AreFed targets (l ∷ ls) = ((l.rs1 ≡ 0) ⊎ HasTarget targets l.rs1) × AreFed (l.rd ∷ targets) ls
 
 -- memory, the frame and the instructions lie as they may, and each instruction can be encoded and has its source
-pub record IsAllowed (t : Template) : Type 0 where
-  pub lo : t.ram.low % 4096 ≡ 0
-  pub hi : t.ram.high % 4096 ≡ 0
-  pub some : t.ram.low < t.ram.high
-  pub high : t.ram.high ≤ 0xFFFFF000
-  pub size : t.ram.high ≤ t.ram.low + 64 * 2 ^ 20
-  pub frame : t.pool % 4096 ≡ 0
-  pub above : t.ram.low ≤ t.pool
-  pub within : t.pool + 4096 ≤ t.ram.high
-  pub pc : t.start_pc % 4 ≡ 0
-  pub first : t.pool ≤ t.start_pc
-  pub last : t.start_pc + 4 * length t.leaves ≤ t.pool + 4096
-  pub fit : AreLeavesFit t.leaves
-  pub fed : AreFed [] t.leaves
+pub record IsAllowed (f : Form) : Type 0 where
+  pub lo : f.ram.low % 4096 ≡ 0
+  pub hi : f.ram.high % 4096 ≡ 0
+  pub some : f.ram.low < f.ram.high
+  pub high : f.ram.high ≤ 0xFFFFF000
+  pub size : f.ram.high ≤ f.ram.low + 64 * 2 ^ 20
+  pub frame : f.pool % 4096 ≡ 0
+  pub above : f.ram.low ≤ f.pool
+  pub within : f.pool + 4096 ≤ f.ram.high
+  pub pc : f.start_pc % 4 ≡ 0
+  pub first : f.pool ≤ f.start_pc
+  pub last : f.start_pc + 4 * length f.leaves ≤ f.pool + 4096
+  pub fit : AreLeavesFit f.leaves
+  pub fed : AreFed [] f.leaves
 
--- ---- the form
+-- ---- which templates are of the form
 
--- a text of the form, and the template that it says
-pub record Parses (bytes : List ℕ) (t : Template) : Type 0 where
-  pub size : length bytes ≤ 65536
-  pub text : t.text ≡ bytes
-  pub lines : HasLines bytes t
-  pub allowed : IsAllowed t
+-- `v in {n}`
+abbrev pub among : Var → ℕ → Wish
+among v n = record { atom = In v (n ∷ []); prefer = false }
 
--- memory ran out, or the text isn't of the form
-abbrev pub IsRefusal : ParseError → Type 0
-IsRefusal OutOfMemory = Unit {0}
-IsRefusal (Fault f) = (f.line ≡ 0) × (f.kind ≡ 13)
+-- the number of ADDI in the table of instructions
+abbrev pub addi_number : ℕ
+addi_number = 18
+
+-- the atoms of a leaf, in this order
+abbrev pub wishes_of : Leaf → List Wish
+wishes_of l = among vars.Op addi_number ∷ among vars.Rd l.rd ∷ among vars.Rs1 l.rs1 ∷ among vars.Imm l.imm ∷ []
+
+-- the lines of a body are the leaves, one by one
+abbrev pub AreLeafLines : List BodyLine → List Leaf → Type 0
+AreLeafLines [] [] = Unit {0}
+AreLeafLines (LeafLine line wishes ∷ lines) (l ∷ ls) = (wishes ≡ wishes_of l) × AreLeafLines lines ls
+AreLeafLines _ _ = ⊥
+
+-- a hart in M whose CSRs are 0, and of which no register is given
+abbrev pub bare_start : ℕ → HartState
+bare_start pc = record { pc = pc; privilege = M; mstatus = 0; medeleg = 0; satp = 0; places = [] }
+
+-- what a template says has no words, no names, and this one hart, which starts bare
+pub record IsAlone (s : Said) (h : HartLines) : Type 0 where
+  pub words : s.words ≡ []
+  pub names : s.names ≡ []
+  pub harts : s.harts ≡ h ∷ []
+  pub start : h.start ≡ bare_start h.start.pc
+
+-- what a template says is of the form
+pub record IsFormOf (s : Said) (f : Form) : Type 0 where
+  pub ram : s.ram ≡ f.ram ∷ []
+  pub pool : s.pool ≡ f.pool ∷ []
+  pub hart : HartLines
+  pub alone : IsAlone s hart
+  pub pc : hart.start.pc ≡ f.start_pc
+  pub body : AreLeafLines hart.body f.leaves
+  pub allowed : IsAllowed f

@@ -1,9 +1,9 @@
 // What a template may say.
 ghost use Rattle.std.specs.Prelude.{◌≡◌, ◌↔◌, IsTrue, [], ◌∷◌};
-ghost use Rattle.tpl_form.specs.declared.template.Template.{Template};
+ghost use Rattle.tpl_form.specs.declared.form.Form.{Form as AForm};
 ghost use Rattle.tpl_form.specs.Form.{IsAllowed, IsFit, AreLeavesFit, AreFed};
 
-use crate::{Leaf, Template};
+use crate::{Form, Leaf};
 
 /// The size of a page, to which memory and the frame are aligned, and of the frame, in bytes.
 const PAGE: u32 = 4096;
@@ -41,21 +41,21 @@ fn are_fed(leaves: &[Leaf]) -> bool
 }
 
 /// Whether memory, the frame and the instructions lie as they may, and the instructions are sound.
-pub(crate) fn is_allowed(t: &Template) -> bool
-    ensures { IsTrue result ↔ IsAllowed t.now }
+pub(crate) fn is_allowed(f: &Form) -> bool
+    ensures { IsTrue result ↔ IsAllowed f.now }
 {
     // A multiple of a page that fits 32 bits is at most 0xFFFF_F000.
-    t.ram.low.is_multiple_of(PAGE)
-        && t.ram.high.is_multiple_of(PAGE)
-        && t.ram.low < t.ram.high
-        && t.ram.high - t.ram.low <= MAX_RAM
-        && t.pool.is_multiple_of(PAGE)
-        && t.ram.low <= t.pool
-        && t.pool < t.ram.high
-        && t.start_pc.is_multiple_of(4)
-        && t.pool <= t.start_pc
-        && t.start_pc - t.pool <= PAGE
-        && t.leaves.len() <= ((PAGE - (t.start_pc - t.pool)) / 4) as usize
-        && are_fit(t.leaves.as_slice())
-        && are_fed(t.leaves.as_slice())
+    f.ram.low.is_multiple_of(PAGE)
+        && f.ram.high.is_multiple_of(PAGE)
+        && f.ram.low < f.ram.high
+        && f.ram.high - f.ram.low <= MAX_RAM
+        && f.pool.is_multiple_of(PAGE)
+        && f.ram.low <= f.pool
+        && f.pool < f.ram.high
+        && f.start_pc.is_multiple_of(4)
+        && f.pool <= f.start_pc
+        && f.start_pc - f.pool <= PAGE
+        && f.leaves.len() <= ((PAGE - (f.start_pc - f.pool)) / 4) as usize
+        && are_fit(f.leaves.as_slice())
+        && are_fed(f.leaves.as_slice())
 }

@@ -1,16 +1,10 @@
-//! The text of a template, what it says, and the parser that reads it: exactly the texts of the form
-//! are read, each as the one template that it says, and every other text is refused.
+//! The templates that this build generates from: one hart in M that runs ADDI instructions, each with its registers
+//! and its immediate given, in one frame of memory; and what such a template says.
 #![tactic(auto)]
 
 mod allowed;
-mod error;
-mod number;
-mod reading;
-mod template;
-#[cfg(test)]
-mod tests;
+mod form;
+mod forming;
 
-pub use error::{Fault, NOT_BUILT, ParseError};
-pub use reading::{MAX_TEXT, parse, parses_are_unique};
-pub use template::{Leaf, Template};
-pub use tpl_ast::{Items, Region};
+pub use form::{Form, Leaf};
+pub use forming::form_of;

@@ -3,7 +3,7 @@ ghost use Rattle.std.specs.Prelude.{◌≡◌, ◌≤◌, ◌<◌, false, true, 
 ghost use Rattle.tpl_ast.specs.Bodies.{LabelOf};
 ghost use Rattle.tpl_ast.specs.Judging.{is_phrase_above};
 ghost use Rattle.tpl_ast.specs.Lines.{lines};
-ghost use Rattle.tpl_ast.specs.Parsing.{after, all_values, allows, closed_in, fault_of, judged, nothing, parses, passes_count, run, said, said_by, takes_items, told, with_item, with_name};
+ghost use Rattle.tpl_ast.specs.Parsing.{Parses, after, all_values, allows, closed_in, fault_of, judged, nothing, parses, passes_count, run, said, said_by, takes_items, told, with_item, with_name};
 ghost use Rattle.tpl_parse.specs.Answers.{Answers, IsSaid, Meets, at_line};
 ghost use Rattle.tpl_parse.specs.Reading.{phrase};
 ghost use Rattle.tpl_parse.specs.State.{known};
@@ -283,6 +283,7 @@ fn read_lines(alloc: Global, text: &[u8]) -> Result<Parser, ParseError>
 pub fn parse(alloc: Global, text: &[u8]) -> Result<Template, ParseError>
     ensures said { Answers said_by result (parses text.now) }
     ensures text { IfOk result (λ t. t.text ≡ text.now) }
+    ensures template { IfOk result (λ t. Parses t.text t) }
 {
     if text.len() > 65536 {
         return Err(ParseError::Fault(Fault {

@@ -1,4 +1,5 @@
 mod content;
+mod examples;
 mod faults;
 mod limits;
 mod parts;

@@ -1,10 +1,12 @@
 -- How long numbers, names and lines are.
-use Rattle.std.proofs.Common.{◌≡◌, ℕ, zero, suc, ◌+◌, ◌-◌, ◌*◌, ◌/◌, ◌%◌, ◌^◌, ◌≤◌, inl, inr, Bool, false, true, if◌then◌else◌, nat_lt, Option, None, Some, List, [], ◌∷◌, ◌++◌, length, drop, find, eqb, ap, arith, length-append, codes}
+use Rattle.std.proofs.Common.{◌≡◌, ℕ, zero, suc, ◌+◌, ◌-◌, ◌*◌, ◌/◌, ◌%◌, ◌^◌, ◌≤◌, inl, inr, Bool, false, true, if◌then◌else◌, nat_lt, Option, None, Some, List, [], ◌∷◌, ◌++◌, length, drop, find, eqb, ap, arith, length-append, codes, refl}
 use Rattle.std.proofs.Math.ListN.{get_or}
 use Rattle.std.proofs.lemmas.Bool.{cases_eq}
 use Rattle.std.proofs.lemmas.List.{length-replicate}
 use Rattle.std.proofs.lemmas.Slice.Zip.{length-zip}
 use Rattle.std.proofs.lemmas.Bool.Decides.{nat_tests}
+use Rattle.std.specs.Prelude.{encode_utf8}
+use Rattle.std.proofs.lemmas.Str.{length-encode, len_utf8_bounds}
 use Rattle.std.specs.List.{flat_map, enumerate_from, zip}
 use Rattle.std.specs.Fmt.{digits_onto, digit_glyph, digits, decimal, padded_integral, char_count, format_spec}
 use Rattle.rv_script.specs.declared.access.Access.{Access}
@@ -17,7 +19,11 @@ use Rattle.rv_hart.specs.declared.record.Outcome.TheVariants.{Retired, Trap}
 use Rattle.rv_hart.specs.declared.record.Record.{Record}
 use Rattle.tpl_admit.specs.declared.certificate.Cert.{Cert}
 use Rattle.tpl_ast.specs.declared.template.HartState.{HartState}
-use Rattle.tpl_admit.specs.Sizes.{states_size, trace_size, traces_size, certificate_size}
+use Rattle.tpl_ast.specs.declared.template.NameDecl.{NameDecl}
+use Rattle.tpl_admit.specs.declared.dropped.Dropped.{Dropped}
+use Rattle.tpl_admit.specs.declared.dropped.Why.{Why}
+use Rattle.tpl_admit.specs.declared.dropped.Why.TheVariants.{NoneFits, Spent}
+use Rattle.tpl_admit.specs.Sizes.{name_of, names_size, states_size, trace_size, traces_size, certificate_size}
 use Rattle.tpl_admit.specs.Starts.{trace_of, final_of, no_state}
 use Rattle.replay_check.specs.declared.verdict.Verdict.{Verdict}
 use Rattle.replay_check.specs.declared.verdict.Verdict.TheVariants.{Yes, No}
@@ -26,8 +32,13 @@ use Rattle.rv_csr.specs.declared.table.Register.{Register}
 use Rattle.rv_csr.specs.declared.table.Register.TheVariants.{Sstatus, Satp, Mstatus, Medeleg, Mhartid, Lazy}
 use Rattle.rv_csr.specs.Table.{address_of, csr_key, registers}
 use Rattle.trace_text.specs.Numbers.{hex8, letter, role_name, name_in, csr_name, place_name}
+use Rattle.tpl_ast.specs.declared.fault.Fault.{Fault}
+use Rattle.tpl_ast.specs.declared.fault.Kind.{Kind}
+use Rattle.tpl_ast.specs.declared.fault.Kind.TheVariants.{BadByte, Unexpected, NumberTooLarge, UnknownName, DoubleName, NameTwiceInLeaf, EmptyDomain, TooDeep, TooLong, TooMany, BadRam, BadStart}
+use Rattle.trace_text.specs.Faults.{fault_head, fault_line, fault_text, kind_text}
 use Rattle.trace_text.specs.Verdicts.{no_text, verdict_text, malformed_text}
 use Rattle.trace_text.specs.Steps.{access_text, accesses_text, outcome_text, rd_text, step_head, fetched_text, step_end, step_line, steps_text}
+use Rattle.trace_text.specs.Rest.{choice_line, choices_text, dropped_line, dropped_text, name_line, name_text, names_text, why_text}
 use Rattle.trace_text.specs.Report.{state_head, state_csrs, state_line, place_line, places_text, hart_text, harts_text, word_line, words_text, harts_line, report_text}
 use Rattle.trace_text.proofs.Parts.{hart_of}
 
@@ -205,10 +216,53 @@ harts_line_short : (n : ℕ) → length (harts_line n) ≤ 128
 unfolding harts_line
 harts_line_short n = simp length-append (omega (arith, decimal_short n))
 
+-- ---- names, choices and dropped biases
+
+one_letter_short : (c : ℕ) → length (encode_utf8 c) ≤ 4
+one_letter_short c = omega (arith, length-encode c, (len_utf8_bounds c).1)
+
+name_text_short : (letters : List ℕ) → length (name_text letters) ≤ 4 * length letters
+unfolding name_text
+name_text_short [] = omega arith
+name_text_short (c ∷ cs) = simp length-append (omega (arith, one_letter_short c, name_text_short cs))
+
+name_line_short : (names : List NameDecl) (e : ℕ × ℕ) → length (name_line names e) ≤ 128 + 4 * length (name_of names e.0)
+unfolding name_line
+name_line_short names e = simp length-append (omega (arith, name_text_short (name_of names e.0), hex_short e.1))
+
+names_short : (names : List NameDecl) (values : List (ℕ × ℕ)) → length (names_text names values) ≤ 256 * names_size names values
+unfolding names_text
+names_short names [] = omega arith
+names_short names (e ∷ es) = simp length-append (omega (arith, name_line_short names e, names_short names es))
+
+choice_short : (p : ℕ × ℕ) → length (choice_line p.0 p.1) ≤ 256
+unfolding choice_line
+choice_short p = simp length-append (omega (arith, decimal_short p.0, decimal_short p.1))
+
+numbered_length : (n : ℕ) (xs : List ℕ) → length (enumerate_from n xs) ≡ length xs
+numbered_length n [] = refl
+numbered_length n (x ∷ xs) = ap suc (numbered_length (n + 1) xs)
+
+choices_short : (choices : List ℕ) → length (choices_text choices) ≤ 256 * length choices
+unfolding choices_text
+choices_short choices = omega (arith, lines_short (λ (p : ℕ × ℕ). choice_line p.0 p.1) (enumerate_from 0 choices) choice_short, numbered_length 0 choices)
+
+why_short : (w : Why) → length (why_text w) ≤ 5
+why_short NoneFits = omega arith
+why_short Spent = omega arith
+
+drop_short : (d : Dropped) → length (dropped_line d) ≤ 256
+unfolding dropped_line
+drop_short d = simp length-append (omega (arith, decimal_short d.hart, decimal_short d.step, decimal_short d.atom, why_short d.why))
+
+dropped_short : (dropped : List Dropped) → length (dropped_text dropped) ≤ 256 * length dropped
+unfolding dropped_text
+dropped_short dropped = lines_short dropped_line dropped drop_short
+
 -- how long a report can be
 pub report_short : (c : Cert) → length (report_text c) ≤ 2048 * certificate_size c + 2048
 unfolding report_text
-report_short c = simp length-append (omega (arith, harts_line_short (length c.start), harts_short c, words_short c.words c.last))
+report_short c = simp length-append (omega (arith, harts_line_short (length c.start), harts_short c, words_short c.words c.last, names_short c.template.names c.names, choices_short c.choices, dropped_short c.dropped))
 
 no_short : (kind hart step : ℕ) → length (no_text kind hart step) ≤ 256
 unfolding no_text
@@ -221,3 +275,25 @@ verdict_short (No kind hart step) = no_short kind hart step
 pub malformed_short : (part : ℕ) → length (malformed_text part) ≤ 256
 unfolding malformed_text
 malformed_short part = simp length-append (omega (arith, decimal_short part))
+
+kind_short : (k : Kind) → length (kind_text k) ≤ 18
+kind_short BadByte = omega arith
+kind_short Unexpected = omega arith
+kind_short NumberTooLarge = omega arith
+kind_short UnknownName = omega arith
+kind_short DoubleName = omega arith
+kind_short NameTwiceInLeaf = omega arith
+kind_short EmptyDomain = omega arith
+kind_short TooDeep = omega arith
+kind_short TooLong = omega arith
+kind_short TooMany = omega arith
+kind_short BadRam = omega arith
+kind_short BadStart = omega arith
+
+head_short : (line : ℕ) → length (fault_head line) ≤ 100
+unfolding fault_head
+head_short line = simp length-append (omega (arith, decimal_short line))
+
+pub fault_short : (f : Fault) → length (fault_text f) ≤ 256
+unfolding fault_line
+fault_short f = simp length-append (omega (arith, head_short f.line, kind_short f.kind))

@@ -4,6 +4,7 @@ use Rattle.std.proofs.lemmas.List.{flat_map_more, take_more, length-take-le}
 use Rattle.std.proofs.Math.ListN.{get_or}
 use Rattle.std.specs.List.{flat_map, enumerate_from}
 use Rattle.rv_hart.specs.declared.record.Record.{Record}
+use Rattle.trace_text.specs.Rest.{choice_line, choices_text}
 use Rattle.trace_text.specs.Steps.{step_line, steps_text}
 
 -- one more element at the end
@@ -28,3 +29,8 @@ numbered_more {X} f bs xs i d lt =
 pub steps_more : (hart : ℕ) (bs : List ℕ) (records : List Record) (i : ℕ) (d : Record) → i < length records → (bs ++ steps_text hart (take i records)) ++ step_line hart i (get_or records i d) ≡ bs ++ steps_text hart (take (i + 1) records)
 unfolding steps_text
 steps_more hart bs records i d lt = numbered_more (λ (p : ℕ × Record). step_line hart p.0 p.1) bs records i d lt
+
+-- one more choice
+pub choices_more : (bs : List ℕ) (choices : List ℕ) (i d : ℕ) → i < length choices → (bs ++ choices_text (take i choices)) ++ choice_line i (get_or choices i d) ≡ bs ++ choices_text (take (i + 1) choices)
+unfolding choices_text
+choices_more bs choices i d lt = numbered_more (λ (p : ℕ × ℕ). choice_line p.0 p.1) bs choices i d lt

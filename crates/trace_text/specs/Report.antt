@@ -7,6 +7,7 @@ use Rattle.tpl_admit.specs.declared.certificate.Cert.{Cert}
 use Rattle.tpl_ast.specs.declared.template.HartState.{HartState}
 use Rattle.tpl_admit.specs.Starts.{trace_of, final_of}
 use Rattle.trace_text.specs.Numbers.{hex8, letter, place_name}
+use Rattle.trace_text.specs.Rest.{choices_text, dropped_text, names_text}
 use Rattle.trace_text.specs.Steps.{steps_text}
 
 -- `WORD K pc PC priv P mstatus V medeleg V satp V`, in two pieces
@@ -47,4 +48,5 @@ unfoldable pub harts_line : ℕ → List ℕ
 harts_line n = codes "harts " ++ decimal n ++ codes "\n"
 
 unfoldable pub report_text : Cert → List ℕ
-report_text c = harts_line (length c.start) ++ harts_text c ++ words_text c.words c.last
+report_text c =
+    harts_line (length c.start) ++ harts_text c ++ words_text c.words c.last ++ names_text c.template.names c.names ++ choices_text c.choices ++ dropped_text c.dropped

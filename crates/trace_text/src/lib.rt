@@ -3,14 +3,17 @@
 #![tactic(auto)]
 
 mod error;
+mod faults;
 mod harts;
 mod names;
 mod printing;
+mod rest;
 mod steps;
 #[cfg(test)]
 mod tests;
 mod verdicts;
 
 pub use error::OutOfMemory;
+pub use faults::fault_text;
 pub use printing::report;
 pub use verdicts::{malformed, verdict};

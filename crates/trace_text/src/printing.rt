@@ -5,6 +5,7 @@ ghost use Rattle.trace_text.specs.Report.{word_line, words_text, harts_line, rep
 
 use crate::OutOfMemory;
 use crate::harts::push_harts;
+use crate::rest::{push_choices, push_dropped, push_names};
 use std::alloc::{AllocError, Global};
 use std::fmt::Write;
 use tpl_admit::Cert;
@@ -44,11 +45,14 @@ fn push_report(text: &mut String, cert: &Cert) -> Result<(), AllocError>
 {
     push_count(text, cert.start.len())?;
     push_harts(text, cert)?;
-    push_words(text, cert.words.as_slice(), cert.last.as_slice())
+    push_words(text, cert.words.as_slice(), cert.last.as_slice())?;
+    push_names(text, cert.template.names.as_slice(), cert.names.as_slice())?;
+    push_choices(text, cert.choices.as_slice())?;
+    push_dropped(text, cert.dropped.as_slice())
 }
 
 /// The report of a certificate: its harts in order, each with its start, its steps and its end, and then its words of
-/// memory.
+/// memory, its names, its choices and its dropped biases.
 #[tactic(auto, using(crate::proofs::Lengths::report_short))]
 pub fn report(alloc: Global, cert: &Cert) -> Result<String, OutOfMemory>
     requires traces { length cert.now.traces ≡ length cert.now.start }

@@ -1,12 +1,13 @@
 ghost use Rattle.std.specs.Prelude.{◌≡◌, length, IfOk};
 
-use crate::{malformed, report, verdict};
+use crate::{fault_text, malformed, report, verdict};
+use dom_set::Set;
 use replay_check::Verdict;
 use rv_hart::{Access, Accesses, Outcome, Priv, Record, Role};
 use std::alloc::{AllocError, Global};
 use std::test::Fail;
-use tpl_admit::{Cert, HartState};
-use tpl_form::{Items, Region, Template};
+use tpl_admit::{Cert, Dropped, HartState, Why};
+use tpl_ast::{Fault, Items, Kind, NameDecl, Region, Template};
 
 const ONE_STEP: &str = "harts 1
 hart 0 pc 80000000 priv m mstatus 00000000 medeleg 00000000 satp 00000000
@@ -53,6 +54,17 @@ final 1 x7 00000022
 word 80000000 00628023 00628023
 word 80000100 00028383 00028383
 word 80000800 44332211 443322aa
+";
+
+const NAMES_AND_CHOICES: &str = "harts 1
+hart 0 pc 80000000 priv m mstatus 00000000 medeleg 00000000 satp 00000000
+end 0 pc 80000000 priv m mstatus 00000000 medeleg 00000000 satp 00000000
+name n1 00000009
+name top 80000004
+choice 0 2
+choice 1 0
+dropped 0 3 1 none
+dropped 0 12 0 spent
 ";
 
 /// A hart in M with these places.
@@ -114,16 +126,41 @@ fn certificate(
         traces: Items::from_vec(traces),
         finals: Items::from_vec(finals),
         last: Items::from_slice(alloc, last)?,
-        template: Template {
-            text: Items::new(alloc),
-            ram: Region {
-                low: 0x8000_0000,
-                high: 0x8000_1000,
-            },
-            pool: 0x8000_0000,
-            start_pc: 0x8000_0000,
-            leaves: Items::new(alloc),
-        },
+        template: template(alloc)?,
+        choices: Items::new(alloc),
+        names: Items::new(alloc),
+        dropped: Items::new(alloc),
+    })
+}
+
+fn name(alloc: Global, letters: &[u8], label: bool) -> Result<NameDecl, AllocError> {
+    Ok(NameDecl {
+        name: Items::from_slice(alloc, letters)?,
+        set: Set::new(alloc),
+        label,
+    })
+}
+
+/// A template of which only the names matter for a report.
+fn template(alloc: Global) -> Result<Template, AllocError> {
+    let mut names = Items::new(alloc);
+    names.push(name(alloc, b"n1", false)?)?;
+    names.push(name(alloc, b"n2", false)?)?;
+    names.push(name(alloc, b"top", true)?)?;
+    let region = Region {
+        low: 0x8000_0000,
+        high: 0x8000_1000,
+    };
+    Ok(Template {
+        text: Items::new(alloc),
+        ram: Items::from_vec(vec![in alloc; region]?),
+        pool: Items::new(alloc),
+        tables: Items::new(alloc),
+        flags: Items::new(alloc),
+        vectors: Set::new(alloc),
+        words: Items::new(alloc),
+        names,
+        harts: Items::new(alloc),
     })
 }
 
@@ -155,6 +192,48 @@ fn the_report_of_no_step(rt: HostRuntime) -> Result<(), Fail> {
         [].as_slice(),
     )?;
     assert_eq!(rt; report(alloc, &cert)?.as_str(), NO_STEP);
+    Ok(())
+}
+
+fn dropped(step: u32, atom: u32, why: Why) -> Dropped {
+    Dropped {
+        hart: 0,
+        step,
+        atom,
+        why,
+    }
+}
+
+#[test]
+fn names_choices_and_dropped_biases_are_reported(rt: HostRuntime) -> Result<(), Fail> {
+    let alloc = rt.alloc();
+    let mut cert = certificate(
+        alloc,
+        vec![in alloc; state(alloc, 0x8000_0000, [].as_slice())?]?,
+        vec![in alloc; Items::new(alloc)]?,
+        vec![in alloc; state(alloc, 0x8000_0000, [].as_slice())?]?,
+        [].as_slice(),
+        [].as_slice(),
+    )?;
+    cert.names = Items::from_slice(alloc, [(0, 9), (2, 0x8000_0004)].as_slice())?;
+    cert.choices = Items::from_slice(alloc, [2, 0].as_slice())?;
+    let drops = [dropped(3, 1, Why::NoneFits), dropped(12, 0, Why::Spent)];
+    cert.dropped = Items::from_slice(alloc, drops.as_slice())?;
+    assert_eq!(rt; report(alloc, &cert)?.as_str(), NAMES_AND_CHOICES);
+    Ok(())
+}
+
+#[test]
+fn a_fault_of_a_template_is_told_in_one_line(rt: HostRuntime) -> Result<(), Fail> {
+    let alloc = rt.alloc();
+    let fault = Fault {
+        line: 12,
+        kind: Kind::NameTwiceInLeaf,
+    };
+    assert_eq!(rt;
+        fault_text(alloc, &fault)?.as_str(),
+        "template line 12: name twice in leaf\n"
+    );
     Ok(())
 }
 

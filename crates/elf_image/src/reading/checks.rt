@@ -1,25 +1,38 @@
 // Tests of values that were read.
-ghost use Rattle.std.specs.Prelude.{◌≡◌, ◌<◌, ◌≤◌, ◌&&◌, ◌==◌, IsTrue, nat_le};
+ghost use Rattle.std.specs.Prelude.{◌≡◌, ◌<◌, ◌≤◌, ◌^◌, ◌&&◌, ◌==◌, IsTrue, length, nat_le, slice_get};
 ghost use Rattle.std.specs.List.{list_any};
 ghost use Rattle.rv_csr.specs.Table.{address_of, csr_key};
-ghost use Rattle.tpl_admit.specs.Starts.{is_key};
-ghost use Rattle.tpl_admit.specs.WellFormed.{is_legal_place};
+ghost use Rattle.tpl_admit.specs.Starts.{is_key, is_in};
+ghost use Rattle.tpl_admit.specs.WellFormed.{is_legal_place, drop_place};
+ghost use Rattle.tpl_ast.specs.Parsing.{said_by};
 ghost use Rattle.elf_image.specs.Runs.{total_words};
-ghost use Rattle.elf_image.specs.Checks.{is_lazy, is_access, is_place, are_places, is_fixed, is_state, are_runs, is_table, are_traces, are_in};
+ghost use Rattle.elf_image.specs.Checks.{is_lazy, is_access, is_place, are_places, is_fixed, is_state, are_harts, are_values, is_drop, are_dropped, is_rest, are_runs, is_table, are_traces, are_in, is_named, are_named, is_fit};
+ghost use Rattle.elf_image.specs.Views.{notes_view};
 
 use crate::reading::headers::Table;
+use crate::reading::notes::NoteDescs;
 use crate::runs::Run;
 use rv_csr::{FIRST_KEY, REGISTERS, Register, legal, row_of};
 use rv_hart::Record;
 use rv_script::Access;
 use std::cmp::min;
-use tpl_admit::HartState;
-use tpl_form::{Items, Region};
+use tpl_admit::{Dropped, HartState};
+use tpl_ast::{Items, NameDecl, Region, Template};
 
 /// How many words all loads may have.
 pub const MAX_WORDS: u64 = 60_000;
 /// How many records all harts may have.
 pub const MAX_RECORDS: usize = 8_192;
+/// How many harts there may be.
+const MAX_HARTS: usize = 4;
+/// How many choices there may be.
+const MAX_CHOICES: usize = 8_192;
+/// How many biases may be dropped.
+const MAX_DROPPED: usize = 262_144;
+/// How many steps a hart may have.
+const MAX_STEPS: u32 = 8_192;
+/// How many atoms a step may have.
+const MAX_ATOMS: u32 = 32;
 
 /// Whether the key is that of one of the registers, and this one is lazy.
 fn is_lazy_key(registers: &[Register], key: u32) -> bool
@@ -144,12 +157,107 @@ pub fn are_traces(traces: &[Items<Record>]) -> bool
     total <= MAX_RECORDS
 }
 
+/// Whether the address lies in one of the regions.
+fn is_in(ram: &[Region], addr: u32) -> bool
+    ensures { result ≡ is_in ram.now addr }
+{
+    ram.iter()
+        .any(|region| region.low <= addr && addr < region.high)
+}
+
 /// Whether all words lie in memory.
 #[tactic(auto, unfolding(crate::specs::Checks::are_in))]
-pub fn are_in(words: &[(u32, u32)], ram: Region) -> bool
-    ensures { result ≡ are_in ram words.now }
+pub fn are_in(words: &[(u32, u32)], ram: &[Region]) -> bool
+    ensures { result ≡ are_in ram.now words.now }
 {
-    words
-        .iter()
-        .all(|word| ram.low <= word.0 && word.0 < ram.high)
+    words.iter().all(|word| is_in(ram, word.0))
+}
+
+/// Whether there are one to four harts.
+pub fn are_harts(states: &[HartState]) -> bool
+    ensures value { result ≡ are_harts states.now }
+    ensures few { IsTrue result → length states.now ≤ 4 }
+{
+    1 <= states.len() && states.len() <= MAX_HARTS
+}
+
+/// Whether the index of each name is above those before it.
+fn are_values(names: &[(u32, u32)]) -> bool
+    ensures { result ≡ are_values 0 names.now }
+{
+    let mut low = 0;
+    for name in names {
+        if u64::from(name.0) < low {
+            return false;
+        }
+        low = u64::from(name.0) + 1;
+    }
+    true
+}
+
+/// Whether the bias is one of so many harts.
+#[tactic(auto, unfolding(crate::specs::Checks::is_drop))]
+fn is_drop(d: Dropped, harts: u32) -> bool
+    ensures { result ≡ is_drop harts d }
+{
+    d.hart < harts && d.step < MAX_STEPS && d.atom < MAX_ATOMS
+}
+
+/// Where the bias stands among all that could be dropped.
+fn drop_place(d: Dropped) -> u64
+    ensures value { result ≡ drop_place d }
+    ensures small { result < 2 ^ 60 }
+{
+    let step = u64::from(d.hart) * u64::from(MAX_STEPS) + u64::from(d.step);
+    step * u64::from(MAX_ATOMS) + u64::from(d.atom)
+}
+
+/// Whether the biases are those of so many harts, each once and by ascending hart, step and atom.
+fn are_dropped(dropped: &[Dropped], harts: u32) -> bool
+    ensures { result ≡ are_dropped harts 0 dropped.now }
+{
+    let mut low = 0;
+    for one in dropped {
+        let place = drop_place(*one);
+        if place < low || !is_drop(*one, harts) {
+            return false;
+        }
+        low = place + 1;
+    }
+    true
+}
+
+#[tactic(auto, unfolding(crate::specs::Checks::is_rest))]
+pub fn is_rest(harts: u32, choices: &[u32], names: &[(u32, u32)], dropped: &[Dropped]) -> bool
+    ensures { result ≡ is_rest harts (choices.now, (names.now, dropped.now)) }
+{
+    choices.len() <= MAX_CHOICES
+        && are_values(names)
+        && dropped.len() <= MAX_DROPPED
+        && are_dropped(dropped, harts)
+}
+
+/// Whether the name is there, with the value in its set.
+fn is_named(names: &[NameDecl], value: (u32, u32)) -> bool
+    ensures { result ≡ is_named (slice_get names.now value.0) value.1 }
+{
+    match names.get(value.0 as usize) {
+        None => false,
+        Some(name) => name.set.has(value.1),
+    }
+}
+
+fn are_named(names: &[NameDecl], values: &[(u32, u32)]) -> bool
+    ensures { result ≡ are_named names.now values.now }
+{
+    values.iter().all(|value| is_named(names, *value))
+}
+
+/// Whether the template has as many harts as the notes, and the names of their values.
+#[tactic(auto, unfolding(crate::specs::Checks::is_fit))]
+pub fn is_fit(notes: &NoteDescs<'_>, template: &Template) -> bool
+    ensures { result ≡ is_fit (notes_view notes.now) (said_by template.now) }
+{
+    template.harts.len() == notes.start.len()
+        && are_named(template.names.as_slice(), notes.names.as_slice())
 }

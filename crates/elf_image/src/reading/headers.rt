@@ -14,7 +14,7 @@ use crate::reading::checks::is_table;
 use crate::runs::Run;
 use byte_format::{PieceError, after, after_half, after_word, half_of, word_of};
 use std::alloc::Global;
-use tpl_form::Items;
+use tpl_ast::Items;
 
 /// The longest file, in bytes.
 const MAX_FILE: usize = 8_388_608;

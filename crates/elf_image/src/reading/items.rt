@@ -1,7 +1,7 @@
-// The states of harts and their records.
+// The states of harts, their records and dropped biases.
 ghost use Rattle.std.specs.Prelude.{◌≡◌, ◌≤◌, IfErr};
 ghost use Rattle.byte_format.specs.Readers.{Gives, word_at, times, counted_at, few_at, with_front};
-ghost use Rattle.elf_image.specs.ItemReaders.{priv_of, role_of, outcome_of, rd_of, priv_at, pair_at, state_at, access_at, place_at, marks_at, values_at, record_at, trace_at};
+ghost use Rattle.elf_image.specs.ItemReaders.{priv_of, role_of, outcome_of, rd_of, priv_at, pair_at, state_at, access_at, place_at, marks_at, values_at, record_at, trace_at, why_of, drop_at};
 
 use crate::reading::checks::{is_access, is_state};
 use byte_format::{PieceError, after_half, byte_of, word_of};
@@ -9,8 +9,8 @@ use rv_csr::is_cause;
 use rv_hart::{Outcome, Priv, Record};
 use rv_script::{Access, Accesses, Role};
 use std::alloc::Global;
-use tpl_admit::HartState;
-use tpl_form::Items;
+use tpl_admit::{Dropped, HartState, Why};
+use tpl_ast::Items;
 
 /// How many accesses a record may have.
 const MAX_ACCESSES: u32 = 8;
@@ -84,8 +84,9 @@ fn pairs_in(
     Ok((items, rest))
 }
 
+/// A count of pairs, and that many.
 #[tactic(auto, unfolding(byte_format::specs::Readers::counted_at))]
-fn pairs_of(alloc: Global, bytes: &[u8]) -> Result<(Items<(u32, u32)>, &[u8]), PieceError>
+pub fn pairs_of(alloc: Global, bytes: &[u8]) -> Result<(Items<(u32, u32)>, &[u8]), PieceError>
     ensures { Gives (λ x. (x.0, x.1.now)) result (counted_at pair_at bytes.now) }
 {
     let (count, rest) = word_of(bytes)?;
@@ -339,4 +340,58 @@ pub fn traces_in(
         rest = behind;
     }
     Ok((items, rest))
+}
+
+fn why_from(n: u32) -> Result<Why, PieceError>
+    ensures gives { Gives (λ x. x) result (why_of n) }
+    ensures malformed { IfErr result (λ e. e ≡ PieceError.Malformed) }
+{
+    match n {
+        0 => Ok(Why::NoneFits),
+        1 => Ok(Why::Spent),
+        _ => Err(PieceError::Malformed),
+    }
+}
+
+#[tactic(auto, unfolding(crate::specs::ItemReaders::drop_at))]
+fn drop_of(bytes: &[u8]) -> Result<(Dropped, &[u8]), PieceError>
+    ensures gives { Gives (λ x. (x.0, x.1.now)) result (drop_at bytes.now) }
+    ensures malformed { IfErr result (λ e. e ≡ PieceError.Malformed) }
+{
+    let (hart, rest) = word_of(bytes)?;
+    let (step, rest) = word_of(rest)?;
+    let (atom, rest) = word_of(rest)?;
+    let (n, rest) = word_of(rest)?;
+    let why = why_from(n)?;
+    Ok((
+        Dropped {
+            hart,
+            step,
+            atom,
+            why,
+        },
+        rest,
+    ))
+}
+
+fn drops_in(alloc: Global, count: u32, bytes: &[u8]) -> Result<(Items<Dropped>, &[u8]), PieceError>
+    ensures { Gives (λ x. (x.0, x.1.now)) result (times drop_at count bytes.now) }
+{
+    let mut items = Items::new(alloc);
+    let mut rest = bytes;
+    for _ in 0..count {
+        let (item, behind) = drop_of(rest)?;
+        items.push(item)?;
+        rest = behind;
+    }
+    Ok((items, rest))
+}
+
+/// A count of dropped biases, and that many.
+#[tactic(auto, unfolding(byte_format::specs::Readers::counted_at))]
+pub fn drops_of(alloc: Global, bytes: &[u8]) -> Result<(Items<Dropped>, &[u8]), PieceError>
+    ensures { Gives (λ x. (x.0, x.1.now)) result (counted_at drop_at bytes.now) }
+{
+    let (count, rest) = word_of(bytes)?;
+    drops_in(alloc, count, rest)
 }

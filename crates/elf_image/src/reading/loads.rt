@@ -10,7 +10,7 @@ use crate::writing::entry_of;
 use byte_format::{PieceError, word_of};
 use std::alloc::Global;
 use tpl_admit::HartState;
-use tpl_form::{Items, Region};
+use tpl_ast::{Items, Region};
 
 /// A word that lies at an address.
 #[tactic(auto, unfolding(crate::specs::PartReaders::placed_at))]
@@ -62,12 +62,12 @@ fn words_of<'a>(
 #[tactic(auto, unfolding(crate::specs::PartReaders::image_at))]
 fn image_of(
     alloc: Global,
-    ram: Region,
+    ram: &[Region],
     runs: &[Run],
     bytes: &[u8],
 ) -> Result<Items<(u32, u32)>, PieceError>
     requires { IsTrue (are_runs 0 runs.now) }
-    ensures { Gives (λ x. x) result (whole (image_at ram runs.now) bytes.now) }
+    ensures { Gives (λ x. x) result (whole (image_at ram.now runs.now) bytes.now) }
 {
     let (words, rest) = words_of(alloc, runs, bytes)?;
     if !are_in(words.as_slice(), ram) || !rest.is_empty() {
@@ -83,11 +83,11 @@ pub fn loaded_of(
     entry: u32,
     runs: &[Run],
     start: &[HartState],
-    ram: Region,
+    ram: &[Region],
     bytes: &[u8],
 ) -> Result<Items<(u32, u32)>, PieceError>
     requires { IsTrue (are_runs 0 runs.now) }
-    ensures { Gives (λ x. x) result (loaded_at entry runs.now start.now ram bytes.now) }
+    ensures { Gives (λ x. x) result (loaded_at entry runs.now start.now ram.now bytes.now) }
 {
     if entry != entry_of(start) {
         return Err(PieceError::Malformed);

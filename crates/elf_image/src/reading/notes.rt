@@ -7,15 +7,15 @@ ghost use Rattle.elf_image.specs.PartReaders.{note_at, start_at, final_at, rest_
 ghost use Rattle.elf_image.specs.Views.{notes_view};
 
 use crate::elf::{NAME, NAME_SIZE, NT_FINAL, NT_REST, NT_START, NT_TEMPLATE, NT_TRACES, VERSION};
-use crate::reading::checks::are_traces;
+use crate::reading::checks::{are_harts, are_traces, is_rest};
 use crate::reading::headers::Table;
-use crate::reading::items::{states_in, states_of, traces_in, words_of};
+use crate::reading::items::{drops_of, pairs_of, states_in, states_of, traces_in, words_of};
 use crate::runs::Run;
 use byte_format::{PieceError, after, after_word, padded_of, word_of};
 use rv_hart::Record;
 use std::alloc::Global;
-use tpl_admit::HartState;
-use tpl_form::Items;
+use tpl_admit::{Dropped, HartState};
+use tpl_ast::Items;
 
 /// What the notes tell, but for the records and the template, which are still bytes.
 #[derive(Drop)]
@@ -25,6 +25,9 @@ pub struct NoteDescs<'a> {
     pub finals: Items<HartState>,
     pub last: Items<u32>,
     pub text: &'a [u8],
+    pub choices: Items<u32>,
+    pub names: Items<(u32, u32)>,
+    pub dropped: Items<Dropped>,
 }
 
 #[tactic(auto, unfolding(crate::specs::Notes::note_name))]
@@ -48,15 +51,15 @@ fn note_of(bytes: &[u8], kind: u32) -> Result<(&[u8], &[u8]), PieceError>
     padded_of(rest, size)
 }
 
-/// The states of the harts at the start: in this build those of one hart.
+/// The states of the harts at the start.
 #[tactic(auto, unfolding(crate::specs::PartReaders::start_at))]
 fn start_of(alloc: Global, desc: &[u8]) -> Result<Items<HartState>, PieceError>
     ensures gives { Gives (λ x. x) result (whole start_at desc.now) }
-    ensures one { IfOk result (λ x. length x ≡ 1) }
+    ensures few { IfOk result (λ x. length x ≤ 4) }
 {
     let rest = after_word(desc, VERSION)?;
     let (states, rest) = states_of(alloc, rest)?;
-    if states.len() != 1 || !rest.is_empty() {
+    if !are_harts(states.as_slice()) || !rest.is_empty() {
         return Err(PieceError::Malformed);
     }
     Ok(states)
@@ -80,25 +83,41 @@ fn final_of(
     Ok((finals, last))
 }
 
-/// No choices, no names and nothing dropped.
+/// The choices, the values of names and the dropped biases.
+#[derive(Drop)]
+struct Rest {
+    choices: Items<u32>,
+    names: Items<(u32, u32)>,
+    dropped: Items<Dropped>,
+}
+
 #[tactic(auto, unfolding(crate::specs::PartReaders::rest_at))]
-fn check_rest(desc: &[u8]) -> Result<(), PieceError>
-    ensures gives { Gives (λ x. tt) result (whole rest_at desc.now) }
-    ensures malformed { IfErr result (λ e. e ≡ PieceError.Malformed) }
+fn rest_of(alloc: Global, desc: &[u8], harts: u32) -> Result<Rest, PieceError>
+    ensures { Gives (λ x. (x.choices, (x.names, x.dropped))) result (whole (rest_at harts) desc.now) }
 {
-    let rest = after_word(desc, 0)?;
-    let rest = after_word(rest, 0)?;
-    let rest = after_word(rest, 0)?;
-    if !rest.is_empty() {
+    let (choices, rest) = words_of(alloc, desc)?;
+    let (names, rest) = pairs_of(alloc, rest)?;
+    let (dropped, rest) = drops_of(alloc, rest)?;
+    if !is_rest(
+        harts,
+        choices.as_slice(),
+        names.as_slice(),
+        dropped.as_slice(),
+    ) || !rest.is_empty()
+    {
         return Err(PieceError::Malformed);
     }
-    Ok(())
+    Ok(Rest {
+        choices,
+        names,
+        dropped,
+    })
 }
 
 #[tactic(auto, unfolding(crate::specs::PartReaders::notes_at))]
 fn notes_of(alloc: Global, bytes: &[u8], total: u64) -> Result<(NoteDescs<'_>, &[u8]), PieceError>
     ensures gives { Gives (λ x. (notes_view x.0, x.1.now)) result (notes_at total bytes.now) }
-    ensures one { IfOk result (λ x. length x.0.start ≡ 1) }
+    ensures few { IfOk result (λ x. length x.0.start ≤ 4) }
 {
     let (desc, rest) = note_of(bytes, NT_START)?;
     let start = start_of(alloc, desc)?;
@@ -108,13 +127,16 @@ fn notes_of(alloc: Global, bytes: &[u8], total: u64) -> Result<(NoteDescs<'_>, &
     let (finals, last) = final_of(alloc, desc, harts, total)?;
     let (text, rest) = note_of(rest, NT_TEMPLATE)?;
     let (desc, rest) = note_of(rest, NT_REST)?;
-    check_rest(desc)?;
+    let last_note = rest_of(alloc, desc, harts)?;
     let notes = NoteDescs {
         start,
         traces,
         finals,
         last,
         text,
+        choices: last_note.choices,
+        names: last_note.names,
+        dropped: last_note.dropped,
     };
     Ok((notes, rest))
 }
@@ -136,7 +158,7 @@ pub fn segment_notes_of<'a>(
 ) -> Result<(NoteDescs<'a>, &'a [u8]), PieceError>
     requires { total_words table.now.runs ≤ 60000 }
     ensures gives { Gives (λ x. (notes_view x.0, x.1.now)) result (segment_notes_at table.now.notes (total_words table.now.runs) bytes.entry.now) }
-    ensures one { IfOk result (λ x. length x.0.start ≡ 1) }
+    ensures few { IfOk result (λ x. length x.0.start ≤ 4) }
 {
     if bytes.len() < table.notes as usize {
         return Err(PieceError::Malformed);

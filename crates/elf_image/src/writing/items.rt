@@ -1,15 +1,15 @@
-// The harts' states and records.
+// The harts' states and records, and dropped biases.
 ghost use Rattle.std.specs.Prelude.{◌≡◌, ◌++◌, OnOk};
 ghost use Rattle.std.specs.List.{flat_map};
 ghost use Rattle.byte_format.specs.Numbers.{word, counted};
-ghost use Rattle.elf_image.specs.Spelling.{level, role_number, outcome_number, taker_number, trap_value, rd_number, rd_value, pair_spelling, fixed_spelling, state_spelling, access_spelling, record_place, record_marks, record_values, record_spelling, trace_spelling};
+ghost use Rattle.elf_image.specs.Spelling.{level, role_number, outcome_number, taker_number, trap_value, rd_number, rd_value, pair_spelling, fixed_spelling, state_spelling, access_spelling, record_place, record_marks, record_values, record_spelling, trace_spelling, why_number, drop_spelling};
 
 use byte_format::{put_byte, put_half, put_size, put_word};
 use rv_hart::{Outcome, Priv, Record};
 use rv_script::{Access, Role};
 use std::alloc::AllocError;
-use tpl_admit::HartState;
-use tpl_form::Items;
+use tpl_admit::{Dropped, HartState, Why};
+use tpl_ast::Items;
 
 /// The number of a privilege (Privileged, 1.2).
 fn level(p: Priv) -> u8
@@ -42,7 +42,7 @@ fn put_pair(out: &mut Vec<u8>, pair: &(u32, u32)) -> Result<(), AllocError>
 }
 
 #[tactic(auto, unfolding(byte_format::specs::Numbers::counted))]
-fn put_pairs(out: &mut Vec<u8>, pairs: &[(u32, u32)]) -> Result<(), AllocError>
+pub fn put_pairs(out: &mut Vec<u8>, pairs: &[(u32, u32)]) -> Result<(), AllocError>
     ensures { OnOk result (out.new.items ≡ out.old.items ++ counted pair_spelling pairs.now) }
 {
     put_size(out, pairs.len())?;
@@ -214,6 +214,36 @@ pub fn put_traces(out: &mut Vec<u8>, traces: &[Items<Record>]) -> Result<(), All
 {
     for trace in traces {
         put_trace(out, trace.as_slice())?;
+    }
+    Ok(())
+}
+
+fn why_number(why: Why) -> u8
+    ensures { result ≡ why_number why }
+{
+    match why {
+        Why::NoneFits => 0,
+        Why::Spent => 1,
+    }
+}
+
+#[tactic(auto, unfolding(crate::specs::Spelling::drop_spelling))]
+fn put_drop(out: &mut Vec<u8>, d: &Dropped) -> Result<(), AllocError>
+    ensures { OnOk result (out.new.items ≡ out.old.items ++ drop_spelling d.now) }
+{
+    put_word(out, d.hart)?;
+    put_word(out, d.step)?;
+    put_word(out, d.atom)?;
+    put_word(out, u32::from(why_number(d.why)))
+}
+
+#[tactic(auto, unfolding(byte_format::specs::Numbers::counted))]
+pub fn put_dropped(out: &mut Vec<u8>, dropped: &[Dropped]) -> Result<(), AllocError>
+    ensures { OnOk result (out.new.items ≡ out.old.items ++ counted drop_spelling dropped.now) }
+{
+    put_size(out, dropped.len())?;
+    for one in dropped {
+        put_drop(out, one)?;
     }
     Ok(())
 }

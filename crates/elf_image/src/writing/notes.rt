@@ -3,12 +3,12 @@ ghost use Rattle.std.specs.Prelude.{◌≡◌, ◌++◌, OnOk, IfOk};
 ghost use Rattle.elf_image.specs.Notes.{start_desc, traces_desc, final_desc, rest_desc, note_name, note, notes_in, notes_spelling};
 
 use crate::elf::{NAME, NAME_SIZE, NT_FINAL, NT_REST, NT_START, NT_TEMPLATE, NT_TRACES, VERSION};
-use crate::writing::items::{put_states, put_traces, put_words};
+use crate::writing::items::{put_dropped, put_pairs, put_states, put_traces, put_words};
 use byte_format::{put_padding, put_size, put_word};
 use rv_hart::Record;
 use std::alloc::{AllocError, Global};
-use tpl_admit::{Cert, HartState};
-use tpl_form::Items;
+use tpl_admit::{Cert, Dropped, HartState};
+use tpl_ast::Items;
 
 /// A note: its type, and the bytes of its desc.
 #[derive(Drop)]
@@ -50,15 +50,20 @@ fn final_desc(alloc: Global, states: &[HartState], last: &[u32]) -> Result<Items
     Ok(Items::from_vec(desc))
 }
 
-/// The desc of the fifth note: no choices, no names and nothing dropped.
+/// The desc of the fifth note: the choices, the values of names and the dropped biases.
 #[tactic(auto, unfolding(crate::specs::Notes::rest_desc))]
-fn rest_desc(alloc: Global) -> Result<Items<u8>, AllocError>
-    ensures { IfOk result (λ desc. desc ≡ rest_desc) }
+fn rest_desc(
+    alloc: Global,
+    choices: &[u32],
+    names: &[(u32, u32)],
+    dropped: &[Dropped],
+) -> Result<Items<u8>, AllocError>
+    ensures { IfOk result (λ desc. desc ≡ rest_desc choices.now names.now dropped.now) }
 {
     let mut desc = Vec::new(alloc);
-    put_word(&mut desc, 0)?;
-    put_word(&mut desc, 0)?;
-    put_word(&mut desc, 0)?;
+    put_words(&mut desc, choices)?;
+    put_pairs(&mut desc, names)?;
+    put_dropped(&mut desc, dropped)?;
     Ok(Items::from_vec(desc))
 }
 
@@ -85,7 +90,12 @@ fn list_notes(alloc: Global, cert: &Cert) -> Result<[Note; 5], AllocError>
         },
         Note {
             kind: NT_REST,
-            desc: rest_desc(alloc)?,
+            desc: rest_desc(
+                alloc,
+                cert.choices.as_slice(),
+                cert.names.as_slice(),
+                cert.dropped.as_slice(),
+            )?,
         },
     ])
 }

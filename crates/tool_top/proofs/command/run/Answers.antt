@@ -3,7 +3,7 @@ use Rattle.streams.specs.Sink.{Tells}
 use Rattle.tool_top.specs.declared.words.Command.{Command}
 use Rattle.tool_top.specs.Words.{IsCommand}
 use Rattle.tool_top.specs.Promise.{IsInput, IsUnfit, IsRefusedRightly, limit_of}
-use Rattle.tool_top.proofs.Commands.{Reads, reads_of, read_all, texts_are, made_is_fit, no_template_left, no_file_left, malformed_left, wrong_left, no_template_is_no_input, no_file_is_no_input, wrong_is_no_input, no_file_says_9, wrong_says_10, same_some}
+use Rattle.tool_top.proofs.Commands.{Reads, reads_of, read_all, texts_are, made_is_fit, lacking_left, no_template_left, no_file_left, malformed_left, wrong_left, no_template_is_no_input, no_file_is_no_input, wrong_is_no_input, no_file_says_9, wrong_says_10, same_some}
 use Rattle.tool_top.proofs.command.run.Goals as goal
 
 pub returns-in-Ok-write_texts-clause-done : goal.returns-in-Ok-write_texts-clause-done
@@ -16,7 +16,7 @@ returns-in-Ok-write_texts-clause-done g c =
       λ bytes left. (
         texts.out.items,
         texts.beside.items,
-        texts_are _ _ c.deref.result.now bytes c.in-Some.command _ _ reads left c.in-Ok-texts_for.ensures.found,
+        texts_are c.template_law.ensures _ _ c.deref.result.now bytes c.in-Some.command _ _ reads left c.in-Ok-texts_for.ensures.found,
         c.in-Ok-write_texts.ensures.ok.0,
         c.in-Ok-write_texts.ensures.ok.1,
       ),
@@ -27,14 +27,14 @@ returns-in-Ok-write_texts-clause-refused g c =
     let reads = reads_of (g.S.Source.left c.args.source.now) (g.S.Source.left c.read_up_to.new.source) c.in-Ok.bytes.items c.deref.result.now c.limit_of.result (limit_of c.in-Some.command) c.limit_of.ensures c.deref.ensures.value c.in-Ok.ensures.taken c.in-Ok.ensures.whole c.in-Ok.ensures.bound in
     λ command bytes why asks left unfit failed.
     let same : command ≡ c.in-Some.command = same_some _ _ (sym (c.command.ensures.only command asks) ∙ c.in-Some.is) in
-    absurd (made_is_fit c.one_spelling.ensures c.in-Some.command bytes _ _ why (texts_are _ _ c.deref.result.now bytes c.in-Some.command _ _ reads left c.in-Ok-texts_for.ensures.found) (subst (λ (k : Command). IsUnfit k bytes why) same unfit))
+    absurd (made_is_fit c.one_spelling.ensures c.said_law.ensures c.in-Some.command bytes _ _ why (texts_are c.template_law.ensures _ _ c.deref.result.now bytes c.in-Some.command _ _ reads left c.in-Ok-texts_for.ensures.found) (subst (λ (k : Command). IsUnfit k bytes why) same unfit))
 
 pub returns-in-Ok-texts_for-clause-refused : goal.returns-in-Ok-texts_for-clause-refused
 returns-in-Ok-texts_for-clause-refused g c =
     let reads = reads_of (g.S.Source.left c.args.source.now) (g.S.Source.left c.read_up_to.new.source) c.in-Ok.bytes.items c.deref.result.now c.limit_of.result (limit_of c.in-Some.command) c.limit_of.ensures c.deref.ensures.value c.in-Ok.ensures.taken c.in-Ok.ensures.whole c.in-Ok.ensures.bound in
     λ command bytes why asks left unfit failed.
     let same : command ≡ c.in-Some.command = same_some _ _ (sym (c.command.ensures.only command asks) ∙ c.in-Some.is) in
-    absurd (made_is_fit c.one_spelling.ensures c.in-Some.command bytes _ _ why (texts_are _ _ c.deref.result.now bytes c.in-Some.command _ _ reads left c.in-Ok-texts_for.ensures.found) (subst (λ (k : Command). IsUnfit k bytes why) same unfit))
+    absurd (made_is_fit c.one_spelling.ensures c.said_law.ensures c.in-Some.command bytes _ _ why (texts_are c.template_law.ensures _ _ c.deref.result.now bytes c.in-Some.command _ _ reads left c.in-Ok-texts_for.ensures.found) (subst (λ (k : Command). IsUnfit k bytes why) same unfit))
 
 pub returns-in-Ok-write_texts-clause-input : goal.returns-in-Ok-write_texts-clause-input
 returns-in-Ok-write_texts-clause-input g c =
@@ -67,7 +67,7 @@ returns-in-Ok-texts_for-clause-prefix g c =
       λ bytes left. (
         texts.out.items,
         texts.beside.items,
-        texts_are _ _ c.deref.result.now bytes c.in-Some.command _ _ reads left c.in-Ok-texts_for.ensures.found,
+        texts_are c.template_law.ensures _ _ c.deref.result.now bytes c.in-Some.command _ _ reads left c.in-Ok-texts_for.ensures.found,
         c.in-Err.ensures.cut,
       ),
     )
@@ -76,7 +76,16 @@ pub returns-in-Err-NoTemplate-clause-template : goal.returns-in-Err-NoTemplate-c
 returns-in-Err-NoTemplate-clause-template g c =
     let refused = subst (IsRefusedRightly c.in-Some.command c.deref.result.now) c.in-Err-NoTemplate.field-0-is c.in-Err-NoTemplate.ensures.refused in
     let reads = reads_of (g.S.Source.left c.args.source.now) (g.S.Source.left c.read_up_to.new.source) c.in-Ok.bytes.items c.deref.result.now c.limit_of.result (limit_of c.in-Some.command) c.limit_of.ensures c.deref.ensures.value c.in-Ok.ensures.taken c.in-Ok.ensures.whole c.in-Ok.ensures.bound in
-    λ three. (c.in-Some.command, c.in-Some.ensures.found, refused.0, λ bytes left. no_template_left _ _ c.deref.result.now bytes c.in-Some.command reads refused.0 refused.1 left)
+    λ three. (
+      c.in-Some.command,
+      c.in-Some.ensures.found,
+      refused.0,
+      (
+        c.in-Err-NoTemplate.line.items,
+        subst (λ (l : List ℕ). Tells (g.R.Sink.held c.args.report.now) (g.R.Sink.held c.write_whole-in-Err-NoTemplate.new.sink) l (g.R.Sink.fault_at c.write_whole-in-Err-NoTemplate.new.sink) (g.R.Sink.faults c.args.report.now) (g.R.Sink.faults c.write_whole-in-Err-NoTemplate.new.sink)) c.deref-in-Err-NoTemplate.ensures.value c.write_whole-in-Err-NoTemplate.ensures.told,
+        λ bytes left. lacking_left c.template_law.ensures _ _ c.deref.result.now bytes c.in-Err-NoTemplate.line.items c.in-Some.command reads refused.0 refused.1 refused.2 left,
+      ),
+    )
 
 pub returns-in-Err-NoTemplate-clause-complete : goal.returns-in-Err-NoTemplate-clause-complete
 returns-in-Err-NoTemplate-clause-complete g c =
@@ -84,7 +93,7 @@ returns-in-Err-NoTemplate-clause-complete g c =
     let reads = reads_of (g.S.Source.left c.args.source.now) (g.S.Source.left c.read_up_to.new.source) c.in-Ok.bytes.items c.deref.result.now c.limit_of.result (limit_of c.in-Some.command) c.limit_of.ensures c.deref.ensures.value c.in-Ok.ensures.taken c.in-Ok.ensures.whole c.in-Ok.ensures.bound in
     λ command bytes asks left input failed.
     let same : command ≡ c.in-Some.command = same_some _ _ (sym (c.command.ensures.only command asks) ∙ c.in-Some.is) in
-    absurd (no_template_is_no_input c.in-Some.command bytes refused.0 (no_template_left _ _ c.deref.result.now bytes c.in-Some.command reads refused.0 refused.1 left) (subst (λ (k : Command). IsInput k bytes) same input))
+    absurd (no_template_is_no_input c.in-Some.command bytes refused.0 (no_template_left c.template_law.ensures _ _ c.deref.result.now bytes c.in-Some.command reads refused.0 refused.1 left) (subst (λ (k : Command). IsInput k bytes) same input))
 
 pub returns-in-Err-NoFile-clause-malformed : goal.returns-in-Err-NoFile-clause-malformed
 returns-in-Err-NoFile-clause-malformed g c =
@@ -136,7 +145,7 @@ returns-in-Err-NotValid-clause-complete g c =
     let reads = subst (λ (k : Command). Reads (g.S.Source.left c.args.source.now) (g.S.Source.left c.read_up_to.new.source) c.deref.result.now (limit_of k)) refused.0 (reads_of (g.S.Source.left c.args.source.now) (g.S.Source.left c.read_up_to.new.source) c.in-Ok.bytes.items c.deref.result.now c.limit_of.result (limit_of c.in-Some.command) c.limit_of.ensures c.deref.ensures.value c.in-Ok.ensures.taken c.in-Ok.ensures.whole c.in-Ok.ensures.bound) in
     λ command bytes asks left input failed.
     let same : command ≡ c.in-Some.command = same_some _ _ (sym (c.command.ensures.only command asks) ∙ c.in-Some.is) in
-    absurd (wrong_is_no_input c.one_spelling.ensures c.one_verdict.ensures.valid bytes refused.1.0 refused.1.1 refused.1.2 (wrong_left _ _ c.deref.result.now bytes refused.1.0 refused.1.1 refused.1.2 reads refused.1.5 left) (subst (λ (k : Command). IsInput k bytes) (same ∙ refused.0) input))
+    absurd (wrong_is_no_input c.one_spelling.ensures c.said_law.ensures c.one_verdict.ensures.valid bytes refused.1.0 refused.1.1 refused.1.2 (wrong_left _ _ c.deref.result.now bytes refused.1.0 refused.1.1 refused.1.2 reads refused.1.5 left) (subst (λ (k : Command). IsInput k bytes) (same ∙ refused.0) input))
 
 pub returns-in-Err-NotValid-clause-refused : goal.returns-in-Err-NotValid-clause-refused
 returns-in-Err-NotValid-clause-refused g c =

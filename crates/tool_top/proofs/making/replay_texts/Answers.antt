@@ -1,4 +1,4 @@
-use Rattle.std.proofs.Common.{◌∙◌, refl, ap}
+use Rattle.std.proofs.Common.{◌∙◌, refl, ap, arith}
 use Rattle.trace_text.specs.Verdicts.{verdict_text}
 use Rattle.tool_top.proofs.making.replay_texts.Goals as goal
 
@@ -24,3 +24,17 @@ returns-clause-refused c = (
     },
   ),
 )
+
+pub returns-in-Yes-clause-found : goal.returns-in-Yes-clause-found
+returns-in-Yes-clause-found c = record {
+  certificate = c.in-Ok.certificate;
+  is_made = record {
+    file = record { well_formed = c.in-Ok.ensures.found.0; is_file = c.in-Ok.ensures.found.1 };
+    valid = c.in-Ok-check.ensures.yes c.in-Yes.is;
+    faithful = c.in-Ok-check.ensures.faithful c.in-Yes.is;
+  };
+  out_is = c.in-Some.ensures.text ∙ ap verdict_text c.in-Yes.is;
+  beside_is = c.new.ensures.items;
+  out_size = c.in-Some.ensures.size;
+  beside_size = omega arith;
+}

@@ -1,5 +1,5 @@
 use Rattle.std.proofs.Common.{◌<◌, List, get_or, subst, refl, drop-cons, add-one, arith}
-use Rattle.tpl_form.specs.declared.template.Leaf.{Leaf}
+use Rattle.tpl_form.specs.declared.form.Leaf.{Leaf}
 use Rattle.tpl_form.proofs.Registers.{IsFedSoFar, fed_at_first, taken}
 use Rattle.tpl_form.proofs.allowed.are_fed.Goals as goal
 

@@ -1,0 +1,29 @@
+// Templates for tests.
+ghost use Rattle.std.specs.Prelude.{◌≡◌, ◌≤◌, IfOk, length};
+ghost use Rattle.tpl_ast.specs.Parsing.{Parses};
+ghost use Rattle.tpl_admit.specs.Starts.{is_in};
+
+use std::alloc::Global;
+use std::process::Abort;
+use std::test::Fail;
+use tpl_ast::{Region, Template, template_law};
+use tpl_parse::parse;
+
+/// Whether the address lies in one of the regions.
+pub fn is_ram(ram: &[Region], addr: u32) -> bool
+    ensures { result ≡ is_in ram.now addr }
+{
+    ram.iter().any(|r| r.low <= addr && addr < r.high)
+}
+
+/// The template of a text, which has one hart.
+pub fn template_of(rt: &impl Abort, alloc: Global, text: &str) -> Result<Template, Fail>
+    ensures parses { IfOk result (λ t. Parses t.text t) }
+    ensures harts { IfOk result (λ t. length t.harts ≡ 1) }
+    ensures text { IfOk result (λ t. length t.text ≤ 65536) }
+{
+    template_law();
+    let template = parse(alloc, text.as_bytes())?;
+    assert!(rt; template.harts.len() == 1);
+    Ok(template)
+}
