@@ -1,5 +1,5 @@
 -- What tables say of variables.
-use Rattle.std.proofs.Common.{◌≡◌, ℕ, ◌≤◌, ◌⊎◌, ⊎_elim, not, Bool, true, false, List, [], ◌∷◌, ◌++◌, Option, Some, None, IsTrue, length, slice_get, get_or, nat_lt, refl, sym, ap, ◌∙◌, subst, arith, eqb-true}
+use Rattle.std.proofs.Common.{◌≡◌, ℕ, ◌≤◌, ⊎_elim, not, Bool, true, false, List, [], ◌∷◌, ◌++◌, Option, Some, None, IsTrue, length, slice_get, get_or, nat_lt, refl, sym, ap, ◌∙◌, subst, arith, eqb-true}
 use Rattle.std.specs.List.{filter}
 use Rattle.std.proofs.lemmas.Bool.{ltb-true}
 use Rattle.std.proofs.lemmas.Option.{slice_get_read}

@@ -7,7 +7,9 @@ pub mod Sameness
 pub mod Entries
 pub mod Totals
 pub mod Ranks
+pub mod Comparing
 pub mod RowParts
 pub mod Jumps
 pub mod Subsets
+pub mod Settable
 pub mod Operands

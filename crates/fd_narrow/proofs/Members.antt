@@ -1,5 +1,5 @@
 -- What is in a filtered list, and in the list of the words that pass a test.
-use Rattle.std.proofs.Common.{Any, Some, slice_get, ◌-◌, ◌≡◌, ◌==◌, ℕ, ◌^◌, ◌<◌, Bool, true, false, ◌&&◌, List, All, IsTrue, get_or, length, refl, sym, ap, ◌∙◌, subst, eqb-true, arith}
+use Rattle.std.proofs.Common.{Any, Some, slice_get, ◌≡◌, ◌==◌, ℕ, ◌^◌, ◌<◌, Bool, true, false, ◌&&◌, List, All, IsTrue, get_or, length, refl, sym, ap, ◌∙◌, subst, eqb-true, arith}
 use Rattle.std.specs.List.{filter}
 use Rattle.std.proofs.lemmas.List.Folds.{Any-from_list_any}
 use Rattle.std.proofs.lemmas.Map.Views.{any-filter_same}

@@ -1,7 +1,6 @@
 -- What is written to control and status registers.
-use Rattle.std.proofs.Common.{◌≡◌, ℕ, ◌%◌, ◌<◌, ◌≤◌, ◌^◌, ◌⊎◌, ⊎_elim, Bool, true, false, nat_eq, bit_or, List, [], ◌∷◌, ◌++◌, Some, None, IsTrue, refl, sym, ap, ◌∙◌, subst, arith, eqb-true}
+use Rattle.std.proofs.Common.{◌≡◌, ℕ, ◌<◌, ◌≤◌, ◌^◌, ⊎_elim, Bool, true, false, nat_eq, bit_or, List, [], ◌∷◌, ◌++◌, Some, None, IsTrue, refl, sym, ◌∙◌, subst, arith, eqb-true}
 use Rattle.std.specs.Prelude.{if◌then◌else◌}
-use Rattle.std.specs.Int.Bits.{or_mod, or_add_and, and_le_l}
 use Rattle.dom_set.specs.Elements.{is_in}
 use Rattle.std.proofs.lemmas.Bool.Decides.{nat_tests}
 use Rattle.rv_csr.specs.Table.{is_legal_at}
@@ -10,7 +9,7 @@ use Rattle.fd_prob.specs.declared.slot.Slot.TheVariants as slots
 use Rattle.fd_prob.specs.Relations.{is_none_or_legal, value_of}
 use Rattle.fd_narrow.specs.declared.writes.Change.TheVariants.{Sets}
 use Rattle.fd_narrow.specs.declared.writes.Write.{Write}
-use Rattle.fd_narrow.specs.Legal.{HasLegalAt}
+use Rattle.fd_narrow.specs.Legal.{HasLegalAt, HasSettableAt}
 use Rattle.fd_narrow.specs.Steps.{IsValueIn, Leaves}
 use Rattle.fd_narrow.specs.Writes.{AreIllegal, IsLegalOperand, completed, written}
 use Rattle.fd_narrow.proofs.Compositions.{weakened}
@@ -34,17 +33,14 @@ illegal_more write ranges new value legal before is illegal end = subst (AreIlle
 pub legal_narrows : (a b : List (List ℕ)) (s : Slot) (csr : ℕ) (legal : List ℕ) → HasLegalAt csr legal → Leaves (IsValueIn s legal) a b → Leaves (λ x. IsTrue (is_legal_at csr (value_of x s))) a b
 legal_narrows a b s csr legal has leaves = weakened (IsValueIn s legal) (λ x. IsTrue (is_legal_at csr (value_of x s))) a b (λ x inside h small. has (value_of x s) small h) leaves
 
--- a number whose bits are set in a multiple of 4 is one
-or_fourth : (old v : ℕ) → bit_or old v % 4 ≡ 0 → v % 4 ≡ 0
-or_fourth old v h = omega (arith, h, or_mod old v 2, or_add_and (old % 4) (v % 4), and_le_l (old % 4) (v % 4))
+-- a word that is set so that a legal one comes of it, or that sets nothing
+settable_of : (csr old v : ℕ) (zero : Bool) (set : List ℕ) → HasSettableAt csr set → v < 2 ^ 32 → IsTrue (is_none_or_legal csr (written Sets zero old v)) → IsTrue (is_in set v)
+settable_of csr old v false set has small h = has.bits v old small h
+settable_of csr old v true set has small h = by_zero (nat_eq v 0) refl h where
+  by_zero : (b : Bool) → nat_eq v 0 ≡ b → IsTrue (is_none_or_legal csr (if b then None else Some (bit_or old v))) → IsTrue (is_in set v)
+  by_zero true e k = subst (λ (n : ℕ). IsTrue (is_in set n)) (sym (eqb-true v 0 e)) has.nothing
+  by_zero false e k = has.bits v old small k
 
-fourth_of : (csr old v : ℕ) (zero : Bool) → ((n : ℕ) → IsTrue (is_legal_at csr n) → n % 4 ≡ 0) → IsTrue (is_none_or_legal csr (written Sets zero old v)) → v % 4 ≡ 0
-fourth_of csr old v false means h = or_fourth old v (means (bit_or old v) h)
-fourth_of csr old v true means h = by_zero (nat_eq v 0) refl h where
-  by_zero : (b : Bool) → nat_eq v 0 ≡ b → IsTrue (is_none_or_legal csr (if b then None else Some (bit_or old v))) → v % 4 ≡ 0
-  by_zero true e k = ap (λ (n : ℕ). n % 4) (eqb-true v 0 e)
-  by_zero false e k = or_fourth old v (means (bit_or old v) k)
-
-pub aligned_narrows : (a b : List (List ℕ)) (s : Slot) (csr : ℕ) (zero : Bool) (set : List ℕ) → ((n : ℕ) → IsTrue (is_legal_at csr n) → n % 4 ≡ 0) → ((n : ℕ) → n < 2 ^ 32 → n % 4 ≡ 0 → IsTrue (is_in set n)) → Leaves (IsValueIn s set) a b → Leaves (IsLegalOperand csr Sets zero s) a b
-aligned_narrows a b s csr zero set means has leaves = weakened (IsValueIn s set) (IsLegalOperand csr Sets zero s) a b
-    (λ x inside h small. has (value_of x s) small (fourth_of csr (value_of x slots.OldCsr) (value_of x s) zero means h)) leaves
+pub settable_narrows : (a b : List (List ℕ)) (s : Slot) (csr : ℕ) (zero : Bool) (set : List ℕ) → HasSettableAt csr set → Leaves (IsValueIn s set) a b → Leaves (IsLegalOperand csr Sets zero s) a b
+settable_narrows a b s csr zero set has leaves = weakened (IsValueIn s set) (IsLegalOperand csr Sets zero s) a b
+    (λ x inside h small. settable_of csr (value_of x slots.OldCsr) (value_of x s) zero set has small h) leaves

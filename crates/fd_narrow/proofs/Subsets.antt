@@ -7,10 +7,10 @@ use Rattle.fd_narrow.specs.Legal.{AreDoubled, HasSubsets}
 use Rattle.fd_narrow.proofs.Members.{is_in-elements_of, joined}
 use Rattle.fd_narrow.proofs.Spans.{pushed_has}
 
-upper_part : (n mask : ℕ) → bit_and n mask ≡ n → bit_and (n / 2) (mask / 2) ≡ n / 2
+pub upper_part : (n mask : ℕ) → bit_and n mask ≡ n → bit_and (n / 2) (mask / 2) ≡ n / 2
 upper_part n mask h = omega (arith, h, and_step n mask, and_le_l (n / 2) (mask / 2))
 
-lower_part : (n mask : ℕ) → bit_and n mask ≡ n → n % 2 ≤ mask % 2
+pub lower_part : (n mask : ℕ) → bit_and n mask ≡ n → n % 2 ≤ mask % 2
 lower_part n mask h = omega (arith, h, and_step n mask, and_le_l (n / 2) (mask / 2))
 
 half_below : (n : ℕ) → n < 2 ^ 32 → n / 2 < 2 ^ 32

@@ -1,5 +1,5 @@
 -- Sets that have the legal words of registers.
-use Rattle.std.specs.Prelude.{◌≡◌, ℕ, ◌/◌, ◌%◌, ◌^◌, ◌<◌, ◌≤◌, bit_and, List, IsTrue}
+use Rattle.std.specs.Prelude.{◌≡◌, ℕ, ◌/◌, ◌%◌, ◌^◌, ◌<◌, ◌≤◌, bit_and, bit_or, List, IsTrue}
 use Rattle.dom_set.specs.Elements.{is_in, is_within}
 use Rattle.rv_csr.specs.declared.table.Register.{Register}
 use Rattle.rv_csr.specs.declared.table.Values.{Values}
@@ -32,3 +32,13 @@ HasLegalFor register set = (n : ℕ) → n < 2 ^ 32 → IsTrue (is_legal registe
 -- the words that are legal at an address
 abbrev pub HasLegalAt : ℕ → List ℕ → Type 0
 HasLegalAt address set = (n : ℕ) → n < 2 ^ 32 → IsTrue (is_legal_at address n) → IsTrue (is_in set n)
+
+-- 0, and the words that can be set in one that then is legal for a register
+pub record HasSettable (register : Register) (set : List ℕ) : Type 0 where
+  pub nothing : IsTrue (is_in set 0)
+  pub bits : (n old : ℕ) → n < 2 ^ 32 → IsTrue (is_legal register (bit_or old n)) → IsTrue (is_in set n)
+
+-- the same for the register at an address
+pub record HasSettableAt (address : ℕ) (set : List ℕ) : Type 0 where
+  pub nothing : IsTrue (is_in set 0)
+  pub bits : (n old : ℕ) → n < 2 ^ 32 → IsTrue (is_legal_at address (bit_or old n)) → IsTrue (is_in set n)

@@ -3,6 +3,7 @@ pub mod Steps
 pub mod Spans
 pub mod Tables
 pub mod Orders
+pub mod Standings
 pub mod Parts
 pub mod Targets
 pub mod Legal

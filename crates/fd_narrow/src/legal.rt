@@ -1,7 +1,9 @@
 // The words that are legal for a control and status register, as a set.
 ghost use Rattle.std.specs.Prelude.{ℕ, ◌≡◌, ◌/◌, ◌%◌, ◌^◌, ◌<◌, ◌≤◌, IfOk, IsTrue, OnOk};
 ghost use Rattle.dom_set.specs.Elements.{is_in};
-ghost use Rattle.fd_narrow.specs.Legal.{AreDoubled, AreIn, AreLegal, HasLegalAt, HasLegalFor, HasLegalWithin, HasSubsets};
+ghost use Rattle.fd_narrow.specs.Legal.{AreDoubled, AreIn, AreLegal, HasLegalAt, HasLegalFor, HasLegalWithin, HasSettable, HasSettableAt, HasSubsets};
+ghost use Rattle.fd_narrow.specs.Spans.{AreCovered};
+ghost use Rattle.rv_csr.specs.Table.{is_legal};
 ghost use Rattle.rv_csr.specs.declared.table.Register.TheVariants.{Lazy};
 
 use crate::ranges::{Span, words_of};
@@ -55,6 +57,27 @@ fn subsets(alloc: Global, mask: u32) -> Result<Vec<u32>, OutOfMemory>
     Ok(made)
 }
 
+/// The ranges of the single numbers.
+fn singles(alloc: Global, numbers: &[u32]) -> Result<Vec<Span>, OutOfMemory>
+    ensures { IfOk result (λ made. AreCovered numbers.now made.items) }
+{
+    let mut made = Vec::new(alloc);
+    for number in numbers {
+        made.push((*number, *number))?;
+    }
+    Ok(made)
+}
+
+/// The words with no bit outside the mask, as a set.
+fn words_within(alloc: Global, mask: u32) -> Result<Set, OutOfMemory>
+    ensures { IfOk result (HasSubsets mask) }
+{
+    let numbers = subsets(alloc, mask)?;
+    let ranges = singles(alloc, &numbers)?;
+    let words = words_of(alloc, &ranges)?;
+    Ok(words)
+}
+
 /// The ranges of the single numbers that are legal for the row's register.
 fn ranges_of(alloc: Global, numbers: &[u32], row: &Row) -> Result<Vec<Span>, OutOfMemory>
     ensures { IfOk result (λ made. AreLegal row.now.values numbers.now made.items) }
@@ -79,7 +102,7 @@ fn legal_within(alloc: Global, register: Register, mask: u32) -> Result<Set, Out
 }
 
 /// The multiples of 4.
-pub fn fourths(alloc: Global) -> Result<Set, OutOfMemory>
+fn fourths(alloc: Global) -> Result<Set, OutOfMemory>
     ensures { IfOk result (λ set. (n : ℕ) → n < 2 ^ 32 → n % 4 ≡ 0 → IsTrue (is_in set n)) }
 {
     set_laws();
@@ -156,5 +179,93 @@ pub fn legal_at(alloc: Global, address: u32) -> Result<Set, OutOfMemory>
             None => Ok(Set::new(alloc)),
         },
         Err(_) => Ok(Set::new(alloc)),
+    }
+}
+
+/// Whether addresses of instructions alone are legal for the register.
+fn is_aligned(register: LazyRegister) -> bool
+    ensures { IsTrue result → (n : ℕ) → IsTrue (is_legal (Lazy register) n) → n % 4 ≡ 0 }
+{
+    matches!(
+        register,
+        LazyRegister::Stvec | LazyRegister::Sepc | LazyRegister::Mtvec | LazyRegister::Mepc
+    )
+}
+
+/// Whether causes of traps alone are legal for the register.
+fn has_causes(register: LazyRegister) -> bool
+    ensures { IsTrue result → (n : ℕ) → IsTrue (is_legal (Lazy register) n) → n ≤ 15 }
+{
+    matches!(register, LazyRegister::Scause | LazyRegister::Mcause)
+}
+
+/// The words that can be set in one that then is legal for a register that may have no value yet.
+fn settable_for_lazy(alloc: Global, register: LazyRegister) -> Result<Set, OutOfMemory>
+    ensures { IfOk result (HasSettable (Lazy register)) }
+{
+    if is_aligned(register) {
+        let set = fourths(alloc)?;
+        return Ok(set);
+    }
+    if has_causes(register) {
+        let set = words_of(alloc, &[(0, 15)])?;
+        return Ok(set);
+    }
+    let set = words_of(alloc, &[(0, u32::MAX)])?;
+    Ok(set)
+}
+
+/// The words that can be set in one that then is legal for a register.
+fn settable_for(alloc: Global, register: Register) -> Result<Set, OutOfMemory>
+    ensures { IfOk result (HasSettable register) }
+{
+    match register {
+        Register::Sstatus => {
+            let set = words_within(alloc, SSTATUS)?;
+            Ok(set)
+        }
+        Register::Mstatus => {
+            let set = words_within(alloc, MSTATUS)?;
+            Ok(set)
+        }
+        Register::Medeleg => {
+            let set = words_within(alloc, MEDELEG)?;
+            Ok(set)
+        }
+        Register::Satp => {
+            let set = words_of(alloc, &[(0, 0x000f_ffff), (0x8000_0000, 0x800f_ffff)])?;
+            Ok(set)
+        }
+        Register::Mhartid => {
+            let set = words_of(alloc, &[(0, 0)])?;
+            Ok(set)
+        }
+        Register::Lazy(lazy) => {
+            let set = settable_for_lazy(alloc, lazy)?;
+            Ok(set)
+        }
+    }
+}
+
+/// The words that can be set in one that then is legal for the register at the address, and 0, with which
+/// nothing is set.
+pub fn settable_at(alloc: Global, address: u32) -> Result<Set, OutOfMemory>
+    ensures { IfOk result (HasSettableAt address) }
+{
+    match u16::try_from(address) {
+        Ok(small) => match register_at(small) {
+            Some(register) => {
+                let set = settable_for(alloc, register)?;
+                Ok(set)
+            }
+            None => {
+                let set = words_of(alloc, &[(0, 0)])?;
+                Ok(set)
+            }
+        },
+        Err(_) => {
+            let set = words_of(alloc, &[(0, 0)])?;
+            Ok(set)
+        }
     }
 }

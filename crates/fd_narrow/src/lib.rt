@@ -9,6 +9,7 @@ mod narrowing;
 mod orders;
 mod ranges;
 mod rows;
+mod standings;
 mod sums;
 mod tables;
 mod targets;

@@ -29,7 +29,7 @@ impl Domains {
         Ok(())
     }
 
-    /// Goes through the relations once, until a domain is empty.
+    /// Goes through the relations once, each alone and then all together, until a domain is empty.
     fn pass(&mut self, alloc: Global, op: Op, rels: &[Rel]) -> Result<(), OutOfMemory>
         ensures { OnOk result (Narrows op rels.now self.old self.new) }
     {
@@ -39,6 +39,7 @@ impl Domains {
             }
             self.narrow_by(alloc, op, rel)?;
         }
+        self.narrow_standing(alloc, op, rels);
         Ok(())
     }
 

@@ -9,7 +9,7 @@ ghost use Rattle.fd_narrow.specs.declared.writes.Change.TheVariants as changes;
 ghost use Rattle.fd_narrow.specs.Writes.{AreIllegal, IsLegalOperand, IsLegalWith, changed, completed};
 
 use crate::domains::Domains;
-use crate::legal::{fourths, legal_at};
+use crate::legal::{legal_at, settable_at};
 use crate::ranges::{Span, words_of};
 use dom_set::{OutOfMemory, Set};
 use fd_prob::Slot;
@@ -48,13 +48,6 @@ fn is_legal(csr: u32, value: u32) -> bool
         Ok(csr) => legal(csr, value),
         Err(_) => false,
     }
-}
-
-/// Whether addresses of instructions alone are legal for the register: for stvec, sepc, mtvec and mepc.
-fn is_aligned(csr: u32) -> bool
-    ensures { IsTrue result → (n : ℕ) → IsTrue (is_legal_at csr n) → n % 4 ≡ 0 }
-{
-    csr == 0x105 || csr == 0x141 || csr == 0x305 || csr == 0x341
 }
 
 /// The part of a write that is known.
@@ -108,8 +101,13 @@ fn illegal_values(alloc: Global, values: &Set, write: Write) -> Result<Vec<Span>
     ensures { IfOk result (λ made. AreIllegal write made.items) }
 {
     let mut made = Vec::new(alloc);
-    for i in 0..values.size() {
-        push_illegal(&mut made, values.nth(i), write)?;
+    let mut next = values.first_from(0);
+    for _ in 0..values.size() {
+        let Some(value) = next else {
+            break;
+        };
+        push_illegal(&mut made, value, write)?;
+        next = values.first_from(value.wrapping_add(1));
     }
     Ok(made)
 }
@@ -209,9 +207,8 @@ impl Domains {
         }
     }
 
-    /// Where the register holds an address of an instruction, the operand whose bits are set is a multiple
-    /// of 4.
-    fn cut_aligned(
+    /// The operand whose bits are set in the register is one that can be.
+    fn cut_settable(
         &mut self,
         alloc: Global,
         slot: Slot,
@@ -220,8 +217,8 @@ impl Domains {
     ) -> Result<(), OutOfMemory>
         ensures { OnOk result (Leaves (IsLegalOperand csr changes.Sets zero slot) self.old self.new) }
     {
-        if is_aligned(csr) {
-            let set = fourths(alloc)?;
+        if self.domain(slot).size() > 1 {
+            let set = settable_at(alloc, csr)?;
             return self.cut(alloc, slot, &set);
         }
         Ok(())
@@ -239,7 +236,7 @@ impl Domains {
         ensures { OnOk result (Leaves (IsLegalOperand csr change zero slot) self.old self.new) }
     {
         match change {
-            Change::Sets => self.cut_aligned(alloc, slot, csr, zero),
+            Change::Sets => self.cut_settable(alloc, slot, csr, zero),
             Change::Clears => Ok(()),
         }
     }

@@ -8,6 +8,7 @@ pub mod OneOperation
 pub mod AllOperations
 pub mod Allowed
 pub mod Pivoting
+pub mod StrictOrder
 pub mod Extensions
 pub mod Biases
 pub mod Mentions

@@ -1,4 +1,5 @@
 pub mod Answers
+pub mod Laws
 pub mod Search
 pub mod Taking
 pub mod Free

@@ -7,6 +7,7 @@ ghost use Rattle.fd_solve.specs.Taking.{IsBest, IsTakenBy, kept_of, problem_with
 use crate::answers::{LeafAnswer, Solved};
 use crate::extended::extended;
 use crate::operations::answer_of;
+use crate::pivots::operation_pivot;
 use dom_set::OutOfMemory;
 use fd_prob::{Assignment, Extra, Items, Problem};
 use std::alloc::Global;
@@ -66,7 +67,8 @@ impl Taken {
         ensures best { OnOk result (IsBest p.now nodes self.new.best) }
     {
         let problem = extended(alloc, self.problem(p), bias)?;
-        match answer_of(alloc, &problem, nodes)? {
+        let pivot = operation_pivot(alloc, &problem)?;
+        match answer_of(alloc, &problem, pivot, nodes)? {
             Solved::Found(least) => {
                 self.best = Some(Best { problem, least });
                 Ok(())
@@ -102,7 +104,10 @@ pub fn solve_leaf(
     let Taken { best, dropped } = taken;
     let solved = match best {
         Some(best) => Solved::Found(best.least),
-        None => answer_of(alloc, p, nodes)?,
+        None => {
+            let pivot = operation_pivot(alloc, p)?;
+            answer_of(alloc, p, pivot, nodes)?
+        }
     };
     Ok(LeafAnswer { solved, dropped })
 }

@@ -10,6 +10,7 @@ mod cases;
 mod copies;
 mod extended;
 mod free;
+mod laws;
 mod leaf;
 mod operations;
 mod order;
@@ -23,5 +24,6 @@ mod tests;
 
 pub use answers::{LeafAnswer, Solved};
 pub use dom_set::OutOfMemory;
+pub use laws::order_law;
 pub use leaf::solve_leaf;
 pub use operations::solve;

@@ -40,12 +40,12 @@ fn solve_between(
 }
 
 /// The least assignment that fits.
-fn least(alloc: Global, p: &Problem) -> Result<Option<Assignment>, OutOfMemory>
-    requires { IsProblem p.now }
+fn least(alloc: Global, p: &Problem, pivot: u8) -> Result<Option<Assignment>, OutOfMemory>
+    requires problem { IsProblem p.now }
+    requires pivot { (op : ℕ) → pivot ≡ pivot_of p.now op slots.Op }
     ensures { IfOk result (λ o. MatchOption o (NothingFits p.now) (IsLeast p.now)) }
 {
     fitting_laws();
-    let pivot = operation_pivot(alloc, p)?;
     if let Some(x) = solve_between(alloc, p, pivot, pivot, 58)? {
         return Ok(Some(x));
     }
@@ -53,15 +53,16 @@ fn least(alloc: Global, p: &Problem) -> Result<Option<Assignment>, OutOfMemory>
     Ok(lower)
 }
 
-/// The answer of the problem.
-pub fn answer_of(alloc: Global, p: &Problem, nodes: u64) -> Result<Solved, OutOfMemory>
-    requires { IsProblem p.now }
+/// The answer of the problem, from the pivot of its operations.
+pub fn answer_of(alloc: Global, p: &Problem, pivot: u8, nodes: u64) -> Result<Solved, OutOfMemory>
+    requires problem { IsProblem p.now }
+    requires pivot { (op : ℕ) → pivot ≡ pivot_of p.now op slots.Op }
     ensures { IfOk result (IsAnswer p.now nodes) }
 {
     if nodes < space(p) {
         return Ok(Solved::Spent);
     }
-    match least(alloc, p)? {
+    match least(alloc, p, pivot)? {
         Some(x) => Ok(Solved::Found(x)),
         None => Ok(Solved::NoneFits),
     }
@@ -78,5 +79,6 @@ pub fn solve(alloc: Global, p: &Problem, nodes: u64) -> Result<Solved, OutOfMemo
     ensures found { (x : Assignment) → result ≡ Ok (Found x) → IsLeast p.now x }
     ensures none { result ≡ Ok NoneFits → NothingFits p.now }
 {
-    answer_of(alloc, p, nodes)
+    let pivot = operation_pivot(alloc, p)?;
+    answer_of(alloc, p, pivot, nodes)
 }

@@ -1,9 +1,11 @@
 // The least assignment that fits, by going through all of them: for tests, with small domains.
-ghost use Rattle.std.specs.Prelude.{◌<◌, IfSome};
+ghost use Rattle.std.specs.Prelude.{◌≡◌, ◌<◌, All, IfSome, length};
 ghost use Rattle.fd_prob.specs.Fitting.{IsCase, IsProblem};
 
-use dom_set::Set;
-use fd_prob::{Assignment, Case, Problem, SLOTS, Slot, fits};
+use crate::extended::extended;
+use dom_set::{OutOfMemory, Set};
+use fd_prob::{Assignment, Case, Extra, Problem, SLOTS, Slot, fits};
+use std::alloc::Global;
 
 fn first_of(p: &Problem, op: u8) -> Option<&Case>
     requires { IsProblem p.now }
@@ -160,4 +162,41 @@ pub fn least(p: &Problem) -> Option<Assignment>
         best = least_with(p, case, best);
     }
     best
+}
+
+/// The problem with the biases that were kept.
+fn with_kept<'a>(p: &'a Problem, kept: &'a Option<Problem>) -> &'a Problem
+    requires problem { IsProblem p.now }
+    requires kept { IfSome kept.now (λ q. IsProblem q × (length q.cases ≡ length p.now.cases)) }
+    ensures problem { IsProblem result.now }
+    ensures entries { length result.now.cases ≡ length p.now.cases }
+{
+    match kept {
+        Some(with) => with,
+        None => p,
+    }
+}
+
+/// The least assignment with each bias that leaves one, in order, and the positions of the others.
+pub fn leaf(
+    alloc: Global,
+    p: &Problem,
+    biases: &[Extra],
+) -> Result<(Option<Assignment>, Vec<u32>), OutOfMemory>
+    requires problem { IsProblem p.now }
+    requires entries { All (λ e. length e.cases ≡ length p.now.cases) biases.now }
+{
+    let mut kept: Option<Problem> = None;
+    let mut dropped = Vec::new(alloc);
+    let mut position: u32 = 0;
+    for bias in biases {
+        let with = extended(alloc, with_kept(p, &kept), bias)?;
+        if least(&with).is_some() {
+            kept = Some(with);
+        } else {
+            dropped.push(position)?;
+        }
+        position = position.saturating_add(1);
+    }
+    Ok((least(with_kept(p, &kept)), dropped))
 }

@@ -3,9 +3,13 @@
 ghost use Rattle.std.specs.Prelude.{◌≡◌, ◌<◌, All, IfOk, length};
 ghost use Rattle.fd_prob.specs.Fitting.{IsCase, IsProblem};
 
-use crate::{Solved, plain, solve, solve_leaf};
+mod leaves;
+mod relations;
+mod wide;
+
+use crate::{Solved, plain, solve};
 use dom_set::Set;
-use fd_prob::{Assignment, Case, Extra, Items, Problem, Rel, SLOTS, Slot, space};
+use fd_prob::{Assignment, Case, Items, Problem, Quad, Rel, SLOTS, Slot, space};
 use std::alloc::Global;
 use std::process::Abort;
 use std::test::Fail;
@@ -28,6 +32,8 @@ enum Link {
     Linked,
     Target(u32, Ranges),
     Writes,
+    /// Sets of addresses, root entries, second entries and data words.
+    Rows(&'static [[Ranges; 4]]),
 }
 
 /// An operation, domains, and relations.
@@ -55,6 +61,19 @@ fn domain(alloc: Global, slot: Slot, op: u8, domains: &[Domain]) -> Result<Set, 
     set_of(alloc, &[(only, only)])
 }
 
+fn rows_of(alloc: Global, rows: &[[Ranges; 4]]) -> Result<Items<Quad>, Fail> {
+    let mut quads = Items::new(alloc);
+    for [ea, root, leaf, word] in rows {
+        quads.push(Quad {
+            ea: set_of(alloc, ea)?,
+            root: set_of(alloc, root)?,
+            leaf: set_of(alloc, leaf)?,
+            word: set_of(alloc, word)?,
+        })?;
+    }
+    Ok(quads)
+}
+
 fn rel_of(alloc: Global, link: Link) -> Result<Rel, Fail> {
     Ok(match link {
         Link::Same(s, t) => Rel::Same(s, t),
@@ -69,6 +88,7 @@ fn rel_of(alloc: Global, link: Link) -> Result<Rel, Fail> {
         Link::Linked => Rel::Linked,
         Link::Target(pc, ranges) => Rel::Target(pc, set_of(alloc, ranges)?),
         Link::Writes => Rel::Writes,
+        Link::Rows(rows) => Rel::Rows(rows_of(alloc, rows)?),
     })
 }
 
@@ -261,287 +281,4 @@ fn answers_are_those_of_a_plain_search(rt: HostRuntime) -> Result<(), Fail> {
         }
     }
     Ok(())
-}
-
-const SIGNED: Ranges = &[(0, 0x7ff), (0xffff_f800, u32::MAX)];
-
-const EACH: Ranges = &[(0, 31)];
-
-const PAGE: Ranges = &[(0x8000_0000, 0x8000_0fff)];
-
-const SUM: Link = Link::Sum(Slot::A, Slot::Imm, Slot::Ea);
-
-/// A load from a page, with any register.
-const LOAD: Row = (
-    12,
-    &[
-        (Slot::Rs1, EACH),
-        (Slot::Imm, SIGNED),
-        (Slot::Rd, EACH),
-        (Slot::A, ALL),
-        (Slot::Ea, PAGE),
-    ],
-    &[
-        Link::Holds(
-            Slot::Rs1,
-            Slot::A,
-            &[Some(0), Some(0x8000_1900), None, Some(0x8000_0007)],
-        ),
-        SUM,
-    ],
-);
-
-/// The same with registers whose values are too far away.
-const FAR_LOAD: Row = (
-    12,
-    &[
-        (Slot::Rs1, &[(0, 2)]),
-        (Slot::Imm, SIGNED),
-        (Slot::Rd, EACH),
-        (Slot::A, ALL),
-        (Slot::Ea, PAGE),
-    ],
-    &[
-        Link::Holds(
-            Slot::Rs1,
-            Slot::A,
-            &[Some(0), Some(0x8000_1900), Some(0x7fff_f700)],
-        ),
-        SUM,
-    ],
-);
-
-/// BLTU, where the second value is 0.
-const BELOW_0: Row = (
-    8,
-    &[
-        (Slot::Rs1, EACH),
-        (Slot::Rs2, EACH),
-        (Slot::Imm, SIGNED),
-        (Slot::A, ALL),
-    ],
-    &[Link::Taken(true), Link::Linked],
-);
-
-/// BEQ of any values.
-const EQUAL: Row = (
-    4,
-    &[
-        (Slot::Rs1, EACH),
-        (Slot::Rs2, EACH),
-        (Slot::Imm, SIGNED),
-        (Slot::A, ALL),
-        (Slot::B, ALL),
-    ],
-    &[Link::Taken(true), Link::Linked, Link::Target(8, &[(4, 4)])],
-);
-
-const TWO: Ranges = &[(1, 2)];
-
-/// Three values of two numbers that all differ, behind variables that no relation looks at.
-const CROWDED: Row = (
-    18,
-    &[
-        (Slot::Rs1, EACH),
-        (Slot::Imm, SIGNED),
-        (Slot::Rd, EACH),
-        (Slot::A, TWO),
-        (Slot::B, TWO),
-        (Slot::DataWord, TWO),
-    ],
-    &[
-        Link::Differ(Slot::A, Slot::B),
-        Link::Differ(Slot::B, Slot::DataWord),
-        Link::Differ(Slot::A, Slot::DataWord),
-    ],
-);
-
-/// Cases, and the values of the operation that is found.
-type Wide = (&'static [Row], Option<(u8, &'static [(Slot, u32)])>);
-
-const WIDE: [Wide; 6] = [
-    (
-        &[LOAD],
-        Some((
-            12,
-            &[
-                (Slot::Rs1, 2),
-                (Slot::Ea, 0x8000_0000),
-                (Slot::A, 0x8000_0000),
-            ],
-        )),
-    ),
-    (&[FAR_LOAD], None),
-    (&[BELOW_0], None),
-    (&[EQUAL], Some((4, &[(Slot::Imm, 0xffff_fffc)]))),
-    (&[CROWDED], None),
-    (
-        &[BELOW_0, CROWDED, EQUAL, FAR_LOAD],
-        Some((4, &[(Slot::Imm, 0xffff_fffc)])),
-    ),
-];
-
-#[test]
-fn domains_of_all_numbers_are_searched(rt: HostRuntime) -> Result<(), Fail> {
-    let alloc = rt.alloc();
-    for (rows, found) in WIDE {
-        let want = match found {
-            Some((op, values)) => Solved::Found(assigned(op, values)),
-            None => Solved::NoneFits,
-        };
-        let p = problem_of(alloc, rows, [0; 14])?;
-        assert_eq!(rt; solve(alloc, &p, u64::MAX)?, want);
-    }
-    Ok(())
-}
-
-/// A case of ADDI with three registers.
-const THREE: Row = (18, &[(Slot::Rs1, &[(1, 3)]), (Slot::Rd, &[(1, 3)])], &[]);
-
-/// A case of CSRRW, whose space is that of `A` as soon as it has few values.
-const SWAP: Row = (
-    48,
-    &[
-        (Slot::Rs1, &[(1, 1)]),
-        (Slot::Csr, &[(0x340, 0x340)]),
-        (Slot::A, ALL),
-    ],
-    &[Link::Writes],
-);
-
-fn extra_of(alloc: Global, cases: &[bool], cuts: &[Domain], links: &[Link]) -> Result<Extra, Fail>
-    ensures { IfOk result (λ e. e.cases ≡ cases.now) }
-{
-    let mut sets = Items::new(alloc);
-    for (slot, ranges) in cuts {
-        sets.push((*slot, set_of(alloc, ranges)?))?;
-    }
-    let rels = rels_of(alloc, links)?;
-    Ok(Extra {
-        cases: Items::from_slice(alloc, cases)?,
-        cuts: sets,
-        rels,
-    })
-}
-
-/// The biases of a leaf: which cases stay, cuts and relations.
-type Bias = (&'static [bool], &'static [Domain], &'static [Link]);
-
-const FEW_VALUES: Bias = (&[true, true], &[(Slot::A, &[(0, 99)])], &[]);
-
-const HIGH_REGISTERS: Bias = (&[true, true], &[(Slot::Rs1, &[(2, 3)])], &[]);
-
-const LOW_REGISTERS: Bias = (&[true, true], &[(Slot::Rs1, &[(1, 1)])], &[]);
-
-const ONE_REGISTER: Bias = (&[true, true], &[], &[Link::Same(Slot::Rs1, Slot::Rd)]);
-
-const NO_CASE: Bias = (&[false, false], &[], &[]);
-
-const LAST_REGISTER: Bias = (&[false, true], &[(Slot::Rd, &[(3, 3)])], &[]);
-
-fn biases_of(alloc: Global, biases: &[Bias]) -> Result<Vec<Extra>, Fail>
-    ensures { IfOk result (λ v. All (λ e. length e.cases ≡ 2) v.items) }
-{
-    let mut extras = Vec::new(alloc);
-    for (cases, cuts, links) in biases {
-        if cases.len() == 2 {
-            extras.push(extra_of(alloc, cases, cuts, links)?)?;
-        }
-    }
-    Ok(extras)
-}
-
-/// The problem of two cases, with all draws 0.
-fn two_cases(alloc: Global, first: Case, second: Case) -> Result<Problem, Fail>
-    requires first { IsCase first }
-    requires second { IsCase second }
-    ensures problem { IfOk result IsProblem }
-    ensures cases { IfOk result (λ p. length p.cases ≡ 2) }
-{
-    let mut cases = Vec::new(alloc);
-    cases.push(first)?;
-    cases.push(second)?;
-    Ok(Problem {
-        cases: Items::from_vec(cases),
-        pivots: [0; 14],
-        pairs: 1,
-        fetch: false,
-    })
-}
-
-/// Whether the answer with the biases is the wanted one.
-fn has_answer(
-    alloc: Global,
-    nodes: u64,
-    biases: &[Bias],
-    solved: Solved,
-    dropped: &[(u32, bool)],
-) -> Result<bool, Fail> {
-    let p = two_cases(alloc, case_of(alloc, SWAP)?, case_of(alloc, THREE)?)?;
-    let answer = solve_leaf(alloc, &p, &biases_of(alloc, biases)?, nodes)?;
-    Ok(answer.solved == solved && answer.dropped.as_slice() == dropped)
-}
-
-fn low(rs1: u32, rd: u32) -> Solved {
-    Solved::Found(assigned(18, &[(Slot::Rs1, rs1), (Slot::Rd, rd)]))
-}
-
-#[test]
-fn biases_are_kept_and_dropped(rt: HostRuntime) -> Result<(), Fail> {
-    let alloc = rt.alloc();
-    // The space is 4, and 103 where the value of the source has few values.
-    assert!(rt; has_answer(alloc, 20, &[], low(1, 1), &[])?);
-    assert!(rt; has_answer(alloc, 3, &[], Solved::Spent, &[])?);
-    assert!(rt; has_answer(alloc, 3, &[HIGH_REGISTERS], low(2, 1), &[])?);
-    assert!(rt; has_answer(alloc, 3, &[ONE_REGISTER], Solved::Spent, &[(0, true)])?);
-    assert!(rt; has_answer(alloc, 20, &[LOW_REGISTERS], low(1, 1), &[])?);
-    assert!(rt; has_answer(alloc, 20, &[NO_CASE], low(1, 1), &[(0, false)])?);
-    Ok(())
-}
-
-const BIASES: [Bias; 7] = [
-    FEW_VALUES,
-    HIGH_REGISTERS,
-    LOW_REGISTERS,
-    ONE_REGISTER,
-    NO_CASE,
-    LAST_REGISTER,
-    FEW_VALUES,
-];
-
-#[test]
-fn a_bias_is_judged_with_those_kept_before_it(rt: HostRuntime) -> Result<(), Fail> {
-    let alloc = rt.alloc();
-    let dropped = [(0, true), (2, false), (4, false)];
-    assert!(rt; has_answer(alloc, 20, &BIASES, low(3, 3), &dropped)?);
-    Ok(())
-}
-
-/// The problem of two cases, with these draws, one a variable.
-fn with_draws(alloc: Global, draws: [u32; 14]) -> Result<Problem, Fail>
-    ensures problem { IfOk result IsProblem }
-    ensures cases { IfOk result (λ p. length p.cases ≡ 2) }
-{
-    let mut p = two_cases(alloc, case_of(alloc, SWAP)?, case_of(alloc, THREE)?)?;
-    p.pivots = draws;
-    Ok(p)
-}
-
-#[test]
-fn pivots_are_those_of_the_cut_domains(rt: HostRuntime) -> Result<(), Fail> {
-    let alloc = rt.alloc();
-    // Of the registers 1 to 3, draw 1 picks 2, and of 2 and 3 it picks 3.
-    let p = with_draws(alloc, [0, 1, 1, 1, 1, 1, 1, 1, 1, 1, 1, 1, 1, 1])?;
-    let plain = solve_leaf(alloc, &p, &biases_of(alloc, &[])?, 20)?;
-    assert!(rt; has_source(&plain.solved, 2));
-    let cut = solve_leaf(alloc, &p, &biases_of(alloc, &[HIGH_REGISTERS])?, 20)?;
-    assert!(rt; has_source(&cut.solved, 3));
-    Ok(())
-}
-
-fn has_source(solved: &Solved, register: u32) -> bool {
-    match solved {
-        Solved::Found(x) => x.value(Slot::Rs1) == register,
-        _ => false,
-    }
 }

@@ -1,5 +1,5 @@
 use Rattle.fd_narrow.specs.Writes.{AreIllegal}
 use Rattle.fd_narrow.proofs.writes.illegal_values.Given as goal
 
-abbrev pub invariant-loop-i : goal.invariant-loop-i
-invariant-loop-i l = AreIllegal l.write l.made.items
+abbrev pub invariant-loop : goal.invariant-loop
+invariant-loop l = AreIllegal l.write l.made.items

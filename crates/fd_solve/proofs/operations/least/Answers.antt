@@ -2,7 +2,7 @@ use Rattle.fd_solve.proofs.AllOperations.{least_above, rest_is_least}
 use Rattle.fd_solve.proofs.operations.least.Goals as goal
 
 pub returns-in-Some : goal.returns-in-Some
-returns-in-Some c = least_above c.args.p.now c.fitting_laws.ensures.fitting c.requires c.in_ok-pivot.pivot c.in_ok-pivot.ensures c.in-Some.x (rw c.in-Some.is at c.in_ok-x.ensures)
+returns-in-Some c = least_above c.args.p.now c.fitting_laws.ensures.fitting c.requires.problem c.args.pivot c.requires.pivot c.in-Some.x (rw c.in-Some.is at c.in_ok-x.ensures)
 
 pub returns : goal.returns
-returns c = rest_is_least c.args.p.now c.fitting_laws.ensures.fitting c.requires c.in_ok-pivot.pivot c.in_ok-pivot.ensures (rw c.in_default.is at c.in_ok-x.ensures) c.in_ok-lower.lower c.in_ok-lower.ensures
+returns c = rest_is_least c.args.p.now c.fitting_laws.ensures.fitting c.requires.problem c.args.pivot c.requires.pivot (rw c.in_default.is at c.in_ok-x.ensures) c.in_ok-lower.lower c.in_ok-lower.ensures

@@ -1,4 +1,4 @@
-use Rattle.std.proofs.Common.{◌≡◌, ℕ, true, List, length, set, length-set, sym, ◌∙◌, subst, arith}
+use Rattle.std.proofs.Common.{◌≡◌, ℕ, true, List, length-set, sym, ◌∙◌, subst, arith}
 use Rattle.dom_set.specs.Elements.{is_in}
 use Rattle.fd_solve.proofs.Cuts.{next_inside}
 use Rattle.fd_solve.proofs.Places.{place_below}

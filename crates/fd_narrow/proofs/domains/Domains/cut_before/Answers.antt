@@ -1,4 +1,4 @@
-use Rattle.std.proofs.Common.{ℕ, ◌-◌, true, Option, subst, arith}
+use Rattle.std.proofs.Common.{ℕ, true, Option, subst, arith}
 use Rattle.std.specs.Prelude.{IfSome}
 use Rattle.fd_narrow.specs.Narrowing.{domain_in}
 use Rattle.fd_narrow.specs.Orders.{HasEnds, IsOrdered, IsRanked}
