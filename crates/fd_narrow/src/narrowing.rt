@@ -1,5 +1,5 @@
 // What the relations of a case leave of its variables' domains.
-ghost use Rattle.std.specs.Prelude.{IsTrue, OnOk};
+ghost use Rattle.std.specs.Prelude.{IfOk, IsTrue, OnOk};
 ghost use Rattle.fd_prob.specs.Relations.{holds};
 ghost use Rattle.fd_narrow.specs.Narrowing.{Narrows};
 ghost use Rattle.fd_narrow.specs.Steps.{Leaves};
@@ -14,9 +14,17 @@ use std::alloc::Global;
 const PASSES: usize = 8;
 
 impl Domains {
-    /// Takes from the domains what the relations rule out, in a case of the operation. Without memory
-    /// for it some of that is taken, or nothing.
-    pub fn narrow(&mut self, alloc: Global, op: Op, rels: &[Rel]) -> Result<(), OutOfMemory>
+    /// The domains without what the relations rule out, in a case of the operation.
+    pub fn narrowed(self, alloc: Global, op: Op, rels: &[Rel]) -> Result<Domains, OutOfMemory>
+        ensures { IfOk result (Narrows op rels.now self) }
+    {
+        let mut left = self;
+        left.narrow(alloc, op, rels)?;
+        Ok(left)
+    }
+
+    /// Takes from the domains what the relations rule out. After an error nothing is said of what is left.
+    pub(crate) fn narrow(&mut self, alloc: Global, op: Op, rels: &[Rel]) -> Result<(), OutOfMemory>
         ensures { OnOk result (Narrows op rels.now self.old self.new) }
     {
         for _ in 0..PASSES {

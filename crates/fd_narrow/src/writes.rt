@@ -217,11 +217,8 @@ impl Domains {
     ) -> Result<(), OutOfMemory>
         ensures { OnOk result (Leaves (IsLegalOperand csr changes.Sets zero slot) self.old self.new) }
     {
-        if self.domain(slot).size() > 1 {
-            let set = settable_at(alloc, csr)?;
-            return self.cut(alloc, slot, &set);
-        }
-        Ok(())
+        let set = settable_at(alloc, csr)?;
+        self.cut(alloc, slot, &set)
     }
 
     /// What an operand makes of the register is legal, where its bits are set in it.

@@ -43,8 +43,8 @@ pub fn with_value(
     let mut cut = doms;
     let _count = cut.count();
     cut.set(slot, only(alloc, value)?);
-    cut.narrow(alloc, case.operation(), case.rels.as_slice())?;
-    Ok(cut)
+    let narrowed = cut.narrowed(alloc, case.operation(), case.rels.as_slice())?;
+    Ok(narrowed)
 }
 
 /// Does nothing. Its contract says that the values are words.
