@@ -8,7 +8,7 @@ use Rattle.std.proofs.lemmas.Option.{same_Some, none-some}
 use Rattle.tpl_ast.specs.declared.template.Region.{Region}
 use Rattle.tpl_ast.specs.declared.template.Template.{Template}
 use Rattle.tpl_ast.specs.Parsing.{Said, said_by}
-use Rattle.tpl_ast.specs.Laws.{TemplatesAreSound}
+use Rattle.tpl_ast.specs.Laws.{TemplatesKeepLimits}
 use Rattle.tpl_admit.specs.declared.certificate.Cert.{Cert}
 use Rattle.tpl_admit.specs.WellFormed.{IsWellFormed}
 use Rattle.byte_format.specs.declared.error.PieceError.{PieceError}
@@ -156,7 +156,7 @@ pub is_found : (bytes : List ℕ) (r : Result Cert ReadError) → IsRead bytes r
 is_found bytes (Ok c) f = of_file bytes c f
 is_found bytes (Err e) f = tt
 
-pub is_only : TemplatesAreSound → (bytes : List ℕ) (r : Result Cert ReadError) → IsBytes bytes → IsRead bytes r → (c : Cert) → IsWellFormed c → bytes ≡ file_bytes c
+pub is_only : TemplatesKeepLimits → (bytes : List ℕ) (r : Result Cert ReadError) → IsBytes bytes → IsRead bytes r → (c : Cert) → IsWellFormed c → bytes ≡ file_bytes c
     → MatchResult r (λ d. told d ≡ told c) (λ x. x ≡ errors.OutOfMemory)
 is_only sound bytes r fits is c w e = on r is
   where
@@ -173,7 +173,7 @@ is_wrong bytes r k is e = subst (IsRead bytes) e is
 
 -- ---- laws
 
-pub same_told : TemplatesAreSound → (a b : Cert) → IsWellFormed a → IsWellFormed b → file_bytes a ≡ file_bytes b → told a ≡ told b
+pub same_told : TemplatesKeepLimits → (a b : Cert) → IsWellFormed a → IsWellFormed b → file_bytes a ≡ file_bytes b → told a ≡ told b
 same_told sound a b w v e = file_unique (file_bytes a) a b (is_file sound a w) (subst (λ (bytes : List ℕ). IsFile bytes b) (sym e) (is_file sound b v))
 
 pub all_bytes : (bytes : List ℕ) → AllByRecursion (λ b. b < 256) bytes → IsBytes bytes

@@ -4,7 +4,7 @@ use Rattle.std.specs.List.{AllByRecursion}
 use Rattle.rv_hart.specs.declared.record.Record.{Record}
 use Rattle.tpl_ast.specs.declared.template.Template.{Template}
 use Rattle.tpl_ast.specs.Parsing.{Parses}
-use Rattle.tpl_ast.specs.Laws.{TemplatesAreSound}
+use Rattle.tpl_ast.specs.Laws.{TemplatesKeepLimits}
 use Rattle.tpl_admit.specs.declared.certificate.Cert.{Cert}
 use Rattle.tpl_ast.specs.declared.template.HartState.{HartState}
 use Rattle.tpl_admit.specs.Sizes.{runs_behind, run_count, file_size}
@@ -61,7 +61,7 @@ is_head_of c w =
     let size = length-file c in
     record { text = split_file c; size = subst (λ (n : ℕ). n ≤ 8388608) (sym size) w.size; entry = entry_fits c w.some_harts w.start; some = omega arith; most = omega (arith, w.words_count) }
 
-is_table_of : TemplatesAreSound → (c : Cert) (rest : List ℕ) → IsWellFormed c → IsTable (1 + length (runs_in c)) (program_headers (length (notes_spelling (notes_in c))) (runs_in c) ++ rest) (record { notes = length (notes_spelling (notes_in c)); runs = runs_in c }) rest
+is_table_of : TemplatesKeepLimits → (c : Cert) (rest : List ℕ) → IsWellFormed c → IsTable (1 + length (runs_in c)) (program_headers (length (notes_spelling (notes_in c))) (runs_in c) ++ rest) (record { notes = length (notes_spelling (notes_in c)); runs = runs_in c }) rest
 is_table_of sound c rest w =
     let count = runs_few c in
     let words = run_words c in
@@ -99,7 +99,7 @@ are_notes_of c rest w =
     }
 
 -- the file of a well-formed certificate tells it
-pub is_file : TemplatesAreSound → (c : Cert) → IsWellFormed c → IsFile (file_bytes c) c
+pub is_file : TemplatesKeepLimits → (c : Cert) → IsWellFormed c → IsFile (file_bytes c) c
 is_file sound c w =
     let bytes : List ℕ = file_bytes c in
     let one : UpToHead bytes = record { head = record { entry = entry_of c.start; phnum = 1 + length (runs_in c) }; rest = program_headers (length (notes_spelling (notes_in c))) (runs_in c) ++ (notes_spelling (notes_in c) ++ load_spelling c.words); is = is_head_of c w } in

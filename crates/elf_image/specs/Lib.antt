@@ -1,5 +1,6 @@
 pub mod Runs
 pub mod Headers
+pub mod Numbers
 pub mod Spelling
 pub mod Notes
 pub mod File

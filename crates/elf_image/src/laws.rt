@@ -8,10 +8,16 @@ ghost use Rattle.elf_image.specs.declared.elf.TheConstants.{EHDR_SIZE, PHDR_SIZE
 ghost use Rattle.elf_image.specs.declared.writing.headers.Segment.{Segment};
 ghost use Rattle.elf_image.specs.Headers.{elf_header, program_header};
 ghost use Rattle.elf_image.specs.File.{file_bytes};
+ghost use Rattle.elf_image.specs.Numbers.{NamesHaveTheirNumbers};
 ghost use Rattle.elf_image.specs.Parts.{IsFirstWrong};
 ghost use Rattle.elf_image.specs.Told.{told};
 
 use tpl_ast::template_law;
+
+/// The names of the ELF specification, and those of the notes, have their numbers.
+pub fn elf_numbers()
+    ensures { NamesHaveTheirNumbers }
+{}
 
 /// The ELF header and each program header have as many bytes as the header says, e_ehsize and e_phentsize.
 pub fn header_sizes()

@@ -14,6 +14,6 @@ mod tests;
 mod writing;
 
 pub use error::{OutOfMemory, ReadError};
-pub use laws::{file_lengths, header_sizes, one_first_wrong, one_spelling};
+pub use laws::{elf_numbers, file_lengths, header_sizes, one_first_wrong, one_spelling};
 pub use reading::read;
 pub use writing::write;

@@ -1,12 +1,14 @@
-ghost use Rattle.std.specs.Prelude.{◌≡◌};
+ghost use Rattle.tpl_admit.specs.WellFormed.{IsWellFormed};
 
 mod harts;
 
 use crate::{ReadError, read, write};
-use rv_hart::{Outcome, Priv};
-use rv_script::Role;
+use rv_hart::{Outcome, Priv, Record};
+use rv_script::{Access, Role};
 use std::alloc::{AllocError, Global};
 use std::test::Fail;
+use tpl_admit::{Cert, HartState};
+use tpl_ast::Items;
 
 // The file of a test of one instruction, `addi x5,x0,7` at 0x80000000: what stands before the template's text.
 const BEFORE: [&str; 11] = [
@@ -128,6 +130,63 @@ fn wrong_part(alloc: Global, bytes: &[u8]) -> u8 {
     }
 }
 
+/// Where hart 0 starts.
+fn is_start(state: &HartState) -> bool {
+    state.pc == 0x8000_0000 && state.privilege == Priv::M && state.places.is_empty()
+}
+
+/// Where it ends, with 7 in x5.
+fn is_end(state: &HartState) -> bool {
+    state.pc == 0x8000_0004 && state.places.as_slice() == [(5, 7)].as_slice()
+}
+
+fn is_fetch(access: &Access) -> bool {
+    access.role == Role::Fetch && access.size == 4
+}
+
+/// The record of `addi x5, x0, 7`.
+fn is_seven(record: &Record) -> bool {
+    record.word == 0x0070_0293
+        && record.outcome == Outcome::Retired
+        && record.rd == Some((5, 7))
+        && record.next_pc == 0x8000_0004
+        && record.accesses.as_slice().len() == 1
+        && record
+            .accesses
+            .as_slice()
+            .iter()
+            .all(|access| is_fetch(access))
+}
+
+fn are_seven(trace: &Items<Record>) -> bool {
+    trace.len() == 1 && trace.as_slice().iter().all(|record| is_seven(record))
+}
+
+/// Whether the certificate's words are those of the one step.
+fn has_words(cert: &Cert) -> bool {
+    cert.template.text.as_slice() == TEXT.as_bytes()
+        && cert.words.as_slice() == [(0x8000_0000, 0x0070_0293)].as_slice()
+        && cert.last.as_slice() == [0x0070_0293].as_slice()
+}
+
+/// Whether its hart does the one step.
+fn has_steps(cert: &Cert) -> bool {
+    cert.start.len() == 1
+        && cert.start.as_slice().iter().all(|state| is_start(state))
+        && cert.finals.len() == 1
+        && cert.finals.as_slice().iter().all(|state| is_end(state))
+        && cert.traces.len() == 1
+        && cert.traces.as_slice().iter().all(|trace| are_seven(trace))
+}
+
+/// Whether a certificate's file has these bytes.
+fn is_written(alloc: Global, cert: &Cert, file: &[u8]) -> Result<bool, Fail>
+    requires { IsWellFormed cert.now }
+{
+    let written = write(alloc, cert)?;
+    Ok(written.as_slice() == file)
+}
+
 #[test]
 fn a_file_is_read_and_written_back(rt: HostRuntime) -> Result<(), Fail> {
     let alloc = rt.alloc();
@@ -136,38 +195,9 @@ fn a_file_is_read_and_written_back(rt: HostRuntime) -> Result<(), Fail> {
     match read(alloc, &file) {
         Err(_) => assert!(rt; false),
         Ok(cert) => {
-            let written = write(alloc, &cert)?;
-            assert_eq!(rt; written.as_slice(), file.as_slice());
-            assert_eq!(rt; cert.template.text.as_slice(), TEXT.as_bytes());
-            assert_eq!(rt;
-                cert.words.as_slice(),
-                [(0x8000_0000, 0x0070_0293)].as_slice()
-            );
-            assert_eq!(rt; cert.last.as_slice(), [0x0070_0293].as_slice());
-            assert_eq!(rt; cert.finals.len(), 1);
-            for end in cert.finals.as_slice() {
-                assert_eq!(rt; end.pc, 0x8000_0004);
-                assert_eq!(rt; end.places.as_slice(), [(5, 7)].as_slice());
-            }
-            for start in cert.start.as_slice() {
-                assert_eq!(rt; start.pc, 0x8000_0000);
-                assert_eq!(rt; start.privilege, Priv::M);
-                assert_eq!(rt; start.places.len(), 0);
-            }
-            for trace in cert.traces.as_slice() {
-                assert_eq!(rt; trace.len(), 1);
-                for record in trace.as_slice() {
-                    assert_eq!(rt; record.word, 0x0070_0293);
-                    assert_eq!(rt; record.outcome, Outcome::Retired);
-                    assert_eq!(rt; record.rd, Some((5, 7)));
-                    assert_eq!(rt; record.next_pc, 0x8000_0004);
-                    assert_eq!(rt; record.accesses.as_slice().len(), 1);
-                    for access in record.accesses.as_slice() {
-                        assert_eq!(rt; access.role, Role::Fetch);
-                        assert_eq!(rt; access.size, 4);
-                    }
-                }
-            }
+            assert!(rt; is_written(alloc, &cert, &file)?);
+            assert!(rt; has_words(&cert));
+            assert!(rt; has_steps(&cert));
         }
     }
     Ok(())
@@ -205,58 +235,60 @@ fn nothing_may_stand_behind_a_file(rt: HostRuntime) -> Result<(), Fail> {
     Ok(())
 }
 
+/// Where a byte is changed, what it becomes, and the part that is wrong then.
+const CHANGES: [(usize, u8, u8); 37] = [
+    // e_ident, e_machine, e_phnum 0 and 65,026.
+    (0, 0x7e, 1),
+    (4, 2, 1),
+    (18, 0xf2, 1),
+    (44, 0, 1),
+    (45, 0xfe, 1),
+    // More program headers than stand there, the offset of the notes, their flags.
+    (44, 4, 2),
+    (56, 0x75, 2),
+    (76, 7, 2),
+    // The load's offset, its two addresses apart, its flags and its alignment.
+    (88, 0xe5, 2),
+    (92, 4, 2),
+    (108, 5, 2),
+    (112, 8, 2),
+    // namesz, the name, the version, the number of harts, the pc, the privilege, mstatus.
+    (116, 4, 3),
+    (128, 0x55, 3),
+    (136, 2, 3),
+    (140, 2, 3),
+    (144, 2, 3),
+    (148, 2, 3),
+    (153, 0x10, 3),
+    // The key of x5, the number of final words, the count of choices.
+    (276, 0, 3),
+    (284, 2, 3),
+    (472, 1, 3),
+    // The number of records, the privilege, the outcome, rd, the number of accesses, the role, the size, a zero.
+    (188, 2, 4),
+    (204, 2, 4),
+    (205, 10, 4),
+    (207, 32, 4),
+    (216, 9, 4),
+    (228, 4, 4),
+    (229, 3, 4),
+    (230, 1, 4),
+    // The template's keyword, and a letter in place of a number.
+    (312, 0x52, 5),
+    (433, 0x78, 5),
+    // The entry.
+    (24, 4, 6),
+    // Another word, another pc of the step, another rd and another rs1 in the template: no part judges what is valid.
+    (484, 0x13, 0),
+    (192, 4, 0),
+    (421, 0x36, 0),
+    (433, 0x31, 0),
+];
+
 #[test]
 fn each_part_is_judged_in_its_turn(rt: HostRuntime) -> Result<(), Fail> {
     let alloc = rt.alloc();
-    // Where a byte is changed, what it becomes, and the part that is wrong then.
-    for (at, byte, part) in [
-        // e_ident, e_machine, e_phnum 0 and 65,026.
-        (0, 0x7e, 1),
-        (4, 2, 1),
-        (18, 0xf2, 1),
-        (44, 0, 1),
-        (45, 0xfe, 1),
-        // More program headers than stand there, the offset of the notes, their flags.
-        (44, 4, 2),
-        (56, 0x75, 2),
-        (76, 7, 2),
-        // The load's offset, its two addresses apart, its flags and its alignment.
-        (88, 0xe5, 2),
-        (92, 4, 2),
-        (108, 5, 2),
-        (112, 8, 2),
-        // namesz, the name, the version, the number of harts, the pc, the privilege, mstatus.
-        (116, 4, 3),
-        (128, 0x55, 3),
-        (136, 2, 3),
-        (140, 2, 3),
-        (144, 2, 3),
-        (148, 2, 3),
-        (153, 0x10, 3),
-        // The key of x5, the number of final words, the count of choices.
-        (276, 0, 3),
-        (284, 2, 3),
-        (472, 1, 3),
-        // The number of records, the privilege, the outcome, rd, the number of accesses, the role, the size, a zero.
-        (188, 2, 4),
-        (204, 2, 4),
-        (205, 10, 4),
-        (207, 32, 4),
-        (216, 9, 4),
-        (228, 4, 4),
-        (229, 3, 4),
-        (230, 1, 4),
-        // The template's keyword, and a letter in place of a number.
-        (312, 0x52, 5),
-        (433, 0x78, 5),
-        // The entry.
-        (24, 4, 6),
-        // Another word, another pc of the step, another rd and another rs1 in the template: no part judges what is valid.
-        (484, 0x13, 0),
-        (192, 4, 0),
-        (421, 0x36, 0),
-        (433, 0x31, 0),
-    ] {
+    for (at, byte, part) in CHANGES {
         let mut file = one_step(alloc)?;
         assert!(rt; at < file.len());
         file[at] = byte;
@@ -276,8 +308,7 @@ fn a_file_with_a_trap_is_read_and_written_back(rt: HostRuntime) -> Result<(), Fa
     match read(alloc, &file) {
         Err(_) => assert!(rt; false),
         Ok(cert) => {
-            let written = write(alloc, &cert)?;
-            assert_eq!(rt; written.as_slice(), file.as_slice());
+            assert!(rt; is_written(alloc, &cert, &file)?);
             assert_eq!(rt; cert.words.len(), 3);
             for end in cert.finals.as_slice() {
                 assert_eq!(rt; end.places.len(), 5);

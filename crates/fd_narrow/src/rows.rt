@@ -120,6 +120,7 @@ impl Domains {
     pub(crate) fn narrow_rows(&mut self, alloc: Global, rows: &[Quad]) -> Result<(), OutOfMemory>
         ensures { OnOk result (Leaves (λ x. IsTrue (list_any (is_in_row x) rows.now)) self.old self.new) }
     {
+        // Each part is cut anew: what an earlier one lost may rule out rows for a later one.
         for part in PARTS {
             self.narrow_part_of_rows(alloc, part, rows)?;
         }

@@ -14,38 +14,7 @@ use Rattle.fd_prob.specs.Slots.{slot_number}
 use Rattle.fd_prob.specs.Fitting.{domain_of, fits_case, is_within}
 use Rattle.fd_prob.specs.Relations.{holds, op_numbered, value_of}
 use Rattle.fd_prob.specs.Laws.{FittingIsOfACase, IsOfCase}
-
-below : (s : Slot) → slot_number s < 14
-below slots.Op = omega arith
-below slots.Rs1 = omega arith
-below slots.Rs2 = omega arith
-below slots.Imm = omega arith
-below slots.Rd = omega arith
-below slots.Csr = omega arith
-below slots.Ea = omega arith
-below slots.A = omega arith
-below slots.B = omega arith
-below slots.FirstPte = omega arith
-below slots.SecondPte = omega arith
-below slots.DataWord = omega arith
-below slots.OldCsr = omega arith
-below slots.Vector = omega arith
-
-in_place : (s : Slot) → get_or SLOTS (slot_number s) s ≡ s
-in_place slots.Op = refl
-in_place slots.Rs1 = refl
-in_place slots.Rs2 = refl
-in_place slots.Imm = refl
-in_place slots.Rd = refl
-in_place slots.Csr = refl
-in_place slots.Ea = refl
-in_place slots.A = refl
-in_place slots.B = refl
-in_place slots.FirstPte = refl
-in_place slots.SecondPte = refl
-in_place slots.DataWord = refl
-in_place slots.OldCsr = refl
-in_place slots.Vector = refl
+use Rattle.fd_prob.proofs.Places.{place_below, placed}
 
 left : (a b : Bool) → (a && b) ≡ true → a ≡ true
 left true b h = refl
@@ -69,7 +38,7 @@ pub each_within : (c : Case) (x : Assignment) → is_within c x ≡ true → (s 
 unfolding is_within
 each_within c x h s =
     let P : Slot → Type 0 = λ t. is_in (domain_of c t) (value_of x t) ≡ true in
-    subst P (in_place s) (AllPass-from_list_all (λ t. is_in (domain_of c t) (value_of x t)) SLOTS h (slot_number s) s (below s))
+    subst P (placed s s) (AllPass-from_list_all (λ t. is_in (domain_of c t) (value_of x t)) SLOTS h (slot_number s) s (place_below s))
 
 pub all_within : (c : Case) (x : Assignment) → ((s : Slot) → is_in (domain_of c s) (value_of x s) ≡ true) → is_within c x ≡ true
 unfolding is_within

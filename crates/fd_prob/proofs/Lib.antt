@@ -5,5 +5,6 @@ pub mod Fitted
 pub mod Numbers
 pub mod Operations
 pub mod PageCounts
+pub mod Places
 pub mod Products
 pub mod Bools

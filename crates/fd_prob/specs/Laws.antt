@@ -1,5 +1,5 @@
 -- What the tests of assignments say.
-use Rattle.std.specs.Prelude.{◌≡◌, ℕ, ◌↔◌, All, Any, IsTrue}
+use Rattle.std.specs.Prelude.{◌≡◌, ℕ, ◌<◌, ◌↔◌, All, Any, IsTrue, slice_index_or}
 use Rattle.dom_set.specs.Elements.{is_in}
 use Rattle.rv_isa.specs.declared.operation.Op.{Op}
 use Rattle.rv_isa.specs.Arithmetic.{IsTaken}
@@ -8,8 +8,10 @@ use Rattle.fd_prob.specs.declared.problem.Case.{Case}
 use Rattle.fd_prob.specs.declared.problem.Problem.{Problem}
 use Rattle.fd_prob.specs.declared.slot.Slot.{Slot}
 use Rattle.fd_prob.specs.declared.slot.Slot.TheVariants as slots
+use Rattle.fd_prob.specs.declared.slot.TheConstants.{SLOTS}
 use Rattle.fd_prob.specs.Fitting.{domain_of, fits}
 use Rattle.fd_prob.specs.Relations.{goes_to_target, holds, op_numbered, value_of}
+use Rattle.fd_prob.specs.Slots.{slot_number}
 
 -- an assignment has a case's operation, each value is in its domain there, and each relation of the case holds
 pub record IsOfCase (x : Assignment) (c : Case) : Type 0 where
@@ -24,3 +26,9 @@ FittingIsOfACase = (p : Problem) (x : Assignment) → IsTrue (fits p x) ↔ Any 
 -- the condition of a branch is that of the table of instructions
 abbrev pub ConditionsAreTaken : Type 0
 ConditionsAreTaken = (op : Op) (a b : ℕ) → IsTrue (goes_to_target op a b) ↔ IsTaken op a b
+
+-- the list of the variables has each at its place
+pub record SlotsAreInOrder : Type 0 where
+  pub at : (n : ℕ) (d : Slot) → n < 14 → slot_number (slice_index_or SLOTS n d) ≡ n
+  pub below : (s : Slot) → slot_number s < 14
+  pub back : (s d : Slot) → slice_index_or SLOTS (slot_number s) d ≡ s

@@ -13,7 +13,7 @@ use Rattle.fd_prob.specs.declared.relation.Rel.{Rel}
 use Rattle.rv_isa.specs.declared.operation.Op.{Op}
 use Rattle.std.proofs.lemmas.Bool.Decides.{nat_tests}
 use Rattle.fd_solve.specs.Search.{IsCut}
-use Rattle.fd_solve.proofs.Places.{place_below}
+use Rattle.fd_prob.proofs.Places.{place_below}
 
 pub equal_or_not : (i n : ℕ) → (i ≡ n) ⊎ (i ≢ n)
 equal_or_not i n = elim (cases_lt i n) [

@@ -18,7 +18,7 @@ use Rattle.fd_solve.specs.Free.{IsFirstPassing, IsFree, IsSettled, mentions, own
 use Rattle.fd_solve.specs.Search.{FixedBelow, IsCut, IsMet, LeastOrNone}
 use Rattle.fd_solve.proofs.Cuts.{equal_or_not}
 use Rattle.fd_solve.proofs.Mentions.{Agree, holds_same}
-use Rattle.fd_solve.proofs.Places.{place_below, same_slot}
+use Rattle.fd_prob.proofs.Places.{place_below, same_slot}
 use Rattle.fd_solve.proofs.Searching.{found, members_same}
 
 -- the value that was put, and the others

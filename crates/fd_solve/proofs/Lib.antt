@@ -1,4 +1,3 @@
-pub mod Places
 pub mod Ranks
 pub mod Orders
 pub mod Searching

@@ -9,7 +9,7 @@ use Rattle.fd_prob.specs.declared.slot.TheConstants.{SLOTS}
 use Rattle.fd_prob.specs.Order.{rank}
 use Rattle.fd_prob.specs.Relations.{value_of}
 use Rattle.fd_prob.specs.Slots.{slot_number}
-use Rattle.fd_solve.proofs.Places.{in_place}
+use Rattle.fd_prob.proofs.Places.{in_place}
 use Rattle.fd_solve.proofs.Ranks.{rank_injective}
 use Rattle.fd_solve.specs.Search.{AreSame, Before, IsLeastOf, IsLesser, LeastOrNone}
 

@@ -17,7 +17,7 @@ use Rattle.fd_prob.specs.Order.{IsAssignment, rank}
 use Rattle.fd_prob.specs.Relations.{holds, op_numbered, value_of}
 use Rattle.fd_prob.specs.Slots.{slot_number}
 use Rattle.fd_solve.specs.Search.{FixedBelow, IsCut, IsLeastOf, IsMet, IsNext}
-use Rattle.fd_solve.proofs.Places.{in_place, place_below}
+use Rattle.fd_prob.proofs.Places.{in_place, place_below}
 use Rattle.fd_solve.proofs.Ranks.{is_first_or_later, rank_injective}
 
 pub value_word : (x : Assignment) (s : Slot) → IsAssignment x → value_of x s < 2 ^ 32

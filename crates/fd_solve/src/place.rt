@@ -5,7 +5,7 @@ ghost use Rattle.fd_prob.specs.Slots.{slot_number};
 use fd_prob::{SLOTS, Slot};
 
 /// The variable at a place in the order.
-#[tactic(auto, using(crate::proofs::Places::in_place))]
+#[tactic(auto, using(fd_prob::proofs::Places::in_place))]
 pub fn slot_at(place: usize) -> Slot
     requires { place < 14 }
     ensures { slot_number result ≡ place }

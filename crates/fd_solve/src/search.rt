@@ -54,7 +54,7 @@ fn words(values: &[u32])
     let _ = values;
 }
 
-/// Values that are in the domains, each the least one there.
+/// Values that are in the domains, unless one of these is empty.
 fn lowest(doms: &Domains) -> Option<Assignment>
     ensures { MatchOption result ((y : Assignment) → IsInside doms.now y → ⊥) (λ x. IsAssignment x × IsInside doms.now x) }
 {

@@ -10,7 +10,7 @@ use Rattle.rv_hart.specs.Privileged.{rd_told}
 use Rattle.tpl_form.specs.declared.form.Leaf.{Leaf}
 use Rattle.tpl_ast.specs.declared.template.Template.{Template}
 use Rattle.tpl_form.specs.declared.form.Form.{Form}
-use Rattle.tpl_ast.specs.Laws.{TemplatesAreSound}
+use Rattle.tpl_ast.specs.Laws.{TemplatesKeepLimits}
 use Rattle.tpl_ast.specs.Parsing.{Parses, hart_lines, said_by}
 use Rattle.tpl_form.specs.Form.{IsFit, AreLeavesFit, IsAllowed, IsFormOf}
 use Rattle.tpl_admit.specs.Sizes.{runs_behind, run_count, record_bytes, file_size}
@@ -88,7 +88,7 @@ planned_small t f short is =
 
 -- ---- the whole
 
-pub planned_well_formed : TemplatesAreSound → (t : Template) (f : Form) → Parses t.text t → IsFormOf (said_by t) f → IsWellFormed (planned t f)
+pub planned_well_formed : TemplatesKeepLimits → (t : Template) (f : Form) → Parses t.text t → IsFormOf (said_by t) f → IsWellFormed (planned t f)
 planned_well_formed sound t f parses form =
     let is : IsAllowed f = form.allowed in
     let valid = planned_valid t f form in

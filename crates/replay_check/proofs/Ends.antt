@@ -21,7 +21,7 @@ use Rattle.rv_hart.specs.Whole.{WholeHart}
 use Rattle.tpl_ast.specs.declared.template.Region.{Region}
 use Rattle.tpl_admit.specs.declared.certificate.Cert.{Cert}
 use Rattle.tpl_ast.specs.declared.template.HartState.{HartState}
-use Rattle.tpl_ast.specs.Laws.{IsFramed, TemplatesAreSound}
+use Rattle.tpl_ast.specs.Laws.{IsFramed, TemplatesKeepLimits}
 use Rattle.tpl_admit.specs.Starts.{found, is_in, ArePlaces, no_state, start_of, final_of, trace_of, word_of, fixed_in, first_hart, first_memory, is_given, zero_elsewhere}
 use Rattle.tpl_admit.specs.Races.{footprint_of, footprints_of}
 use Rattle.tpl_admit.specs.Solo.{Solo, solo, solo_run, knows_after}
@@ -50,7 +50,7 @@ frames_aligned (r ∷ rs) are =
     let high : r.high % 4096 ≡ 0 = are.0.high in
     ((omega (arith, low), omega (arith, high)), frames_aligned rs are.1)
 
-pub start_is : TemplatesAreSound → (c : Cert) → IsWellFormed c → IsStart c.template.ram c.words
+pub start_is : TemplatesKeepLimits → (c : Cert) → IsWellFormed c → IsStart c.template.ram c.words
 start_is sound c w = record { ram_is = frames_aligned c.template.ram (sound c.template.text c.template w.template).ram; words_are = w.words }
 
 -- ---- a hart's start and its end

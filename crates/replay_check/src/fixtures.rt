@@ -1,8 +1,9 @@
-// Templates for tests.
+// Templates and verdicts for tests.
 ghost use Rattle.std.specs.Prelude.{◌≡◌, ◌≤◌, IfOk, length};
 ghost use Rattle.tpl_ast.specs.Parsing.{Parses};
 ghost use Rattle.tpl_admit.specs.Starts.{is_in};
 
+use crate::Verdict;
 use std::alloc::Global;
 use std::process::Abort;
 use std::test::Fail;
@@ -26,4 +27,12 @@ pub fn template_of(rt: &impl Abort, alloc: Global, text: &str) -> Result<Templat
     let template = parse(alloc, text.as_bytes())?;
     assert!(rt; template.harts.len() == 1);
     Ok(template)
+}
+
+/// The verdict with the kind, hart and step of a failure, or without one.
+pub fn verdict_of(failure: Option<(u8, u8, u32)>) -> Verdict {
+    match failure {
+        Some((kind, hart, step)) => Verdict::No { kind, hart, step },
+        None => Verdict::Yes,
+    }
 }

@@ -5,11 +5,12 @@ ghost use Rattle.tpl_ast.specs.Parsing.{Parses};
 ghost use Rattle.tpl_admit.specs.Starts.{is_in};
 ghost use Rattle.tpl_admit.specs.WellFormed.{IsState, IsAccess, IsRecord, IsWellFormed};
 
-use crate::fixtures::{is_ram, template_of};
-use crate::{Verdict, check};
+use crate::check;
+use crate::fixtures::{is_ram, template_of, verdict_of};
 use rv_hart::{Outcome, Priv, Record};
 use rv_script::{Access, Accesses, Role};
 use std::alloc::{AllocError, Global};
+use std::process::Abort;
 use std::test::Fail;
 use tpl_admit::{Cert, HartState};
 use tpl_ast::{Items, Template};
@@ -56,7 +57,8 @@ struct Row {
     last_word: u32,
     last_next: u32,
     last_data: u32,
-    want: Verdict,
+    /// The kind, hart and step of the failure, if there is one.
+    want: Option<(u8, u8, u32)>,
 }
 
 /// The certificate of one store of 0x12345678 to the data word.
@@ -73,16 +75,8 @@ const RIGHT: Row = Row {
     last_word: STORE_WORD,
     last_next: 0,
     last_data: 0x1234_5678,
-    want: Verdict::No {
-        kind: 6,
-        hart: 0,
-        step: 0,
-    },
+    want: Some((6, 0, 0)),
 };
-
-const fn no(kind: u8, hart: u8, step: u32) -> Verdict {
-    Verdict::No { kind, hart, step }
-}
 
 /// A hart in M whose CSRs are 0.
 fn state(alloc: Global, pc: u32, pointer: u32, value: u32) -> Result<HartState, AllocError>
@@ -247,96 +241,104 @@ do op in {addi}; rd in {5}; rs1 in {0}; imm in {7}
 }
 ";
 
+const ROWS: [Row; 9] = [
+    RIGHT,
+    Row {
+        name: "a store of a byte",
+        word: STORE_BYTE,
+        pointer: DATA + 5,
+        value: 0xBBAA,
+        target: DATA + 1,
+        stored: Stored::Byte(0xAA),
+        last_word: STORE_BYTE,
+        last_next: 0,
+        last_data: 0x4433_AA11,
+        ..RIGHT
+    },
+    Row {
+        name: "the word before the store as the final one",
+        last_word: STORE_WORD,
+        last_next: 0,
+        last_data: 0x4433_2211,
+        want: Some((4, 1, 0)),
+        ..RIGHT
+    },
+    Row {
+        name: "another word that the store doesn't touch",
+        last_word: STORE_WORD,
+        last_next: 1,
+        last_data: 0x1234_5678,
+        want: Some((4, 1, 0)),
+        ..RIGHT
+    },
+    Row {
+        name: "another value in the record",
+        stored: Stored::Word(0x1234_5679),
+        want: Some((1, 0, 0)),
+        ..RIGHT
+    },
+    Row {
+        name: "a store to a word that is not given",
+        pointer: DATA + 8,
+        target: DATA + 4,
+        last_word: STORE_WORD,
+        last_next: 0,
+        last_data: 0x4433_2211,
+        want: Some((2, 0, 0)),
+        ..RIGHT
+    },
+    Row {
+        name: "a store beyond RAM, whose trap needs mtvec",
+        pointer: 4,
+        target: 0,
+        last_word: STORE_WORD,
+        last_next: 0,
+        last_data: 0x4433_2211,
+        want: Some((2, 0, 0)),
+        ..RIGHT
+    },
+    Row {
+        name: "a store to the next instruction",
+        pointer: BASE + 8,
+        value: SEVEN,
+        target: BASE + 4,
+        stored: Stored::Word(SEVEN),
+        has_second: true,
+        last_word: STORE_WORD,
+        last_next: SEVEN,
+        last_data: 0x4433_2211,
+        want: Some((5, 0, 1)),
+        ..RIGHT
+    },
+    Row {
+        name: "a store to its own instruction",
+        pointer: BASE + 4,
+        target: BASE,
+        last_word: 0x1234_5678,
+        last_next: 0,
+        last_data: 0x4433_2211,
+        want: Some((5, 0, 0)),
+        ..RIGHT
+    },
+];
+
+/// The verdict on a row's certificate is the one that the row wants.
+fn assert_told(rt: &impl Abort, alloc: Global, row: &Row) -> Result<(), Fail> {
+    let name = row.name;
+    let template = template_of(rt, alloc, TEXT)?;
+    assert!(rt; is_ram(template.ram.as_slice(), BASE), "{name}");
+    assert!(rt; is_ram(template.ram.as_slice(), BASE + 4), "{name}");
+    assert!(rt; is_ram(template.ram.as_slice(), DATA), "{name}");
+    let cert = made(alloc, template, row)?;
+    assert_eq!(rt; check(alloc, &cert)?, verdict_of(row.want), "{name}");
+    Ok(())
+}
+
 #[test]
 fn stores_are_replayed(rt: HostRuntime) -> Result<(), Fail> {
     let alloc = rt.alloc();
-    for row in [
-        RIGHT,
-        Row {
-            name: "a store of a byte",
-            word: STORE_BYTE,
-            pointer: DATA + 5,
-            value: 0xBBAA,
-            target: DATA + 1,
-            stored: Stored::Byte(0xAA),
-            last_word: STORE_BYTE,
-            last_next: 0,
-            last_data: 0x4433_AA11,
-            ..RIGHT
-        },
-        Row {
-            name: "the word before the store as the final one",
-            last_word: STORE_WORD,
-            last_next: 0,
-            last_data: 0x4433_2211,
-            want: no(4, 1, 0),
-            ..RIGHT
-        },
-        Row {
-            name: "another word that the store doesn't touch",
-            last_word: STORE_WORD,
-            last_next: 1,
-            last_data: 0x1234_5678,
-            want: no(4, 1, 0),
-            ..RIGHT
-        },
-        Row {
-            name: "another value in the record",
-            stored: Stored::Word(0x1234_5679),
-            want: no(1, 0, 0),
-            ..RIGHT
-        },
-        Row {
-            name: "a store to a word that is not given",
-            pointer: DATA + 8,
-            target: DATA + 4,
-            last_word: STORE_WORD,
-            last_next: 0,
-            last_data: 0x4433_2211,
-            want: no(2, 0, 0),
-            ..RIGHT
-        },
-        Row {
-            name: "a store beyond RAM, whose trap needs mtvec",
-            pointer: 4,
-            target: 0,
-            last_word: STORE_WORD,
-            last_next: 0,
-            last_data: 0x4433_2211,
-            want: no(2, 0, 0),
-            ..RIGHT
-        },
-        Row {
-            name: "a store to the next instruction",
-            pointer: BASE + 8,
-            value: SEVEN,
-            target: BASE + 4,
-            stored: Stored::Word(SEVEN),
-            has_second: true,
-            last_word: STORE_WORD,
-            last_next: SEVEN,
-            last_data: 0x4433_2211,
-            want: no(5, 0, 1),
-            ..RIGHT
-        },
-        Row {
-            name: "a store to its own instruction",
-            pointer: BASE + 4,
-            target: BASE,
-            last_word: 0x1234_5678,
-            last_next: 0,
-            last_data: 0x4433_2211,
-            want: no(5, 0, 0),
-            ..RIGHT
-        },
-    ] {
-        let name = row.name;
-        let template = template_of(&rt, alloc, TEXT)?;
-        assert!(rt; is_ram(template.ram.as_slice(), BASE), "{name}");
-        assert!(rt; is_ram(template.ram.as_slice(), BASE + 4), "{name}");
-        assert!(rt; is_ram(template.ram.as_slice(), DATA), "{name}");
-        let cert = made(alloc, template, &row)?;
-        assert_eq!(rt; check(alloc, &cert)?, row.want, "{name}");
+    for row in &ROWS {
+        assert_told(&rt, alloc, row)?;
     }
     Ok(())
 }

@@ -4,11 +4,12 @@ ghost use Rattle.tpl_ast.specs.Parsing.{Parses};
 ghost use Rattle.tpl_admit.specs.Starts.{is_in, ArePlaces};
 ghost use Rattle.tpl_admit.specs.WellFormed.{is_legal_place, IsState, IsRecord, IsWellFormed};
 
-use crate::fixtures::{is_ram, template_of};
-use crate::{Verdict, check};
+use crate::check;
+use crate::fixtures::{is_ram, template_of, verdict_of};
 use rv_hart::{Outcome, Priv, Record};
 use rv_script::{Access, Accesses, Role};
 use std::alloc::{AllocError, Global};
+use std::process::Abort;
 use std::test::Fail;
 use tpl_admit::{Cert, HartState, Unmet, admits};
 use tpl_ast::{Items, Template};
@@ -35,8 +36,10 @@ struct Row {
     last: u32,
     /// The value of x6 at the start and in the end, where it is given.
     given: Option<u32>,
-    want: Verdict,
-    unmet: Option<Unmet>,
+    /// The kind, hart and step of the failure, if there is one.
+    want: Option<(u8, u8, u32)>,
+    /// The step and the atom that the template's judgement tells.
+    unmet: Option<(u32, u32)>,
 }
 
 const ONE_LEAF: &str = "0x80000000 priv m
@@ -56,20 +59,20 @@ const RIGHT: Row = Row {
     end: 7,
     last: SEVEN,
     given: None,
-    want: Verdict::Yes,
+    want: None,
     unmet: None,
 };
 
-const fn no(kind: u8, hart: u8, step: u32) -> Verdict {
-    Verdict::No { kind, hart, step }
-}
-
-const fn unmet(step: u32, atom: u32) -> Option<Unmet> {
-    Some(Unmet {
-        hart: 0,
-        step,
-        atom,
-    })
+/// What fails at a step of hart 0 and its atom, or nothing.
+fn unmet_of(failure: Option<(u32, u32)>) -> Option<Unmet> {
+    match failure {
+        Some((step, atom)) => Some(Unmet {
+            hart: 0,
+            step,
+            atom,
+        }),
+        None => None,
+    }
 }
 
 /// The places of x5 and x6 that have a value.
@@ -163,157 +166,165 @@ fn made(alloc: Global, template: Template, row: &Row) -> Result<Cert, AllocError
     })
 }
 
-#[test]
-fn the_first_failure_is_told(rt: HostRuntime) -> Result<(), Fail> {
-    let alloc = rt.alloc();
-    for row in [
-        RIGHT,
-        Row {
-            name: "a given register that nothing needs",
-            given: Some(3),
-            ..RIGHT
-        },
-        Row {
-            name: "a wrong next pc",
-            next_pc: BASE + 8,
-            want: no(1, 0, 0),
-            ..RIGHT
-        },
-        Row {
-            name: "a wrong value in the record, and in the end",
-            written: 8,
-            end: 8,
-            want: no(1, 0, 0),
-            ..RIGHT
-        },
-        Row {
-            name: "a register that is not given",
-            word: 0x0073_0293,
-            last: 0x0073_0293,
-            want: no(2, 0, 0),
-            unmet: unmet(0, 2),
-            ..RIGHT
-        },
-        Row {
-            name: "a word that is no instruction",
-            word: 0x0000_0001,
-            last: 0x0000_0001,
-            want: no(3, 0, 0),
-            unmet: unmet(0, 0),
-            ..RIGHT
-        },
-        Row {
-            name: "an instruction that the machine does not have",
-            word: 0x1050_0073,
-            last: 0x1050_0073,
-            want: no(3, 0, 0),
-            unmet: unmet(0, 0),
-            ..RIGHT
-        },
-        Row {
-            name: "a wrong final register",
-            end: 8,
-            want: no(4, 0, 1),
-            ..RIGHT
-        },
-        Row {
-            name: "a wrong final word",
-            last: 0,
-            want: no(4, 1, 0),
-            ..RIGHT
-        },
-        Row {
-            name: "another immediate",
-            word: 0x0080_0293,
-            written: 8,
-            end: 8,
-            last: 0x0080_0293,
-            want: no(6, 0, 0),
-            unmet: unmet(0, 3),
-            ..RIGHT
-        },
-        Row {
-            name: "another source, which is given",
-            word: 0x0073_0293,
-            written: 10,
-            end: 10,
-            last: 0x0073_0293,
-            given: Some(3),
-            want: no(6, 0, 0),
-            unmet: unmet(0, 2),
-            ..RIGHT
-        },
-        Row {
-            name: "another target",
-            template: "0x80000000 priv m
+const ROWS: [Row; 16] = [
+    RIGHT,
+    Row {
+        name: "a given register that nothing needs",
+        given: Some(3),
+        ..RIGHT
+    },
+    Row {
+        name: "a wrong next pc",
+        next_pc: BASE + 8,
+        want: Some((1, 0, 0)),
+        ..RIGHT
+    },
+    Row {
+        name: "a wrong value in the record, and in the end",
+        written: 8,
+        end: 8,
+        want: Some((1, 0, 0)),
+        ..RIGHT
+    },
+    Row {
+        name: "a register that is not given",
+        word: 0x0073_0293,
+        last: 0x0073_0293,
+        want: Some((2, 0, 0)),
+        unmet: Some((0, 2)),
+        ..RIGHT
+    },
+    Row {
+        name: "a word that is no instruction",
+        word: 0x0000_0001,
+        last: 0x0000_0001,
+        want: Some((3, 0, 0)),
+        unmet: Some((0, 0)),
+        ..RIGHT
+    },
+    Row {
+        name: "an instruction that the machine does not have",
+        word: 0x1050_0073,
+        last: 0x1050_0073,
+        want: Some((3, 0, 0)),
+        unmet: Some((0, 0)),
+        ..RIGHT
+    },
+    Row {
+        name: "a wrong final register",
+        end: 8,
+        want: Some((4, 0, 1)),
+        ..RIGHT
+    },
+    Row {
+        name: "a wrong final word",
+        last: 0,
+        want: Some((4, 1, 0)),
+        ..RIGHT
+    },
+    Row {
+        name: "another immediate",
+        word: 0x0080_0293,
+        written: 8,
+        end: 8,
+        last: 0x0080_0293,
+        want: Some((6, 0, 0)),
+        unmet: Some((0, 3)),
+        ..RIGHT
+    },
+    Row {
+        name: "another source, which is given",
+        word: 0x0073_0293,
+        written: 10,
+        end: 10,
+        last: 0x0073_0293,
+        given: Some(3),
+        want: Some((6, 0, 0)),
+        unmet: Some((0, 2)),
+        ..RIGHT
+    },
+    Row {
+        name: "another target",
+        template: "0x80000000 priv m
 body {
 do op in {addi}; rd in {6}; rs1 in {0}; imm in {7}
 }
 }
 ",
-            want: no(6, 0, 0),
-            unmet: unmet(0, 1),
-            ..RIGHT
-        },
-        Row {
-            name: "a leaf without a record",
-            template: "0x80000000 priv m
+        want: Some((6, 0, 0)),
+        unmet: Some((0, 1)),
+        ..RIGHT
+    },
+    Row {
+        name: "a leaf without a record",
+        template: "0x80000000 priv m
 body {
 do op in {addi}; rd in {5}; rs1 in {0}; imm in {7}
 do op in {addi}; rd in {6}; rs1 in {0}; imm in {7}
 }
 }
 ",
-            want: no(6, 0, 1),
-            unmet: unmet(1, 65_535),
-            ..RIGHT
-        },
-        Row {
-            name: "a record without a leaf",
-            template: "0x80000000 priv m
+        want: Some((6, 0, 1)),
+        unmet: Some((1, 65_535)),
+        ..RIGHT
+    },
+    Row {
+        name: "a record without a leaf",
+        template: "0x80000000 priv m
 body {
 }
 }
 ",
-            want: no(6, 0, 0),
-            unmet: unmet(0, 65_535),
-            ..RIGHT
-        },
-        Row {
-            name: "another start",
-            template: "0x80000004 priv m
+        want: Some((6, 0, 0)),
+        unmet: Some((0, 65_535)),
+        ..RIGHT
+    },
+    Row {
+        name: "another start",
+        template: "0x80000004 priv m
 body {
 do op in {addi}; rd in {5}; rs1 in {0}; imm in {7}
 }
 }
 ",
-            want: no(6, 0, 0),
-            unmet: unmet(0, 65_535),
-            ..RIGHT
-        },
-        Row {
-            name: "another start and another immediate",
-            template: "0x80000004 priv m
+        want: Some((6, 0, 0)),
+        unmet: Some((0, 65_535)),
+        ..RIGHT
+    },
+    Row {
+        name: "another start and another immediate",
+        template: "0x80000004 priv m
 body {
 do op in {addi}; rd in {5}; rs1 in {0}; imm in {-7}
 }
 }
 ",
-            want: no(6, 0, 0),
-            unmet: unmet(0, 3),
-            ..RIGHT
-        },
-    ] {
-        let name = row.name;
-        let text = format!(in alloc;
-            "ram 0x80000000 0x80001000\npool 0x80000000\nhart 0 {{\nstart pc {}",
-            row.template
-        )?;
-        let template = template_of(&rt, alloc, text.as_str())?;
-        assert!(rt; is_ram(template.ram.as_slice(), BASE), "{name}");
-        let cert = made(alloc, template, &row)?;
-        assert_eq!(rt; check(alloc, &cert)?, row.want, "{name}");
-        assert_eq!(rt; admits(&cert), row.unmet, "{name}");
+        want: Some((6, 0, 0)),
+        unmet: Some((0, 3)),
+        ..RIGHT
+    },
+];
+
+/// What is told of a row's certificate is what the row wants.
+fn assert_told(rt: &impl Abort, alloc: Global, row: &Row) -> Result<(), Fail> {
+    let name = row.name;
+    let text = format!(in alloc;
+        "ram 0x80000000 0x80001000\npool 0x80000000\nhart 0 {{\nstart pc {}",
+        row.template
+    )?;
+    let template = template_of(rt, alloc, text.as_str())?;
+    assert!(rt; is_ram(template.ram.as_slice(), BASE), "{name}");
+    let cert = made(alloc, template, row)?;
+    assert_eq!(rt; check(alloc, &cert)?, verdict_of(row.want), "{name}");
+    assert_eq!(rt; admits(&cert), unmet_of(row.unmet), "{name}");
+    Ok(())
+}
+
+#[test]
+fn the_first_failure_is_told(rt: HostRuntime) -> Result<(), Fail> {
+    let alloc = rt.alloc();
+    for row in &ROWS {
+        assert_told(&rt, alloc, row)?;
     }
     Ok(())
 }

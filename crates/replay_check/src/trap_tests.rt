@@ -7,8 +7,8 @@ ghost use Rattle.tpl_ast.specs.Parsing.{Parses};
 ghost use Rattle.tpl_admit.specs.Starts.{is_in, ArePlaces};
 ghost use Rattle.tpl_admit.specs.WellFormed.{is_legal_place, IsState, IsRecord, IsWellFormed};
 
-use crate::fixtures::{is_ram, template_of};
-use crate::{Verdict, check};
+use crate::check;
+use crate::fixtures::{is_ram, template_of, verdict_of};
 use rv_csr::{Cause, legal};
 use rv_hart::{Outcome, Priv, Record};
 use rv_script::{Access, Accesses, Role};
@@ -69,19 +69,12 @@ struct Row {
     status: u32,
     epc: u32,
     end: Cause,
-    want: Verdict,
+    /// The kind, hart and step of the failure, if there is one.
+    want: Option<(u8, u8, u32)>,
 }
 
-const fn no(kind: u8, hart: u8, step: u32) -> Verdict {
-    Verdict::No { kind, hart, step }
-}
-
-/// The verdict on a trap that is as it should be: the template does not admit it.
-const NOT_ADMITTED: Verdict = Verdict::No {
-    kind: 6,
-    hart: 0,
-    step: 0,
-};
+/// The failure of a trap that is as it should be: the template does not admit it.
+const NOT_ADMITTED: Option<(u8, u8, u32)> = Some((6, 0, 0));
 
 /// An ECALL in M. MPP is M in the end.
 const RIGHT: Row = Row {
@@ -283,108 +276,110 @@ fn assert_told(rt: &impl Abort, alloc: Global, row: &Row) -> Result<(), Fail> {
     assert!(rt; legal(0x302, row.medeleg), "{name}");
     assert!(rt; is_ram(template.ram.as_slice(), BASE), "{name}");
     let cert = made(alloc, template, row)?;
-    assert_eq!(rt; check(alloc, &cert)?, row.want, "{name}");
+    assert_eq!(rt; check(alloc, &cert)?, verdict_of(row.want), "{name}");
     Ok(())
 }
+
+const ROWS: [Row; 16] = [
+    RIGHT,
+    Row {
+        name: "a store beyond RAM",
+        word: STORE_AT_ZERO,
+        cause: Cause::StoreAccess,
+        end: Cause::StoreAccess,
+        ..RIGHT
+    },
+    Row {
+        name: "another cause in the record",
+        cause: Cause::CallFromU,
+        want: Some((1, 0, 0)),
+        ..RIGHT
+    },
+    Row {
+        name: "a vector that is not given",
+        has_vector: false,
+        want: Some((2, 0, 0)),
+        ..RIGHT
+    },
+    Row {
+        name: "another mepc in the end",
+        epc: BASE + 4,
+        want: Some((4, 0, 1)),
+        ..RIGHT
+    },
+    Row {
+        name: "another mcause in the end",
+        end: Cause::CallFromU,
+        want: Some((4, 0, 1)),
+        ..RIGHT
+    },
+    DELEGATED,
+    Row {
+        name: "a delegated illegal instruction in S",
+        word: ZEROS,
+        from: Priv::S,
+        medeleg: 0x4,
+        cause: Cause::Illegal,
+        end: Cause::Illegal,
+        // SPP is S.
+        status: 0x100,
+        ..DELEGATED
+    },
+    Row {
+        name: "a delegated call whose record is of a trap to M",
+        to: Priv::M,
+        want: Some((1, 0, 0)),
+        ..DELEGATED
+    },
+    Row {
+        name: "a delegated call with the cause of one in S",
+        cause: Cause::CallFromS,
+        want: Some((1, 0, 0)),
+        ..DELEGATED
+    },
+    Row {
+        name: "a call of which another cause is delegated",
+        medeleg: 0x200,
+        want: Some((2, 0, 0)),
+        ..DELEGATED
+    },
+    Row {
+        name: "a delegated call whose vector is not given",
+        has_vector: false,
+        want: Some((2, 0, 0)),
+        ..DELEGATED
+    },
+    Row {
+        name: "a delegated call whose hart ends in U",
+        privilege: Priv::U,
+        want: Some((4, 0, 1)),
+        ..DELEGATED
+    },
+    Row {
+        name: "a delegated call with SPP set in the end",
+        status: 0x100,
+        want: Some((4, 0, 1)),
+        ..DELEGATED
+    },
+    Row {
+        name: "another sepc in the end",
+        epc: BASE + 4,
+        want: Some((4, 0, 1)),
+        ..DELEGATED
+    },
+    Row {
+        name: "another scause in the end",
+        end: Cause::CallFromS,
+        want: Some((4, 0, 1)),
+        ..DELEGATED
+    },
+];
 
 #[test]
 fn traps_are_replayed(rt: HostRuntime) -> Result<(), Fail> {
     let alloc = rt.alloc();
-    for row in [
-        RIGHT,
-        Row {
-            name: "a store beyond RAM",
-            word: STORE_AT_ZERO,
-            cause: Cause::StoreAccess,
-            end: Cause::StoreAccess,
-            ..RIGHT
-        },
-        Row {
-            name: "another cause in the record",
-            cause: Cause::CallFromU,
-            want: no(1, 0, 0),
-            ..RIGHT
-        },
-        Row {
-            name: "a vector that is not given",
-            has_vector: false,
-            want: no(2, 0, 0),
-            ..RIGHT
-        },
-        Row {
-            name: "another mepc in the end",
-            epc: BASE + 4,
-            want: no(4, 0, 1),
-            ..RIGHT
-        },
-        Row {
-            name: "another mcause in the end",
-            end: Cause::CallFromU,
-            want: no(4, 0, 1),
-            ..RIGHT
-        },
-        DELEGATED,
-        Row {
-            name: "a delegated illegal instruction in S",
-            word: ZEROS,
-            from: Priv::S,
-            medeleg: 0x4,
-            cause: Cause::Illegal,
-            end: Cause::Illegal,
-            // SPP is S.
-            status: 0x100,
-            ..DELEGATED
-        },
-        Row {
-            name: "a delegated call whose record is of a trap to M",
-            to: Priv::M,
-            want: no(1, 0, 0),
-            ..DELEGATED
-        },
-        Row {
-            name: "a delegated call with the cause of one in S",
-            cause: Cause::CallFromS,
-            want: no(1, 0, 0),
-            ..DELEGATED
-        },
-        Row {
-            name: "a call of which another cause is delegated",
-            medeleg: 0x200,
-            want: no(2, 0, 0),
-            ..DELEGATED
-        },
-        Row {
-            name: "a delegated call whose vector is not given",
-            has_vector: false,
-            want: no(2, 0, 0),
-            ..DELEGATED
-        },
-        Row {
-            name: "a delegated call whose hart ends in U",
-            privilege: Priv::U,
-            want: no(4, 0, 1),
-            ..DELEGATED
-        },
-        Row {
-            name: "a delegated call with SPP set in the end",
-            status: 0x100,
-            want: no(4, 0, 1),
-            ..DELEGATED
-        },
-        Row {
-            name: "another sepc in the end",
-            epc: BASE + 4,
-            want: no(4, 0, 1),
-            ..DELEGATED
-        },
-        Row {
-            name: "another scause in the end",
-            end: Cause::CallFromS,
-            want: no(4, 0, 1),
-            ..DELEGATED
-        },
-    ] {
-        assert_told(&rt, alloc, &row)?;
+    for row in &ROWS {
+        assert_told(&rt, alloc, row)?;
     }
     Ok(())
 }

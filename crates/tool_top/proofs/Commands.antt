@@ -8,7 +8,7 @@ use Rattle.std.proofs.Math.Seq.{drop-append_seam, take-append_seam}
 use Rattle.std.proofs.lemmas.Option.{same_Some}
 use Rattle.tpl_ast.specs.declared.fault.Fault.{Fault}
 use Rattle.tpl_ast.specs.declared.template.Template.{Template}
-use Rattle.tpl_ast.specs.Laws.{TemplatesAreSound}
+use Rattle.tpl_ast.specs.Laws.{TemplatesKeepLimits}
 use Rattle.tpl_ast.specs.Parsing.{Parses, Said, parses, said_by}
 use Rattle.tpl_form.specs.Form.{IsFormOf}
 use Rattle.tpl_admit.specs.Laws.{SaidDecides, with_template}
@@ -94,16 +94,16 @@ file_small c is = omega (arith, length-file c, is.size)
 file_short : (bytes : List ℕ) (c : Cert) → IsFileOf bytes c → length bytes < 8388609
 file_short bytes c is = omega (arith, ap length is.is_file, length-file c, is.well_formed.size)
 
-template_short : TemplatesAreSound → (bytes : List ℕ) (t : Template) → Parses bytes t → length bytes < 65537
+template_short : TemplatesKeepLimits → (bytes : List ℕ) (t : Template) → Parses bytes t → length bytes < 65537
 template_short sound bytes t says = omega (arith, (sound bytes t says).text)
 
-texts_short : TemplatesAreSound → (command : Command) (bytes out beside : List ℕ) → AreTexts command bytes out beside → length bytes < limit_of command
+texts_short : TemplatesKeepLimits → (command : Command) (bytes out beside : List ℕ) → AreTexts command bytes out beside → length bytes < limit_of command
 texts_short sound (Gen seed) bytes out beside made = template_short sound bytes made.certificate.template made.is_made.parses
 texts_short sound (Listing seed) bytes out beside made = template_short sound bytes made.certificate.template made.is_made.parses
 texts_short sound Replay bytes out beside made = file_short bytes made.certificate made.is_made.file
 
 -- the texts of what was read are those of what the source had left
-pub texts_are : TemplatesAreSound → (old new : Option (List ℕ)) (bytes text : List ℕ) (command : Command) (out beside : List ℕ) → Reads old new bytes (limit_of command) → old ≡ Some text
+pub texts_are : TemplatesKeepLimits → (old new : Option (List ℕ)) (bytes text : List ℕ) (command : Command) (out beside : List ℕ) → Reads old new bytes (limit_of command) → old ≡ Some text
     → AreTexts command bytes out beside → AreTexts command text out beside
 texts_are sound old new bytes text command out beside reads is made =
     subst (λ (t : List ℕ). AreTexts command t out beside) (all_read old new bytes text (limit_of command) reads is (texts_short sound command bytes out beside made)) made
@@ -167,7 +167,7 @@ made_is_fit one decides Replay bytes out beside why made (inl none) = none.1 mad
 made_is_fit one decides Replay bytes out beside why made (inr wrong) = wrong.1.2 (same_valid one decides bytes made.certificate wrong.1.0 made.is_made.file wrong.1.1 made.is_made.valid)
 
 -- where what was read is no template, what the source had left is none
-pub no_template_left : TemplatesAreSound → (old new : Option (List ℕ)) (bytes text : List ℕ) (command : Command) → Reads old new bytes (limit_of command) → takes_template command ≡ true → IsNoTemplate bytes → old ≡ Some text → IsNoTemplate text
+pub no_template_left : TemplatesKeepLimits → (old new : Option (List ℕ)) (bytes text : List ℕ) (command : Command) → Reads old new bytes (limit_of command) → takes_template command ≡ true → IsNoTemplate bytes → old ≡ Some text → IsNoTemplate text
 no_template_left sound old new bytes text (Gen seed) reads takes none is = λ t says. none t (subst (λ (l : List ℕ). Parses l t) (sym (all_left old new bytes text 65537 reads is (template_short sound text t says))) says)
 no_template_left sound old new bytes text (Listing seed) reads takes none is = λ t says. none t (subst (λ (l : List ℕ). Parses l t) (sym (all_left old new bytes text 65537 reads is (template_short sound text t says))) says)
 no_template_left sound old new bytes text Replay reads takes none is = absurd (cc takes)
@@ -178,7 +178,7 @@ line_left old new bytes text line (Gen seed) reads takes why is = subst (λ (l :
 line_left old new bytes text line (Listing seed) reads takes why is = subst (λ (l : List ℕ). IsTemplateLine l line) (front_left old new bytes text 65537 reads is) why
 line_left old new bytes text line Replay reads takes why is = absurd (cc takes)
 
-pub lacking_left : TemplatesAreSound → (old new : Option (List ℕ)) (bytes text line : List ℕ) (command : Command) → Reads old new bytes (limit_of command) → takes_template command ≡ true → IsNoTemplate bytes → IsTemplateLine bytes line → old ≡ Some text
+pub lacking_left : TemplatesKeepLimits → (old new : Option (List ℕ)) (bytes text line : List ℕ) (command : Command) → Reads old new bytes (limit_of command) → takes_template command ≡ true → IsNoTemplate bytes → IsTemplateLine bytes line → old ≡ Some text
     → LacksTemplate text line
 lacking_left sound old new bytes text line command reads takes none why is =
     (no_template_left sound old new bytes text command reads takes none is, line_left old new bytes text line command reads takes why is)

@@ -5,16 +5,16 @@ use std::test::Fail;
 
 /// A file by its parts, in hexadecimal digits: a number of four bytes has eight digits, a byte two.
 #[derive(Clone, Copy)]
-struct Parts {
+pub struct Parts {
     /// The pc at which hart 0 starts.
-    entry: u32,
-    start: &'static str,
-    records: &'static str,
-    end: &'static str,
-    template: &'static str,
-    rest: &'static str,
+    pub entry: u32,
+    pub start: &'static str,
+    pub records: &'static str,
+    pub end: &'static str,
+    pub template: &'static str,
+    pub rest: &'static str,
     /// The first address of each run, and its words.
-    runs: &'static [(u32, &'static str)],
+    pub runs: &'static [(u32, &'static str)],
 }
 
 const fn digit_of(byte: u8) -> Option<u8> {
@@ -92,18 +92,19 @@ fn put_header(
 }
 
 impl Parts {
-    fn notes(&self, alloc: Global) -> Result<Vec<u8>, AllocError> {
+    fn notes(&self, alloc: Global, template: &str) -> Result<Vec<u8>, AllocError> {
         let mut notes = Vec::new(alloc);
         put_note(&mut notes, 1, &numbers(alloc, self.start)?)?;
         put_note(&mut notes, 2, &numbers(alloc, self.records)?)?;
         put_note(&mut notes, 3, &numbers(alloc, self.end)?)?;
-        put_note(&mut notes, 4, self.template.as_bytes())?;
+        put_note(&mut notes, 4, template.as_bytes())?;
         put_note(&mut notes, 5, &numbers(alloc, self.rest)?)?;
         Ok(notes)
     }
 
-    fn file(&self, alloc: Global) -> Result<Vec<u8>, AllocError> {
-        let notes = self.notes(alloc)?;
+    /// The file with this template.
+    fn file_by(&self, alloc: Global, template: &str) -> Result<Vec<u8>, AllocError> {
+        let notes = self.notes(alloc, template)?;
         let headers = word_of(self.runs.len()).wrapping_add(1);
         let mut file = Vec::new(alloc);
         file.extend_from_slice(b"\x7fELF\x01\x01\x01\0\0\0\0\0\0\0\0\0\x02\0\xf3\0\x01\0\0\0")?;
@@ -126,8 +127,13 @@ impl Parts {
     }
 
     /// Whether `replay` says this of the file.
-    fn says(&self, alloc: Global, line: &str) -> Result<bool, AllocError> {
-        says(alloc, &self.file(alloc)?, line)
+    pub fn says(&self, alloc: Global, line: &str) -> Result<bool, AllocError> {
+        self.says_by(alloc, self.template, line)
+    }
+
+    /// Whether `replay` says this of the file with another template.
+    pub fn says_by(&self, alloc: Global, template: &str, line: &str) -> Result<bool, AllocError> {
+        says(alloc, &self.file_by(alloc, template)?, line)
     }
 
     /// Whether `replay` says this of the file with other bytes at some places.
@@ -137,7 +143,7 @@ impl Parts {
         changes: &[(usize, u8)],
         line: &str,
     ) -> Result<bool, AllocError> {
-        let mut file = self.file(alloc)?;
+        let mut file = self.file_by(alloc, self.template)?;
         for (at, byte) in changes {
             if let Some(place) = file.get_mut(*at) {
                 *place = *byte;

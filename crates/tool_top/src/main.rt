@@ -2,6 +2,8 @@
 //! over any source and any sinks, and carries the promise of the whole tool.
 #![tactic(auto)]
 
+#[cfg(test)]
+mod atom_tests;
 mod command;
 #[cfg(test)]
 mod file_tests;

@@ -6,6 +6,7 @@ pub mod Variables
 pub mod Truth
 pub mod Moments
 pub mod Admitting
+pub mod Ordered
 pub mod Walks
 pub mod Admission
 pub mod Validity

@@ -13,8 +13,9 @@ use crate::{Cert, Trace};
 #[derive(Clone, Copy, Debug, PartialEq, Eq)]
 pub struct Unmet {
     pub hart: u8,
-    /// The number of the hart's step, from 0; 0 too where the hart's start is not the template's, and the number of
-    /// the hart's records where a record or a number of a choice is missing or left over.
+    /// The number of the hart's step, from 0: 0 too where the hart's start is not the template's; that of the first
+    /// record left over; that of the next record at a label, and where a choice has no number that names an
+    /// alternative; and the number of the hart's records where one is missing or a number of a choice is left over.
     pub step: u32,
     /// The number of the leaf's atom, from 0; `outcome in {retire}`, which is added to a leaf that says nothing of the
     /// outcome, is numbered behind the written ones. It is 65535 where what fails is no atom.
@@ -23,6 +24,7 @@ pub struct Unmet {
 
 /// A certificate as a trace.
 fn trace_of(cert: &Cert) -> Trace<'_>
+    requires { IsWellFormed cert.now }
     ensures { trace result ≡ trace_in cert.now }
 {
     Trace {

@@ -1,5 +1,6 @@
 // A hart's records against its body.
-ghost use Rattle.std.specs.Prelude.{◌≡◌, ◌+◌, ◌≤◌, length};
+ghost use Rattle.std.specs.Prelude.{◌≡◌, ◌+◌, ◌≤◌, length, true};
+ghost use Rattle.tpl_admit.specs.Ordered.{is_ascending};
 
 use crate::admission::Unmet;
 use crate::dropped::Dropped;
@@ -14,7 +15,9 @@ pub struct Context<'c> {
     pub names: &'c [(u32, u32)],
     /// The records of the harts before it.
     pub others: &'c [Items<Record>],
+    /// By ascending hart, step and atom.
     pub dropped: &'c [Dropped],
+    ghost ordered: { is_ascending dropped.now ≡ true },
 }
 
 /// Where a hart stands in its body.
@@ -45,5 +48,7 @@ pub struct Trace<'c> {
     pub choices: &'c [u32],
     /// Pairs of a name's index and its value.
     pub names: &'c [(u32, u32)],
+    /// By ascending hart, step and atom.
     pub dropped: &'c [Dropped],
+    ghost ordered: { is_ascending dropped.now ≡ true },
 }

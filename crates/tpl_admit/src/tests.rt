@@ -1,5 +1,8 @@
-ghost use Rattle.std.specs.Prelude.{◌≡◌, [], ◌∷◌, IfOk, length};
+ghost use Rattle.std.specs.Prelude.{◌≡◌, ◌≤◌, [], ◌∷◌, IfOk, length};
+ghost use Rattle.std.specs.List.{list_all};
+ghost use Rattle.tpl_admit.specs.Ordered.{is_ascending, stands_before};
 
+use crate::walking::stands_before;
 use crate::{Dropped, Trace, Unmet, Why};
 use dom_set::Set;
 use rv_csr::Priv;
@@ -37,23 +40,23 @@ fn start(alloc: Global, places: &[(u32, u32)]) -> Result<HartState, AllocError> 
     })
 }
 
-/// Six divided by three.
-fn division() -> Record {
+/// Six divided by three, by the instruction at an address.
+fn division(pc: u32) -> Record {
     let mut accesses = Accesses::new();
     accesses.push(Access {
         role: Role::Fetch,
-        addr: BASE,
+        addr: pc,
         size: 4,
         value: DIV,
     });
     Record {
-        pc: BASE,
+        pc,
         privilege: Priv::M,
         word: DIV,
         outcome: Outcome::Retired,
         rd: Some((7, 2)),
         accesses,
-        next_pc: BASE + 4,
+        next_pc: pc.wrapping_add(4),
     }
 }
 
@@ -87,16 +90,39 @@ fn template(alloc: Global, body: Vec<Item>) -> Result<Template, Fail>
     })
 }
 
-/// The least failure of one division by a template with such a body.
-fn judged(
+/// Whether a dropped bias stands before all others.
+fn is_first(one: &Dropped, others: &[Dropped]) -> bool
+    ensures { result ≡ list_all (λ e. stands_before e.hart e.step e.atom one.now) others.now }
+{
+    others.iter().all(|other| stands_before(other.hart, other.step, other.atom, one))
+}
+
+/// Whether dropped biases stand by ascending hart, step and atom.
+fn are_ascending(dropped: &[Dropped]) -> bool
+    ensures { result ≡ is_ascending dropped.now }
+{
+    let [one, rest @ ..] = dropped else {
+        return true;
+    };
+    is_first(one, rest) && are_ascending(rest)
+}
+
+/// The least failure of records by a template with such a body.
+fn judged_in(
     alloc: Global,
     body: Vec<Item>,
+    records: Items<Record>,
     choices: &[u32],
     dropped: &[Dropped],
-) -> Result<Option<Unmet>, Fail> {
+) -> Result<Option<Unmet>, Fail>
+    requires { length records ≤ 8192 }
+{
+    if !are_ascending(dropped) {
+        return Err(Fail::new("the dropped biases are out of order"));
+    }
     let template = template(alloc, body)?;
     let start = list_of(alloc, start(alloc, &[(5, 6), (6, 3)])?)?;
-    let records = list_of(alloc, list_of(alloc, division())?)?;
+    let records = list_of(alloc, records)?;
     let trace = Trace {
         template: &template,
         start: start.as_slice(),
@@ -107,6 +133,17 @@ fn judged(
         dropped,
     };
     Ok(trace.least_failure())
+}
+
+/// The least failure of one division.
+fn judged(
+    alloc: Global,
+    body: Vec<Item>,
+    choices: &[u32],
+    dropped: &[Dropped],
+) -> Result<Option<Unmet>, Fail> {
+    let records = list_of(alloc, division(BASE))?;
+    judged_in(alloc, body, records, choices, dropped)
 }
 
 fn body_of(alloc: Global, rows: &[Row]) -> Result<Vec<Item>, Fail> {
@@ -123,14 +160,18 @@ const fn unmet(step: u32, atom: u32) -> Option<Unmet> {
     })
 }
 
-/// A bias that was dropped at the first step.
-const fn drop_of(atom: u32) -> Dropped {
+const fn dropped_at(hart: u32, step: u32, atom: u32) -> Dropped {
     Dropped {
-        hart: 0,
-        step: 0,
+        hart,
+        step,
         atom,
         why: Why::NoneFits,
     }
+}
+
+/// A bias that was dropped at the first step.
+const fn drop_of(atom: u32) -> Dropped {
+    dropped_at(0, 0, atom)
 }
 
 fn assert_judged(
@@ -209,6 +250,71 @@ fn a_choice_takes_the_alternative_that_its_number_names(rt: HostRuntime) -> Resu
         let mut body = Vec::new(alloc);
         body.push(Item::Choose { line: 3, ways })?;
         assert_eq!(&rt; judged(alloc, body, choices, &[])?, want);
+    }
+    Ok(())
+}
+
+/// The hart, step and atom of biases that are listed as dropped, and whether it fails where it isn't listed.
+const LISTED: [(u32, u32, u32, bool); 12] = [
+    (0, 0, 1, true),
+    (0, 0, 2, false),
+    (0, 0, 3, true),
+    (0, 1, 0, false),
+    (0, 1, 1, true),
+    (0, 1, 3, true),
+    (0, 2, 1, true),
+    (0, 2, 3, true),
+    (0, 3, 1, false),
+    (1, 0, 1, false),
+    (1, 2, 3, false),
+    (2, 1, 1, false),
+];
+
+/// The biases but the one with a number.
+fn all_but(alloc: Global, left_out: usize) -> Result<Vec<Dropped>, Fail> {
+    let mut dropped = Vec::new(alloc);
+    for (n, (hart, step, atom, _)) in LISTED.iter().enumerate() {
+        if n != left_out {
+            dropped.push(dropped_at(*hart, *step, *atom))?;
+        }
+    }
+    Ok(dropped)
+}
+
+fn three_divisions(alloc: Global) -> Result<Items<Record>, AllocError>
+    ensures { IfOk result (λ items. length items ≡ 3) }
+{
+    let mut items = Vec::new(alloc);
+    items.push(division(BASE))?;
+    items.push(division(BASE + 4))?;
+    items.push(division(BASE + 8))?;
+    Ok(Items::from_vec(items))
+}
+
+/// The least failure of three divisions, of which each has two biases that hold and two that don't.
+fn judged_by_biases(alloc: Global, dropped: &[Dropped]) -> Result<Option<Unmet>, Fail> {
+    let rows: [Row; 4] = [
+        (Var::B, 3, true),
+        (Var::Rd, 9, true),
+        (Var::Rd, 7, true),
+        (Var::A, 5, true),
+    ];
+    let mut body = Vec::new(alloc);
+    for _ in 0..3 {
+        body.push(leaf(alloc, &rows)?)?;
+    }
+    judged_in(alloc, body, three_divisions(alloc)?, &[], dropped)
+}
+
+#[test]
+fn a_dropped_bias_is_found_among_others(rt: HostRuntime) -> Result<(), Fail> {
+    let alloc = rt.alloc();
+    let all = all_but(alloc, LISTED.len())?;
+    assert_eq!(&rt; judged_by_biases(alloc, &all)?, None);
+    for (n, (_, step, atom, fails)) in LISTED.iter().enumerate() {
+        let dropped = all_but(alloc, n)?;
+        let want = if *fails { unmet(*step, *atom) } else { None };
+        assert_eq!(&rt; judged_by_biases(alloc, &dropped)?, want);
     }
     Ok(())
 }

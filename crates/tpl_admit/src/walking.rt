@@ -5,6 +5,7 @@ ghost use Rattle.tpl_ast.specs.Depths.{size_of_body, size_of_ways};
 ghost use Rattle.tpl_ast.specs.Expansion.{FetchFault, Label, Leaf, layout_of, layout_of_item, repeated};
 ghost use Rattle.tpl_admit.specs.Admitting.{comes_before, false_atoms, fetch_failures, fixes_outcome, here, is_excused, is_drop, is_on_outcome, is_unfetched, is_value, label_failures, leaf_failures, left_over, lesser, numbered, of_hart, says_outcome, unmet_atoms, unretired, went_on, written};
 ghost use Rattle.tpl_admit.specs.Moments.{moment};
+ghost use Rattle.tpl_admit.specs.Ordered.{is_ascending, stands_before};
 ghost use Rattle.tpl_admit.specs.Walks.{chosen_of, context, noted, one_passed, stopped, through, walked};
 
 use crate::admission::Unmet;
@@ -70,15 +71,25 @@ fn is_drop(hart: u8, step: u32, atom: u32, dropped: &Dropped) -> bool
     dropped.hart == u32::from(hart) && dropped.step == step && dropped.atom == atom
 }
 
+/// Whether a dropped bias stands before an atom of a step.
+pub fn stands_before(hart: u32, step: u32, atom: u32, dropped: &Dropped) -> bool
+    ensures { result ≡ stands_before hart step atom dropped.now }
+{
+    dropped.hart < hart
+        || dropped.hart == hart
+            && (dropped.step < step || dropped.step == step && dropped.atom < atom)
+}
+
+/// Whether a bias is listed, searched for by halves since a list has up to 262,144.
 fn is_listed(dropped: &[Dropped], hart: u8, step: u32, atom: u32) -> bool
+    requires { is_ascending dropped.now ≡ true }
     ensures { result ≡ list_any (is_drop hart step atom) dropped.now }
 {
-    for one in dropped {
-        if is_drop(hart, step, atom, one) {
-            return true;
-        }
+    let at = dropped.partition_point(|one| stands_before(u32::from(hart), step, atom, one));
+    match dropped.get(at) {
+        None => false,
+        Some(one) => is_drop(hart, step, atom, one),
     }
-    false
 }
 
 /// Whether the fetch failed.

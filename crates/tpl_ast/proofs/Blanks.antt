@@ -3,10 +3,11 @@ use Rattle.std.proofs.Common.{◌≡◌, ℕ, Bool, true, false, cond, ◌&&◌,
 use Rattle.std.proofs.lemmas.Bool.{eqb-true}
 use Rattle.tpl_ast.specs.Tokens.{Token, is_blank, is_word_byte, joins, pieces, token_of, tokens_among, tokens_of, with_byte}
 
--- two lists of pieces that differ in a piece of blanks alone: in how long it is, or in whether it stands at the end
+-- two lists of pieces that differ in a piece of blanks alone: in how long it is, or in whether it stands at the end or behind another piece
 data Alike : List (List ℕ) → List (List ℕ) → Type 0 where
   Longer : (f ps : List (List ℕ)) (b c : ℕ) (bs cs : List ℕ) → is_blank b ≡ true → is_blank c ≡ true → Alike (f ++ (b ∷ bs) ∷ ps) (f ++ (c ∷ cs) ∷ ps)
   Behind : (f : List (List ℕ)) (b : ℕ) (bs : List ℕ) → is_blank b ≡ true → Alike (f ++ (b ∷ bs) ∷ []) f
+  Apart : (f ps : List (List ℕ)) (c b : ℕ) (cs bs : List ℕ) → is_blank b ≡ true → Alike (f ++ (c ∷ cs) ∷ (b ∷ bs) ∷ ps) (f ++ (c ∷ cs) ∷ ps)
 
 alike : (p q p' q' : List (List ℕ)) → p' ≡ p → q' ≡ q → Alike p q → Alike p' q'
 alike p q p' q' is is' h = subst (λ x. Alike x q') (sym is) (subst (λ x. Alike p x) (sym is') h)
@@ -83,9 +84,23 @@ behind_keep y ((d ∷ ds) ∷ f) b bs hb = here (joins y d) refl
     here true is = alike _ _ _ _ (byte_before y d ds _ true is) (byte_before y d ds _ true is) (Behind ((y ∷ d ∷ ds) ∷ f) b bs hb)
     here false is = alike _ _ _ _ (byte_before y d ds _ false is) (byte_before y d ds _ false is) (Behind ((y ∷ []) ∷ (d ∷ ds) ∷ f) b bs hb)
 
+apart_keep : (y : ℕ) (f ps : List (List ℕ)) (c b : ℕ) (cs bs : List ℕ) → is_blank b ≡ true → Alike (with_byte y (f ++ (c ∷ cs) ∷ (b ∷ bs) ∷ ps)) (with_byte y (f ++ (c ∷ cs) ∷ ps))
+apart_keep y [] ps c b cs bs hb = here (joins y c) refl
+  where
+    here : (t : Bool) → joins y c ≡ t → Alike (with_byte y ((c ∷ cs) ∷ (b ∷ bs) ∷ ps)) (with_byte y ((c ∷ cs) ∷ ps))
+    here true is = alike _ _ _ _ (byte_before y c cs _ true is) (byte_before y c cs _ true is) (Apart [] ps y b (c ∷ cs) bs hb)
+    here false is = alike _ _ _ _ (byte_before y c cs _ false is) (byte_before y c cs _ false is) (Apart ((y ∷ []) ∷ []) ps c b cs bs hb)
+apart_keep y ([] ∷ f) ps c b cs bs hb = Apart ((y ∷ []) ∷ f) ps c b cs bs hb
+apart_keep y ((d ∷ ds) ∷ f) ps c b cs bs hb = here (joins y d) refl
+  where
+    here : (t : Bool) → joins y d ≡ t → Alike (with_byte y ((d ∷ ds) ∷ f ++ (c ∷ cs) ∷ (b ∷ bs) ∷ ps)) (with_byte y ((d ∷ ds) ∷ f ++ (c ∷ cs) ∷ ps))
+    here true is = alike _ _ _ _ (byte_before y d ds _ true is) (byte_before y d ds _ true is) (Apart ((y ∷ d ∷ ds) ∷ f) ps c b cs bs hb)
+    here false is = alike _ _ _ _ (byte_before y d ds _ false is) (byte_before y d ds _ false is) (Apart ((y ∷ []) ∷ (d ∷ ds) ∷ f) ps c b cs bs hb)
+
 keep : (y : ℕ) {p q : List (List ℕ)} → Alike p q → Alike (with_byte y p) (with_byte y q)
 keep y (Longer f ps b c bs cs hb hc) = longer_keep y f ps b c bs cs hb hc
 keep y (Behind f b bs hb) = behind_keep y f b bs hb
+keep y (Apart f ps c b cs bs hb) = apart_keep y f ps c b cs bs hb
 
 -- ---- their tokens
 
@@ -106,9 +121,14 @@ behind_tokens : (f : List (List ℕ)) (b : ℕ) (bs : List ℕ) → is_blank b �
 behind_tokens [] b bs hb = blank_piece b bs [] hb
 behind_tokens (p ∷ f) b bs hb = one_more p (f ++ (b ∷ bs) ∷ []) f (behind_tokens f b bs hb)
 
+apart_tokens : (f ps : List (List ℕ)) (c b : ℕ) (cs bs : List ℕ) → is_blank b ≡ true → tokens_among (f ++ (c ∷ cs) ∷ (b ∷ bs) ∷ ps) ≡ tokens_among (f ++ (c ∷ cs) ∷ ps)
+apart_tokens [] ps c b cs bs hb = one_more (c ∷ cs) ((b ∷ bs) ∷ ps) ps (blank_piece b bs ps hb)
+apart_tokens (p ∷ f) ps c b cs bs hb = one_more p (f ++ (c ∷ cs) ∷ (b ∷ bs) ∷ ps) (f ++ (c ∷ cs) ∷ ps) (apart_tokens f ps c b cs bs hb)
+
 same_tokens : {p q : List (List ℕ)} → Alike p q → tokens_among p ≡ tokens_among q
 same_tokens (Longer f ps b c bs cs hb hc) = longer_tokens f ps b c bs cs hb hc
 same_tokens (Behind f b bs hb) = behind_tokens f b bs hb
+same_tokens (Apart f ps c b cs bs hb) = apart_tokens f ps c b cs bs hb
 
 -- ---- lines
 
@@ -171,3 +191,43 @@ between_pieces (y ∷ l) b c m hb hc = keep y (between_pieces l b c m hb hc)
 pub between : (l : List ℕ) (b c : ℕ) (m : List ℕ) → is_blank b ≡ true → is_blank c ≡ true → tokens_of (l ++ b ∷ c ∷ m) ≡ tokens_of (l ++ b ∷ m)
 unfolding tokens_of
 between l b c m hb hc = same_tokens (between_pieces l b c m hb hc)
+
+-- pieces of which the first begins with this byte
+data From (y : ℕ) : List (List ℕ) → Type 0 where
+  Begins : (cs : List ℕ) (ps : List (List ℕ)) → From y ((y ∷ cs) ∷ ps)
+
+from_byte : (y : ℕ) {ps : List (List ℕ)} → Full ps → From y (with_byte y ps)
+from_byte y Bare = Begins [] []
+from_byte y (First c cs ps) = here (joins y c) refl
+  where
+    here : (t : Bool) → joins y c ≡ t → From y (with_byte y ((c ∷ cs) ∷ ps))
+    here true is = subst (From y) (sym (byte_before y c cs ps true is)) (Begins (c ∷ cs) ps)
+    here false is = subst (From y) (sym (byte_before y c cs ps false is)) (Begins [] ((c ∷ cs) ∷ ps))
+
+blank_within : (x b y : ℕ) {ps : List (List ℕ)} → joins x y ≡ false → is_blank b ≡ true → From y ps → Alike (with_byte x (with_byte b ps)) (with_byte x ps)
+blank_within x b y apart hb (Begins cs ps) = here (is_blank y) refl
+  where
+    alone : with_byte x ((y ∷ cs) ∷ ps) ≡ (x ∷ []) ∷ (y ∷ cs) ∷ ps
+    alone = byte_before x y cs ps false apart
+
+    first : (t : Bool) → is_blank x ≡ t → Alike (with_byte x ((b ∷ []) ∷ (y ∷ cs) ∷ ps)) (with_byte x ((y ∷ cs) ∷ ps))
+    first true is = alike _ _ _ _ (byte_before x b [] _ true (joins_before x b hb ∙ is)) alone (Longer [] ((y ∷ cs) ∷ ps) x x (b ∷ []) [] is is)
+    first false is = alike _ _ _ _ (byte_before x b [] _ false (joins_before x b hb ∙ is)) alone (Apart [] ((y ∷ cs) ∷ ps) x b [] [] hb)
+
+    here : (t : Bool) → is_blank y ≡ t → Alike (with_byte x (with_byte b ((y ∷ cs) ∷ ps))) (with_byte x ((y ∷ cs) ∷ ps))
+    here true is = alike _ _ _ _
+        (ap (with_byte x) (byte_before b y cs ps true (joins_behind b y hb ∙ is)) ∙ byte_before x b (y ∷ cs) ps false (joins_before x b hb ∙ sym (joins_before x y is) ∙ apart))
+        alone
+        (Longer ((x ∷ []) ∷ []) ps b y (y ∷ cs) cs hb is)
+    here false is = alike _ _ _ _
+        (ap (with_byte x) (byte_before b y cs ps false (joins_behind b y hb ∙ is)))
+        refl
+        (first (is_blank x) refl)
+
+beside_pieces : (l : List ℕ) (x b y : ℕ) (m : List ℕ) → joins x y ≡ false → is_blank b ≡ true → Alike (pieces (l ++ x ∷ b ∷ y ∷ m)) (pieces (l ++ x ∷ y ∷ m))
+beside_pieces [] x b y m apart hb = blank_within x b y apart hb (from_byte y (full m))
+beside_pieces (z ∷ l) x b y m apart hb = keep z (beside_pieces l x b y m apart hb)
+
+pub beside : (l : List ℕ) (x b y : ℕ) (m : List ℕ) → joins x y ≡ false → is_blank b ≡ true → tokens_of (l ++ x ∷ b ∷ y ∷ m) ≡ tokens_of (l ++ x ∷ y ∷ m)
+unfolding tokens_of
+beside l x b y m apart hb = same_tokens (beside_pieces l x b y m apart hb)

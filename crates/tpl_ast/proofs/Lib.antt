@@ -1,7 +1,12 @@
 pub mod Texts
+pub mod Least
+pub mod Spelled
 pub mod Sums
 pub mod Blanks
-pub mod Sound
 pub mod Proved
 pub mod Told
 pub mod Leaves
+pub mod Kept
+pub mod Short
+pub mod Steps
+pub mod Sound

@@ -1,20 +1,32 @@
 -- Laws of the language.
-use Rattle.std.specs.Prelude.{◌≡◌, ℕ, ◌%◌, ◌<◌, ◌≤◌, true, List, [], ◌∷◌, ◌++◌, length, Err, ◌+◌, Vec, slice_index_or, Some}
+use Rattle.std.specs.Prelude.{◌≡◌, ℕ, ◌%◌, ◌<◌, ◌≤◌, Bool, true, false, not, ◌&&◌, ◌||◌, List, [], ◌∷◌, ◌++◌, map, length, Ok, Err, ◌+◌, Vec, slice_index_or, Some, None}
 use Rattle.std.specs.Global.{Global}
 use Rattle.std.specs.List.{AllByRecursion, list_any}
+use Rattle.rv_csr.specs.declared.table.Register.{Register}
+use Rattle.rv_csr.specs.Table.{row_of}
+use Rattle.rv_isa.specs.declared.operation.Op.{Op}
+use Rattle.rv_isa.specs.Names.{name_of}
 use Rattle.tpl_ast.specs.declared.fault.Kind.{Kind}
 use Rattle.tpl_ast.specs.declared.fault.Kind.TheVariants.{TooLong}
+use Rattle.tpl_ast.specs.declared.fault.Kind.TheVariants as kinds
+use Rattle.tpl_ast.specs.declared.template.HartDecl.{HartDecl}
 use Rattle.tpl_ast.specs.declared.template.Item.{Item}
 use Rattle.tpl_ast.specs.declared.template.Item.TheViews as views
+use Rattle.tpl_ast.specs.declared.template.NameDecl.{NameDecl}
 use Rattle.tpl_ast.specs.declared.template.Region.{Region}
 use Rattle.tpl_ast.specs.declared.template.Template.{Template}
+use Rattle.tpl_ast.specs.declared.words.Key.{Key}
 use Rattle.tpl_ast.specs.Bodies.{lines_of_body}
 use Rattle.tpl_ast.specs.Depths.{size_of_body, size_of_item, size_of_ways}
 use Rattle.tpl_ast.specs.Expansion.{layout_of, records_in}
-use Rattle.tpl_ast.specs.Lengths.{fixed_of_body, length_of_body}
+use Rattle.tpl_ast.specs.Lengths.{fixed_of_body, length_of_body, length_of_harts, saturated}
 use Rattle.tpl_ast.specs.Lines.{is_bad_byte, lines, stripped, uncommented}
-use Rattle.tpl_ast.specs.Tokens.{is_blank, tokens_of}
-use Rattle.tpl_ast.specs.Parsing.{Parses, fault, parses}
+use Rattle.tpl_ast.specs.Tokens.{is_blank, joins, tokens_of}
+use Rattle.tpl_ast.specs.Judging.{is_name_twice, is_phrase_above, is_phrase_long}
+use Rattle.tpl_ast.specs.Kinds.{kind_number}
+use Rattle.tpl_ast.specs.Parsing.{Known, Parses, allows, body_length, fault, fault_of, hart_lines, is_bad_ram, is_bad_start, is_deep, is_double, is_empty, is_last, is_long, is_unknown, judged, nothing, parses, passes_count}
+use Rattle.tpl_ast.specs.Phrases.{Phrase}
+use Rattle.tpl_ast.specs.Words.{csr_of, key_of, op_of, spelling_of}
 
 -- a text of more than 65,536 bytes is refused as a whole
 abbrev pub LongTextsAreRefused : Type 0
@@ -42,11 +54,12 @@ CommentsSayNothing = (l comment : List ℕ) → uncommented (l ++ 35 ∷ comment
 abbrev pub CarriageReturnsSayNothing : Type 0
 CarriageReturnsSayNothing = (l : List ℕ) → stripped (l ++ 13 ∷ []) ≡ l
 
--- blanks before and behind all tokens say nothing, and several blanks say what one says
+-- blanks before and behind all tokens say nothing, several blanks say what one says, and one between two bytes that stand apart without it says nothing
 pub record BlanksSayNothing : Type 0 where
   pub before : (b : ℕ) (l : List ℕ) → is_blank b ≡ true → tokens_of (b ∷ l) ≡ tokens_of l
   pub behind : (l : List ℕ) (b : ℕ) → is_blank b ≡ true → tokens_of (l ++ b ∷ []) ≡ tokens_of l
   pub between : (l : List ℕ) (b c : ℕ) (m : List ℕ) → is_blank b ≡ true → is_blank c ≡ true → tokens_of (l ++ b ∷ c ∷ m) ≡ tokens_of (l ++ b ∷ m)
+  pub beside : (l : List ℕ) (x b y : ℕ) (m : List ℕ) → joins x y ≡ false → is_blank b ≡ true → tokens_of (l ++ x ∷ b ∷ y ∷ m) ≡ tokens_of (l ++ x ∷ y ∷ m)
 
 -- ---- the answer for a faulty text depends on its lines up to the faulty one alone
 
@@ -75,12 +88,22 @@ pub record IsFramed (r : Region) : Type 0 where
   pub some : r.low < r.high
   pub most : r.high ≤ 0xFFFFF000
 
-pub record IsSound (bytes : List ℕ) (t : Template) : Type 0 where
+-- at most 32 bytes
+abbrev pub IsShortName : NameDecl → Type 0
+IsShortName d = length d.name ≤ 32
+
+pub record KeepsLimits (bytes : List ℕ) (t : Template) : Type 0 where
   pub text : length bytes ≤ 65536
   pub ram : AllByRecursion IsFramed t.ram
+  pub regions : length t.ram ≤ 8
+  pub names : AllByRecursion IsShortName t.names
+  pub names_count : length t.names ≤ 256
+  pub some_harts : 1 ≤ length t.harts
+  pub harts : length t.harts ≤ 4
+  pub length : length_of_harts t.harts ≤ 8192
 
-abbrev pub TemplatesAreSound : Type 0
-TemplatesAreSound = (text : List ℕ) (t : Template) → Parses text t → IsSound text t
+abbrev pub TemplatesKeepLimits : Type 0
+TemplatesKeepLimits = (text : List ℕ) (t : Template) → Parses text t → KeepsLimits text t
 
 -- bodies of the same lines are laid out alike
 abbrev pub LinesTellLayouts : Type 0
@@ -93,3 +116,49 @@ LengthsBound = (items : List Item) (choices : List ℕ) → records_in (layout_o
 -- and as just as many where their number is left to no choice
 abbrev pub FixedLengthsAreExact : Type 0
 FixedLengthsAreExact = (items : List Item) (choices : List ℕ) (n : ℕ) → fixed_of_body items ≡ Some n → (length_of_body items ≡ n) × (records_in (layout_of items choices).pieces ≡ n)
+
+-- ---- the lengths that bodies are judged by
+
+-- what can be known: nothing before the first line, and what is known behind a line that has no fault there
+pub data IsReached : Known → Type 0 where
+  Before : IsReached nothing
+  Behind : (k next : Known) (line : ℕ) (bytes : List ℕ) (last : Bool) → IsReached k → judged k line bytes last ≡ Ok next → IsReached next
+
+-- the length by which a brace that closes a body is judged is that of the items whose lines stand in it, and that of the ended harts is theirs together
+pub record KeepsLengths (k : Known) : Type 0 where
+  pub body : (items : List Item) (n : ℕ) → body_length k.blocks ≡ Some n → lines_of_body items ≡ k.body → n ≡ saturated (length_of_body items)
+  pub harts : (hs : List HartDecl) → map hart_lines hs ≡ k.harts → k.length ≡ saturated (length_of_harts hs)
+
+abbrev pub LengthsAreKept : Type 0
+LengthsAreKept = (k : Known) → IsReached k → KeepsLengths k
+
+-- ---- words
+
+-- each word of the language, each operation's and each register's name is read as what it spells
+pub record WordsAreRead : Type 0 where
+  pub keys : (k : Key) → key_of (spelling_of k) ≡ Some k
+  pub ops : (op : Op) → op_of (name_of op) ≡ Some op
+  pub csrs : (r : Register) → csr_of (row_of r).name ≡ Some r
+
+-- ---- the least kind
+
+-- a statement has a fault of the kind; that its bytes are allowed was judged before
+abbrev pub has_fault : Known → Bool → Phrase → Kind → Bool
+has_fault k last p kinds.BadByte = false
+has_fault k last p kinds.Unexpected = not (allows k p) || (last && not (is_last k p))
+has_fault k last p kinds.NumberTooLarge = is_phrase_above p
+has_fault k last p kinds.UnknownName = is_unknown k p
+has_fault k last p kinds.DoubleName = is_double k p
+has_fault k last p kinds.NameTwiceInLeaf = is_name_twice p
+has_fault k last p kinds.EmptyDomain = is_empty k p
+has_fault k last p kinds.TooDeep = is_deep k p
+has_fault k last p kinds.TooLong = is_long k p
+has_fault k last p kinds.TooMany = is_phrase_long p || passes_count k p
+has_fault k last p kinds.BadRam = is_bad_ram k p
+has_fault k last p kinds.BadStart = is_bad_start k p
+
+-- a statement's fault is the one with the least number of those that it has, and it has none only where it has no fault of any kind
+pub record LeastKindIsTold : Type 0 where
+  pub told : (k : Known) (last : Bool) (p : Phrase) (kind : Kind) → fault_of k last p ≡ Some kind → has_fault k last p kind ≡ true
+  pub least : (k : Known) (last : Bool) (p : Phrase) (kind other : Kind) → fault_of k last p ≡ Some kind → has_fault k last p other ≡ true → kind_number kind ≤ kind_number other
+  pub none : (k : Known) (last : Bool) (p : Phrase) (other : Kind) → fault_of k last p ≡ None → has_fault k last p other ≡ false

@@ -1,6 +1,7 @@
 -- The lengths of bodies, in records.
 use Rattle.std.specs.Prelude.{ℕ, zero, suc, ◌+◌, ◌-◌, ◌*◌, ◌^◌, max, min, List, [], ◌∷◌, map, Option, Some, None, Vec}
 use Rattle.std.specs.Global.{Global}
+use Rattle.tpl_ast.specs.declared.template.HartDecl.{HartDecl}
 use Rattle.tpl_ast.specs.declared.template.Item.{Item}
 use Rattle.tpl_ast.specs.declared.template.Item.TheOpen.{Item-F}
 use Rattle.tpl_ast.specs.declared.template.Item.TheOpen as layers
@@ -34,6 +35,11 @@ length_of_item = fold-Item ℕ length_in
 
 abbrev pub length_of_body : List Item → ℕ
 length_of_body items = sum_of (map length_of_item items)
+
+-- the lengths of the harts' bodies together
+abbrev pub length_of_harts : List HartDecl → ℕ
+length_of_harts [] = 0
+length_of_harts (h ∷ hs) = length_of_body h.body.items + length_of_harts hs
 
 -- the longest body of alternatives
 abbrev pub longest_body : List (ℕ × Vec Item Global) → ℕ

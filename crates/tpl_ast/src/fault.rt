@@ -1,4 +1,6 @@
 // What is wrong with a text.
+ghost use Rattle.std.specs.Prelude.{◌≡◌};
+ghost use Rattle.tpl_ast.specs.Kinds.{kind_number};
 
 /// What is wrong with a line. Of several kinds the least is told.
 #[derive(Clone, Copy, Debug, PartialEq, Eq)]
@@ -27,6 +29,15 @@ pub enum Kind {
     BadRam = 11,
     /// It has a hart's number, a pc, a CSR or a register that is not allowed.
     BadStart = 12,
+}
+
+impl Kind {
+    /// The kind's number, from 1.
+    pub fn number(self) -> u8
+        ensures { result ≡ kind_number self }
+    {
+        self as u8
+    }
 }
 
 /// The first line that has a fault, counted from 1, and the least kind on it. Line 0 is the text as a whole.

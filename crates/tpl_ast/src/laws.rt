@@ -1,10 +1,10 @@
 // Laws of the language.
-ghost use Rattle.tpl_ast.specs.Laws.{BlanksSayNothing, CarriageReturnsSayNothing, CommentsSayNothing, FirstFaultDecides, FixedLengthsAreExact, LengthsBound, LinesTellLayouts, LongTextsAreRefused, SizesFall, TemplatesAreSound, TokensDecide};
+ghost use Rattle.tpl_ast.specs.Laws.{BlanksSayNothing, CarriageReturnsSayNothing, CommentsSayNothing, FirstFaultDecides, FixedLengthsAreExact, LeastKindIsTold, LengthsAreKept, LengthsBound, LinesTellLayouts, LongTextsAreRefused, SizesFall, TemplatesKeepLimits, TokensDecide, WordsAreRead};
 
 /// Does nothing. Its contract says that a text says what the tokens of its lines say, that comments, blanks and
 /// carriage returns before line feeds say nothing, that the answer for a faulty text depends on its lines up to
 /// the faulty one alone, and that a text of more than 65,536 bytes is refused as a whole.
-#[tactic(auto, using(crate::proofs::Blanks::before, crate::proofs::Blanks::behind, crate::proofs::Blanks::between, crate::proofs::Texts::carriage_returns, crate::proofs::Texts::comments, crate::proofs::Texts::first_fault, crate::proofs::Texts::long_texts, crate::proofs::Texts::tokens_decide))]
+#[tactic(auto, using(crate::proofs::Blanks::before, crate::proofs::Blanks::behind, crate::proofs::Blanks::beside, crate::proofs::Blanks::between, crate::proofs::Texts::carriage_returns, crate::proofs::Texts::comments, crate::proofs::Texts::first_fault, crate::proofs::Texts::long_texts, crate::proofs::Texts::tokens_decide))]
 pub fn language_laws()
     ensures tokens { TokensDecide }
     ensures comments { CommentsSayNothing }
@@ -20,9 +20,10 @@ pub fn size_law()
     ensures { SizesFall }
 {}
 
-/// Does nothing. Its contract says what holds of every template: how long its text is, and that RAM is whole frames.
+/// Does nothing. Its contract says what holds of every template: how long its text is, that RAM is whole frames, how
+/// many regions, names and harts there are, how long names are, and how long the bodies are together.
 pub fn template_law()
-    ensures { TemplatesAreSound }
+    ensures { TemplatesKeepLimits }
 {}
 
 /// Does nothing. Its contract says that what a body is laid out as is told by its lines.
@@ -31,8 +32,22 @@ pub fn layout_law()
 {}
 
 /// Does nothing. Its contract says that a body is laid out as at most as many records as its length says, and as
-/// just as many where their number is left to no choice.
+/// just as many where their number is left to no choice, and that the lengths by which a text is judged are those
+/// of the bodies that its lines tell.
 pub fn length_laws()
     ensures bound { LengthsBound }
     ensures exact { FixedLengthsAreExact }
+    ensures kept { LengthsAreKept }
+{}
+
+/// Does nothing. Its contract says that each word is read as what it spells.
+#[tactic(auto, using(crate::proofs::Spelled::words_are_read))]
+pub fn word_law()
+    ensures { WordsAreRead }
+{}
+
+/// Does nothing. Its contract says that of the faults that a statement has the one of the least kind is told.
+#[tactic(auto, using(crate::proofs::Least::least_kind_is_told))]
+pub fn kind_law()
+    ensures { LeastKindIsTold }
 {}

@@ -147,33 +147,35 @@ fn a_file_of_two_harts_is_written_back(rt: HostRuntime) -> Result<(), Fail> {
     Ok(())
 }
 
+/// Where a byte is changed, what it becomes, and the part that is wrong then.
+const CHANGES: [(usize, u8, u8); 16] = [
+    // Five harts, one more choice and one more name.
+    (172, 5, 3),
+    (612, 2, 3),
+    (620, 3, 3),
+    // The second name with the index of the first, then with one that isn't there.
+    (632, 0, 3),
+    (632, 2, 5),
+    // A value that isn't in the set.
+    (628, 2, 5),
+    (636, 8, 5),
+    // The first dropped bias behind the second.
+    (644, 1, 3),
+    // A hart that isn't there, step 8,192, atom 32 and another reason.
+    (660, 2, 3),
+    (649, 0x20, 3),
+    (652, 32, 3),
+    (656, 2, 3),
+    // Another choice, value, step and reason: no part judges what is valid.
+    (616, 7, 0),
+    (628, 1, 0),
+    (648, 3, 0),
+    (672, 0, 0),
+];
+
 #[test]
 fn the_last_note_is_judged(rt: HostRuntime) -> Result<(), Fail> {
-    // Where a byte is changed, what it becomes, and the part that is wrong then.
-    for (at, byte, part) in [
-        // Five harts, one more choice and one more name.
-        (172, 5, 3),
-        (612, 2, 3),
-        (620, 3, 3),
-        // The second name with the index of the first, then with one that isn't there.
-        (632, 0, 3),
-        (632, 2, 5),
-        // A value that isn't in the set.
-        (628, 2, 5),
-        (636, 8, 5),
-        // The first dropped bias behind the second.
-        (644, 1, 3),
-        // A hart that isn't there, step 8,192, atom 32 and another reason.
-        (660, 2, 3),
-        (649, 0x20, 3),
-        (652, 32, 3),
-        (656, 2, 3),
-        // Another choice, value, step and reason: no part judges what is valid.
-        (616, 7, 0),
-        (628, 1, 0),
-        (648, 3, 0),
-        (672, 0, 0),
-    ] {
+    for (at, byte, part) in CHANGES {
         let file = with_bytes(rt.alloc(), at, 1, byte)?;
         assert_eq!(rt; wrong_part(rt.alloc(), &file), part, "at {at}");
     }

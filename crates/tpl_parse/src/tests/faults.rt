@@ -1,9 +1,11 @@
 // What is told of faulty texts.
 use super::printing::told;
 use super::texts::{EVERY, joined, replaced};
+use crate::ParseError;
 use std::alloc::{AllocError, Global};
 use std::process::Abort;
 use std::test::Fail;
+use tpl_ast::{Fault, Kind};
 
 // Each row has a line's number in the template of every statement, the line and the kind that are told, and what stands
 // in the line's place, where a bar stands for a line feed.
@@ -709,5 +711,18 @@ fn a_text_ends_behind_a_hart(rt: HostRuntime) -> Result<(), Fail> {
         };
         assert_eq!(rt; told_of_first(alloc, count)?.as_str(), want.as_str());
     }
+    Ok(())
+}
+
+#[test]
+fn an_error_is_told_in_one_line(rt: HostRuntime) -> Result<(), Fail> {
+    let alloc = rt.alloc();
+    let fault = ParseError::Fault(Fault {
+        line: 7,
+        kind: Kind::TooDeep,
+    });
+    let memory = ParseError::OutOfMemory;
+    let lines = format!(in alloc; "{fault}, {memory}")?;
+    assert_eq!(rt; lines.as_str(), "template line 7: fault 8, out of memory");
     Ok(())
 }

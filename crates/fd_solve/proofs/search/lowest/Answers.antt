@@ -1,7 +1,7 @@
 use Rattle.std.proofs.Common.{◌≡◌, ℕ, true, List, length-set, sym, ◌∙◌, subst, arith}
 use Rattle.dom_set.specs.Elements.{is_in}
 use Rattle.fd_solve.proofs.Cuts.{next_inside}
-use Rattle.fd_solve.proofs.Places.{place_below}
+use Rattle.fd_prob.proofs.Places.{place_below}
 use Rattle.fd_solve.proofs.Ranks.{first_is_in}
 use Rattle.fd_solve.proofs.search.lowest.Goals as goal
 

@@ -1,0 +1,142 @@
+-- A text that says something, line by line.
+use Rattle.std.proofs.Common.{◌≡◌, ℕ, ◌+◌, ◌&&◌, ◌||◌, Bool, true, false, not, eqb, cond, List, [], ◌∷◌, length, Option, Some, None, Result, Ok, Err, refl, sym, ap, ◌∙◌, subst}
+use Rattle.std.specs.List.{list_any}
+use Rattle.tpl_ast.specs.declared.fault.Fault.{Fault}
+use Rattle.tpl_ast.specs.declared.fault.Kind.{Kind}
+use Rattle.tpl_ast.specs.declared.fault.Kind.TheVariants.{BadByte, BadRam, DoubleName, EmptyDomain, NameTwiceInLeaf, NumberTooLarge, TooDeep, TooLong, TooMany, Unexpected, UnknownName}
+use Rattle.tpl_ast.specs.Grammar.{statement_of}
+use Rattle.tpl_ast.specs.Judging.{is_name_twice, is_phrase_above, is_phrase_long}
+use Rattle.tpl_ast.specs.Laws.{IsReached, Before, Behind}
+use Rattle.tpl_ast.specs.Lines.{is_bad_byte, lines, stripped, to_first, uncommented}
+use Rattle.tpl_ast.specs.Parsing.{Known, Said, after, allows, fault, fault_of, is_bad_ram, is_deep, is_double, is_empty, is_finished, is_last, is_long, is_unknown, judged, nothing, passes_count, phrased, run, said, spelled, stated, told}
+use Rattle.tpl_ast.specs.Phrases.{Phrase}
+use Rattle.tpl_ast.specs.Tokens.{Token, tokens_of}
+use Rattle.tpl_ast.proofs.Short.{AreShort, IsShort, OnSome, line_short, statement_short}
+
+same_ok : {A B : Type 0} (x y : A) → ◌≡◌ {A = Result A B} (Ok x) (Ok y) → x ≡ y
+same_ok x y h = cc
+
+-- ---- a statement
+
+-- a test that has nothing to say is false, and so are those behind it
+record IsPassed (c : Bool) (more : Option Kind) : Type 0 where
+  false_ : c ≡ false
+  rest : more ≡ None
+
+passed : (c : Bool) (kind : Kind) (rest : Option Kind) → cond c (Some kind) rest ≡ None → IsPassed c rest
+passed true kind rest h = absurd (cc h)
+passed false kind rest h = record { false_ = refl; rest = h }
+
+pub not_false : (a : Bool) → not a ≡ false → a ≡ true
+not_false true h = refl
+not_false false h = absurd (cc h)
+
+pub either_false : (a b : Bool) → a || b ≡ false → (a ≡ false) × (b ≡ false)
+either_false false b h = (refl, h)
+either_false true b h = absurd (cc h)
+
+-- what is known of a statement that has no fault
+pub record Passed (k : Known) (last : Bool) (p : Phrase) : Type 0 where
+  pub allowed : allows k p ≡ true
+  pub ends : last && not (is_last k p) ≡ false
+  pub fits : is_long k p ≡ false
+  pub counts : passes_count k p ≡ false
+  pub ram : is_bad_ram k p ≡ false
+
+passed_all : (k : Known) (last : Bool) (p : Phrase) → fault_of k last p ≡ None → Passed k last p
+unfolding fault_of
+passed_all k last p none =
+    let a = passed (not (allows k p)) Unexpected _ none in
+    let b = passed (last && not (is_last k p)) Unexpected _ a.rest in
+    let c = passed (is_phrase_above p) NumberTooLarge _ b.rest in
+    let d = passed (is_unknown k p) UnknownName _ c.rest in
+    let e = passed (is_double k p) DoubleName _ d.rest in
+    let f = passed (is_name_twice p) NameTwiceInLeaf _ e.rest in
+    let g = passed (is_empty k p) EmptyDomain _ f.rest in
+    let i = passed (is_deep k p) TooDeep _ g.rest in
+    let j = passed (is_long k p) TooLong _ i.rest in
+    let l = passed (is_phrase_long p || passes_count k p) TooMany _ j.rest in
+    let m = passed (is_bad_ram k p) BadRam _ l.rest in
+    record {
+      allowed = not_false _ a.false_;
+      ends = b.false_;
+      fits = j.false_;
+      counts = (either_false (is_phrase_long p) _ l.false_).1;
+      ram = m.false_;
+    }
+
+-- ---- a line
+
+-- what a line without a fault says: nothing, or a statement
+pub data Judged (k : Known) (line : ℕ) (last : Bool) : Known → Type 0 where
+  Blank : last && not (is_finished k) ≡ false → Judged k line last k
+  Stated : (p : Phrase) → IsShort p → Passed k last p → Judged k line last (after k line p)
+
+stated_by : (k next : Known) (line : ℕ) (last : Bool) (p : Phrase) → IsShort p → stated k line last p ≡ Ok next → Judged k line last next
+stated_by k next line last p short is = go (fault_of k last p) refl is where
+  go : (o : Option Kind) → fault_of k last p ≡ o → ◌≡◌ {A = Result Known Kind} (elim o [ Some kind ↦ Err kind | None ↦ Ok (after k line p) ]) (Ok next) → Judged k line last next
+  go (Some kind) e is = absurd (cc is)
+  go None e is = subst (Judged k line last) (same_ok _ _ is) (Stated p short (passed_all k last p e))
+
+pub judged_by : (k next : Known) (line : ℕ) (bytes : List ℕ) (last : Bool) → judged k line bytes last ≡ Ok next → Judged k line last next
+unfolding judged told
+judged_by k next line bytes last is = go (list_any is_bad_byte bytes) (tokens_of (uncommented bytes)) (line_short (uncommented bytes)) is where
+  phrase : (o : Option Phrase) → OnSome IsShort o → phrased k line last o ≡ Ok next → Judged k line last next
+  phrase None short is = absurd (cc is)
+  phrase (Some p) short is = stated_by k next line last p short is
+
+  empty : (c : Bool) → last && not (is_finished k) ≡ c → ◌≡◌ {A = Result Known Kind} (cond c (Err Unexpected) (Ok k)) (Ok next) → Judged k line last next
+  empty true ends is = absurd (cc is)
+  empty false ends is = subst (Judged k line last) (same_ok _ _ is) (Blank ends)
+
+  tokens : (c : Bool) (ts : List Token) → AreShort ts → ◌≡◌ {A = Result Known Kind} (cond c (cond (last && not (is_finished k)) (Err Unexpected) (Ok k)) (phrased k line last (statement_of ts))) (Ok next) → Judged k line last next
+  tokens true ts short is = empty _ refl is
+  tokens false ts short is = phrase (statement_of ts) (statement_short ts short) is
+
+  spell : (o : Option (List Token)) → OnSome AreShort o → spelled k line last o ≡ Ok next → Judged k line last next
+  spell None short is = absurd (cc is)
+  spell (Some ts) short is = tokens (eqb (length ts) 0) ts short is
+
+  go : (c : Bool) (o : Option (List Token)) → OnSome AreShort o → ◌≡◌ {A = Result Known Kind} (cond c (Err BadByte) (spelled k line last o)) (Ok next) → Judged k line last next
+  go true o short is = absurd (cc is)
+  go false o short is = spell o short is
+
+-- ---- all lines
+
+-- the last line of a text that says this
+pub record LastLine (s : Said) : Type 0 where
+  pub known : Known
+  pub next : Known
+  pub line : ℕ
+  pub bytes : List ℕ
+  pub reached : IsReached known
+  pub judges : judged known line bytes true ≡ Ok next
+  pub says : said next ≡ s
+
+run_last : (k : Known) (n : ℕ) (l : List ℕ) (ls : List (List ℕ)) (s : Said) → IsReached k → run k n (l ∷ ls) ≡ Ok s → LastLine s
+run_last k n l [] s r is = go (judged k n l true) refl is where
+  go : (j : Result Known Kind) → judged k n l true ≡ j → ◌≡◌ {A = Result Said Fault} (elim j [ Err kind ↦ Err (fault n kind) | Ok next ↦ Ok (said next) ]) (Ok s) → LastLine s
+  go (Err kind) e is = absurd (cc is)
+  go (Ok next) e is = record { known = k; next = next; line = n; bytes = l; reached = r; judges = e; says = same_ok _ _ is }
+run_last k n l (m ∷ ls) s r is = go (judged k n (stripped l) false) refl is (λ next. run_last next (n + 1) m ls s) where
+  go : (j : Result Known Kind) → judged k n (stripped l) false ≡ j → ◌≡◌ {A = Result Said Fault} (elim j [ Err kind ↦ Err (fault n kind) | Ok next ↦ run next (n + 1) (m ∷ ls) ]) (Ok s)
+      → ((next : Known) → IsReached next → run next (n + 1) (m ∷ ls) ≡ Ok s → LastLine s) → LastLine s
+  go (Err kind) e is rest = absurd (cc is)
+  go (Ok next) e is rest = rest next (Behind k next n (stripped l) false r e) is
+
+-- a text has a line
+some_line : (text : List ℕ) → (l : List ℕ) × (ls : List (List ℕ)) × (lines text ≡ l ∷ ls)
+some_line [] = ([], [], refl)
+some_line (b ∷ bs) = go (eqb b 10) (lines bs) where
+  first : (ls : List (List ℕ)) → (l : List ℕ) × (ms : List (List ℕ)) × (to_first b ls ≡ l ∷ ms)
+  first [] = (b ∷ [], [], refl)
+  first (l ∷ ls) = (b ∷ l, ls, refl)
+
+  go : (c : Bool) (ls : List (List ℕ)) → (l : List ℕ) × (ms : List (List ℕ)) × (cond c ([] ∷ ls) (to_first b ls) ≡ l ∷ ms)
+  go true ls = ([], ls, refl)
+  go false ls = first ls
+
+pub last_line : (text : List ℕ) (s : Said) → run nothing 1 (lines text) ≡ Ok s → LastLine s
+last_line text s is =
+    let some = some_line text in
+    run_last nothing 1 some.0 some.1 s Before (sym (ap (run nothing 1) some.2) ∙ is)
