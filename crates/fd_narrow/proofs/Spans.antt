@@ -114,3 +114,13 @@ differences_by_ranges first second made firsts seconds others ranges words one t
 
 pub negated_back : (v d : ℕ) → v < 2 ^ 32 → d < 2 ^ 32 → (v + (2 ^ 32 - (0 + (2 ^ 32 - d)) % 2 ^ 32)) % 2 ^ 32 ≡ (v + d) % 2 ^ 32
 negated_back v d small fits = omega arith
+
+-- one element more is a range
+pub singled : (xs : List ℕ) (ranges new : List (ℕ × ℕ)) (i v k d : ℕ) → slice_get xs i ≡ Some v → new ≡ ranges ++ (v, v) ∷ [] → ((j e : ℕ) → j < i → IsTrue (is_within ranges (get_or xs j e))) → k < i + 1 → IsTrue (is_within new (get_or xs k d))
+singled xs ranges new i v k d here end before lt = subst (λ (rs : List (ℕ × ℕ)). IsTrue (is_within rs (get_or xs k d))) (sym end) (elim (cases_lt k i) [
+  | inl below ↦ pushed_kept ranges (v, v) (get_or xs k d) (before k d below)
+  | inr from ↦
+      let at : i ≡ k = omega (arith, from, lt) in
+      let is : get_or xs i d ≡ v = get_or_from_slice_get xs i v d here in
+      subst (λ (j : ℕ). IsTrue (is_within (ranges ++ (v, v) ∷ []) (get_or xs j d))) at (pushed_has ranges (v, v) (get_or xs i d) (omega (arith, is)) (omega (arith, is)))
+])

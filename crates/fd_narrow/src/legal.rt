@@ -1,9 +1,9 @@
 // The words that are legal for a control and status register, as a set.
-ghost use Rattle.std.specs.Prelude.{ℕ, ◌≡◌, ◌/◌, ◌%◌, ◌^◌, ◌<◌, ◌≤◌, IfOk, IsTrue, OnOk};
+ghost use Rattle.std.specs.Prelude.{ℕ, ◌≡◌, ◌/◌, ◌%◌, ◌^◌, ◌<◌, ◌≤◌, false, IfOk, IsTrue, OnOk};
 ghost use Rattle.dom_set.specs.Elements.{is_in};
 ghost use Rattle.fd_narrow.specs.Legal.{AreDoubled, AreIn, AreLegal, HasLegalAt, HasLegalFor, HasLegalWithin, HasSettable, HasSettableAt, HasSubsets};
 ghost use Rattle.fd_narrow.specs.Spans.{AreCovered};
-ghost use Rattle.rv_csr.specs.Table.{is_legal};
+ghost use Rattle.rv_csr.specs.Table.{is_legal, is_legal_at};
 ghost use Rattle.rv_csr.specs.declared.table.Register.TheVariants.{Lazy};
 
 use crate::ranges::{Span, words_of};
@@ -179,6 +179,17 @@ pub fn legal_at(alloc: Global, address: u32) -> Result<Set, OutOfMemory>
             None => Ok(Set::new(alloc)),
         },
         Err(_) => Ok(Set::new(alloc)),
+    }
+}
+
+/// Whether there is a register at the address for which a word is legal.
+#[tactic(auto, using(crate::proofs::Operands::no_register))]
+pub fn has_legal(address: u32) -> bool
+    ensures { result ≡ false → (n : ℕ) → is_legal_at address n ≡ false }
+{
+    match u16::try_from(address) {
+        Ok(small) => !matches!(register_at(small), None | Some(Register::Mhartid)),
+        Err(_) => false,
     }
 }
 

@@ -59,8 +59,23 @@ fn push_ends(ranges: &mut Vec<Span>, set: &Set) -> Result<(), OutOfMemory>
     }
 }
 
+/// How many elements a set may have so that each is a range of its own.
+const FEW: u64 = 32;
+
+/// Each element is a range.
+fn elements(alloc: Global, set: &Set) -> Result<Vec<Span>, OutOfMemory>
+    ensures { IfOk result (λ parts. AreCovered set.now parts.items) }
+{
+    let mut parts = Vec::new(alloc);
+    for i in 0..set.size() {
+        let value = set.nth(i);
+        parts.push((value, value))?;
+    }
+    Ok(parts)
+}
+
 /// The elements are below the half of all words, or from there on: two ranges at most.
-fn parts(alloc: Global, set: &Set) -> Result<Vec<Span>, OutOfMemory>
+fn halves(alloc: Global, set: &Set) -> Result<Vec<Span>, OutOfMemory>
     ensures { IfOk result (λ parts. AreCovered set.now parts.items) }
 {
     let lower = set.below(alloc, HALF)?;
@@ -68,6 +83,18 @@ fn parts(alloc: Global, set: &Set) -> Result<Vec<Span>, OutOfMemory>
     let mut parts = Vec::new(alloc);
     push_ends(&mut parts, &lower)?;
     push_ends(&mut parts, &upper)?;
+    Ok(parts)
+}
+
+/// Ranges around the elements: one for each where they are few and that is wanted, and else two at most.
+fn parts(alloc: Global, set: &Set, fine: bool) -> Result<Vec<Span>, OutOfMemory>
+    ensures { IfOk result (λ parts. AreCovered set.now parts.items) }
+{
+    if fine && set.size() <= FEW {
+        let parts = elements(alloc, set)?;
+        return Ok(parts);
+    }
+    let parts = halves(alloc, set)?;
     Ok(parts)
 }
 
@@ -133,12 +160,13 @@ fn negated(alloc: Global, ranges: &[Span]) -> Result<Vec<Span>, OutOfMemory>
     Ok(negated)
 }
 
-/// The sums of elements of two sets, by their ranges.
+/// The sums of elements of two sets, by their ranges, which are finer in the smaller one.
 fn sums_around(alloc: Global, first: &Set, second: &Set) -> Result<Set, OutOfMemory>
     ensures { IfOk result (HasSums first.now second.now) }
 {
-    let firsts = parts(alloc, first)?;
-    let others = parts(alloc, second)?;
+    let fine = first.size() <= second.size();
+    let firsts = parts(alloc, first, fine)?;
+    let others = parts(alloc, second, !fine)?;
     let ranges = range_sums(alloc, &firsts, &others)?;
     let sums = words_of(alloc, &ranges)?;
     Ok(sums)
@@ -161,13 +189,15 @@ pub fn sums(alloc: Global, first: &Set, second: &Set) -> Result<Set, OutOfMemory
     sums_around(alloc, first, second)
 }
 
-/// The words that give an element of the first set when one of the second is added, by their ranges.
+/// The words that give an element of the first set when one of the second is added, by their ranges, which are
+/// finer in the smaller set.
 fn differences_around(alloc: Global, first: &Set, second: &Set) -> Result<Set, OutOfMemory>
     requires { All (λ w. w < 2 ^ 32) second.now }
     ensures { IfOk result (HasDifferences first.now second.now) }
 {
-    let firsts = parts(alloc, first)?;
-    let seconds = parts(alloc, second)?;
+    let fine = first.size() <= second.size();
+    let firsts = parts(alloc, first, fine)?;
+    let seconds = parts(alloc, second, !fine)?;
     let others = negated(alloc, &seconds)?;
     let ranges = range_sums(alloc, &firsts, &others)?;
     let differences = words_of(alloc, &ranges)?;

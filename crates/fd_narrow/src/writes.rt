@@ -9,7 +9,7 @@ ghost use Rattle.fd_narrow.specs.declared.writes.Change.TheVariants as changes;
 ghost use Rattle.fd_narrow.specs.Writes.{AreIllegal, IsLegalOperand, IsLegalWith, changed, completed};
 
 use crate::domains::Domains;
-use crate::legal::{legal_at, settable_at};
+use crate::legal::{has_legal, legal_at, settable_at};
 use crate::ranges::{Span, words_of};
 use dom_set::{OutOfMemory, Set};
 use fd_prob::Slot;
@@ -221,8 +221,28 @@ impl Domains {
         self.cut(alloc, slot, &set)
     }
 
-    /// What an operand makes of the register is legal, where its bits are set in it.
-    fn narrow_set_bits(
+    /// No word is legal for the register: the operand is one with which nothing is written, if there is one.
+    fn narrow_unwritable(
+        &mut self,
+        alloc: Global,
+        slot: Slot,
+        csr: u32,
+        change: Change,
+        zero: bool,
+    ) -> Result<(), OutOfMemory>
+        requires { (n : ℕ) → is_legal_at csr n ≡ false }
+        ensures { OnOk result (Leaves (IsLegalOperand csr change zero slot) self.old self.new) }
+    {
+        if zero {
+            let set = words_of(alloc, &[(0, 0)])?;
+            return self.cut(alloc, slot, &set);
+        }
+        self.empty(alloc, slot);
+        Ok(())
+    }
+
+    /// What an operand makes of the register is legal, by the bits that it may have.
+    fn narrow_bits(
         &mut self,
         alloc: Global,
         slot: Slot,
@@ -232,6 +252,9 @@ impl Domains {
     ) -> Result<(), OutOfMemory>
         ensures { OnOk result (Leaves (IsLegalOperand csr change zero slot) self.old self.new) }
     {
+        if !has_legal(csr) {
+            return self.narrow_unwritable(alloc, slot, csr, change, zero);
+        }
         match change {
             Change::Sets => self.cut_settable(alloc, slot, csr, zero),
             Change::Clears => Ok(()),
@@ -249,7 +272,7 @@ impl Domains {
     ) -> Result<(), OutOfMemory>
         ensures { OnOk result (Leaves (IsLegalOperand csr change zero slot) self.old self.new) }
     {
-        self.narrow_set_bits(alloc, slot, csr, change, zero)?;
+        self.narrow_bits(alloc, slot, csr, change, zero)?;
         self.narrow_by_old(alloc, slot, csr, change, zero)?;
         self.narrow_old(alloc, slot, csr, change, zero)
     }

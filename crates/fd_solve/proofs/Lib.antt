@@ -7,7 +7,9 @@ pub mod OneOperation
 pub mod AllOperations
 pub mod Allowed
 pub mod Pivoting
+pub mod PivotWords
 pub mod StrictOrder
+pub mod OneAnswer
 pub mod Extensions
 pub mod Biases
 pub mod Mentions

@@ -24,6 +24,6 @@ mod tests;
 
 pub use answers::{LeafAnswer, Solved};
 pub use dom_set::OutOfMemory;
-pub use laws::{operation_law, order_law};
+pub use laws::{answer_law, operation_law, order_law};
 pub use leaf::solve_leaf;
 pub use operations::solve;

@@ -71,8 +71,8 @@ pub fn answer_of(alloc: Global, p: &Problem, pivot: u8, nodes: u64) -> Result<So
 /// The answer of the problem under a budget of `nodes`: `Spent` exactly where the space of the problem
 /// exceeds it, and else the least assignment that fits, or `NoneFits` where none does. Assignments are
 /// compared variable by variable, each value by how far it stands above the pivot, upwards and round to
-/// it again; the pivots are what the problem's draws pick in the domains of the first case of the
-/// assignment's operation.
+/// it again. The pivots are what the problem's draws pick: for the operation, among those that are allowed;
+/// for each other variable, in its domain in the first case of the assignment's operation.
 pub fn solve(alloc: Global, p: &Problem, nodes: u64) -> Result<Solved, OutOfMemory>
     requires { IsProblem p.now }
     ensures spent { OnOk result ((result ≡ Ok Spent) ↔ (nodes < space p.now)) }

@@ -6,9 +6,11 @@ ghost use Rattle.fd_prob.specs.declared.slot.Slot.TheVariants as slots;
 ghost use Rattle.fd_prob.specs.Order.{allowed_ops, draw_of, picked, pivot_of};
 ghost use Rattle.fd_prob.specs.Spaces.{allowed_case};
 ghost use Rattle.fd_prob.specs.Slots.{slot_number};
+ghost use Rattle.fd_solve.specs.Laws.{ArePivotsWords, HasWordPicks};
 ghost use Rattle.fd_solve.specs.Search.{ArePivots};
 
 use crate::place::slot_at;
+use crate::search::words;
 use dom_set::{OutOfMemory, Set};
 use fd_prob::{Case, Problem, Slot};
 use std::alloc::Global;
@@ -108,4 +110,31 @@ pub fn pivots_of(p: &Problem, op: u8, pivot: u8) -> Option<[u32; 14]>
 {
     let first = first_case(p.cases.as_slice(), op)?;
     Some(pivots_in(p, first, pivot))
+}
+
+/// Changes nothing. Its contract says that what the draws pick in the domains of a case are words.
+fn picks_are_words(p: &Problem, case: &Case)
+    requires { IsCase case.now }
+    ensures { HasWordPicks p.now case.now }
+{
+    let pivots = pivots_in(p, case, 0);
+    words(&pivots);
+}
+
+/// Changes nothing. Its contract says the same of all cases.
+fn all_picks_are_words(p: &Problem, cases: &[Case])
+    requires { All IsCase cases.now }
+    ensures { All (HasWordPicks p.now) cases.now }
+{
+    for case in cases {
+        picks_are_words(p, case);
+    }
+}
+
+/// Changes nothing. Its contract says that the pivots of the problem are words.
+pub fn pivots_are_words(p: &Problem)
+    requires { IsProblem p.now }
+    ensures { ArePivotsWords p.now }
+{
+    all_picks_are_words(p, p.cases.as_slice());
 }

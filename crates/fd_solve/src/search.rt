@@ -48,7 +48,7 @@ pub fn with_value(
 }
 
 /// Does nothing. Its contract says that the values are words.
-fn words(values: &[u32])
+pub fn words(values: &[u32])
     ensures { All (λ v. v < 2 ^ 32) values.now }
 {
     let _ = values;

@@ -3,6 +3,7 @@
 ghost use Rattle.std.specs.Prelude.{◌≡◌, ◌<◌, All, IfOk, length};
 ghost use Rattle.fd_prob.specs.Fitting.{IsCase, IsProblem};
 
+mod every;
 mod leaves;
 mod relations;
 mod wide;

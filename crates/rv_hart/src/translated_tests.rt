@@ -58,7 +58,7 @@ const PAGE: End = End::Pa(0x8000_3ABC);
 
 const FRAME: End = End::Pa(0x8000_0ABC);
 
-const ROWS: [Row; 27] = [
+const ROWS: [Row; 28] = [
     (POINTER, 0x2000_0CCF, 2, Priv::S, 0, PAGE, PAGE, PAGE),
     // V is 0; W without R.
     (
@@ -91,10 +91,20 @@ const ROWS: [Row; 27] = [
         End::Page,
         End::Page,
     ),
-    // A second entry that is a pointer; a root entry that is one, with a reserved bit.
+    // A second entry that is a pointer, also with reserved bits; a root entry that is one with such bits.
     (
         POINTER,
         POINTER,
+        2,
+        Priv::S,
+        0,
+        End::Page,
+        End::Page,
+        End::Page,
+    ),
+    (
+        POINTER,
+        0x2000_08C1,
         2,
         Priv::S,
         0,
@@ -410,6 +420,55 @@ fn modes_tell_what_is_translated(rt: HostRuntime) {
     let mut hart = hart_with(&rt, RAM, Priv::M, &csrs, &[(5, DATA + 2)]);
     let (value, after) = (DATA + 2, 0x0002_1800);
     assert_traps(&rt, rt.alloc(), &mut hart, LOAD, 4, value, Priv::M, after);
+}
+
+/// In S, where the fetch goes by S, a load at `address` goes by the privilege of MPP.
+fn assert_below_m(
+    rt: &impl Abort,
+    alloc: Global,
+    mode: Priv,
+    address: u32,
+    data: [Option<Access>; 2],
+    cause: Option<u8>,
+) {
+    let csrs = [
+        (MSTATUS, MPRV | mpp(mode)),
+        (SATP, TABLES),
+        (MTVEC, TO_MACHINE),
+    ];
+    let mut hart = hart_with(rt, VA, Priv::S, &csrs, &[(5, address)]);
+    let mut memory = pages(rt, alloc, &[(ROOT, POINTER), (SECOND, SUPERVISED)]);
+    put_all(rt, &mut memory, &[(0x8000_3ABC, LOAD), (DATA, 9)]);
+    let (one, two) = (entry_of(ROOT, POINTER), entry_of(SECOND, SUPERVISED));
+    let fetch = fetched(0x8000_3ABC, LOAD);
+    let [first, second] = data;
+    let accesses = in_order([one, two, fetch, first, second, None]);
+    match cause {
+        None => {
+            let mut done = retired(&hart, LOAD, Some((6, 9)), None, VA + 4);
+            done.accesses = accesses;
+            let no_change: [(u16, u32); 0] = [];
+            assert_did(rt, &mut hart, &mut memory, done, Priv::S, &no_change);
+        }
+        Some(cause) => {
+            let mut done = trapped(&hart, LOAD, cause, address, Priv::M);
+            done.accesses = accesses;
+            let changes = saved_by(VA, cause, address, Priv::M, MPRV | mpp(Priv::S));
+            assert_did(rt, &mut hart, &mut memory, done, Priv::M, &changes);
+        }
+    }
+}
+
+/// A page of which supervisors may read and execute each word.
+const SUPERVISED: u32 = 0x2000_0C4B;
+
+#[test]
+fn data_goes_by_mpp_below_m_too(rt: HostRuntime) {
+    let alloc = rt.alloc();
+    let data = [load_of(DATA, 4, 9), None];
+    assert_below_m(&rt, alloc, Priv::M, DATA, data, None);
+    let walked = [entry_of(ROOT, POINTER), entry_of(SECOND, SUPERVISED)];
+    assert_below_m(&rt, alloc, Priv::U, VA, walked, Some(13));
 }
 
 /// A load in S whose code page has its entries at `ROOT` and `SECOND`, and whose data page has its root entry after

@@ -9,7 +9,7 @@ pub enum WalkEnd {
     Pa(u32),
     /// In a page fault or an access fault of the access.
     Fault(Cause),
-    /// Beyond what the machine models: at a pointer with U, A or D set.
+    /// Beyond what the machine models: at a root entry that is a pointer with U, A or D set.
     Outside,
     /// At an entry whose word isn't known yet; this is its address.
     Missing(u32),

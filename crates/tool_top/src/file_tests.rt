@@ -35,7 +35,7 @@ fn put(bytes: &mut Vec<u8>, number: u32, digits: u32) -> Result<(), AllocError> 
 }
 
 /// The bytes of numbers.
-fn numbers(alloc: Global, text: &str) -> Result<Vec<u8>, AllocError> {
+pub fn numbers(alloc: Global, text: &str) -> Result<Vec<u8>, AllocError> {
     let mut bytes = Vec::new(alloc);
     let mut number = 0u32;
     let mut digits = 0u32;
@@ -54,16 +54,16 @@ fn numbers(alloc: Global, text: &str) -> Result<Vec<u8>, AllocError> {
 }
 
 /// A length that a word has room for.
-fn word_of(length: usize) -> u32 {
+pub fn word_of(length: usize) -> u32 {
     u32::try_from(length).unwrap_or(u32::MAX)
 }
 
-fn put_word(bytes: &mut Vec<u8>, word: u32) -> Result<(), AllocError> {
+pub fn put_word(bytes: &mut Vec<u8>, word: u32) -> Result<(), AllocError> {
     bytes.extend_from_slice(&word.to_le_bytes())?;
     Ok(())
 }
 
-fn put_note(notes: &mut Vec<u8>, kind: u32, desc: &[u8]) -> Result<(), AllocError> {
+pub fn put_note(notes: &mut Vec<u8>, kind: u32, desc: &[u8]) -> Result<(), AllocError> {
     put_word(notes, 5)?;
     put_word(notes, word_of(desc.len()))?;
     put_word(notes, kind)?;
@@ -77,7 +77,7 @@ fn put_note(notes: &mut Vec<u8>, kind: u32, desc: &[u8]) -> Result<(), AllocErro
     Ok(())
 }
 
-fn put_header(
+pub fn put_header(
     bytes: &mut Vec<u8>,
     kind: u32,
     offset: u32,
@@ -154,7 +154,7 @@ impl Parts {
 }
 
 /// Whether `replay` says this of a file, with the status that belongs to it.
-fn says(alloc: Global, file: &[u8], line: &str) -> Result<bool, AllocError> {
+pub fn says(alloc: Global, file: &[u8], line: &str) -> Result<bool, AllocError> {
     if line.starts_with("malformed") {
         answers(alloc, file, 9, "", line)
     } else {
@@ -569,5 +569,80 @@ fn races_are_told_behind_steps_and_ends(rt: HostRuntime) -> Result<(), Fail> {
         let changes = [a, b, c, d, e, other];
         assert!(rt; TWO_HARTS.says_with(alloc, &changes, line)?, "{line}");
     }
+    Ok(())
+}
+
+/// Two steps of one hart, `addi x5, x0, 7` and `addi x6, x5, 1`.
+const TWO_STEPS: Parts = Parts {
+    entry: 0,
+    start: "00000001 00000001
+        00000000 00000003 00000000 00000000 00000000 00000000",
+    records: "00000002
+        00000000 00700293 00000004 03 ff ff 05 00000007 00000000 00000001
+        00000000 00700293 00 04 00 00
+        00000004 00128313 00000008 03 ff ff 06 00000008 00000000 00000001
+        00000004 00128313 00 04 00 00",
+    end: "00000008 00000003 00000000 00000000 00000000
+        00000002 00000005 00000007 00000006 00000008
+        00000002 00700293 00128313",
+    template: "ram 0 4096
+pool 0
+hart 0 {
+start pc 0 priv m
+body {
+do
+do
+}
+}
+",
+    rest: "00000000 00000000 00000000",
+    runs: &[(0, "00700293 00128313")],
+};
+
+/// Faults of the first step, and what is said: its record, what it needs, and whether it is there.
+const OF_FIRST: [((usize, u8), &str); 3] = [
+    ((200, 8), "no 1 hart 0 step 0\n"),
+    ((461, 0x82), "no 2 hart 0 step 0\n"),
+    ((460, 0), "no 3 hart 0 step 0\n"),
+];
+
+/// The same of the second one.
+const OF_SECOND: [((usize, u8), &str); 3] = [
+    ((240, 4), "no 1 hart 0 step 1\n"),
+    ((465, 3), "no 2 hart 0 step 1\n"),
+    ((464, 0), "no 3 hart 0 step 1\n"),
+];
+
+#[test]
+fn the_first_of_two_steps_is_told(rt: HostRuntime) -> Result<(), Fail> {
+    let alloc = rt.alloc();
+    assert!(rt; TWO_STEPS.says(alloc, "yes\n")?);
+    for (second, line) in OF_SECOND {
+        assert!(rt; TWO_STEPS.says_with(alloc, &[second], line)?, "{line}");
+    }
+    for (first, line) in OF_FIRST {
+        for (second, _) in OF_SECOND {
+            assert!(rt;
+                TWO_STEPS.says_with(alloc, &[first, second], line)?,
+                "{line}"
+            );
+        }
+    }
+    Ok(())
+}
+
+#[test]
+fn what_a_step_needs_is_told_before_what_it_writes(rt: HostRuntime) -> Result<(), Fail> {
+    let alloc = rt.alloc();
+    // `csrrsi x0, mtvec, 1`, with which mtvec would get a value that isn't legal.
+    let changes = [(464, 0x73), (465, 0xe0), (466, 0x50), (467, 0x30)];
+    assert!(rt; TWO_STEPS.says_with(alloc, &changes, "no 2 hart 0 step 1\n")?);
+    let given = Parts {
+        start: "00000001 00000001
+            00000000 00000003 00000000 00000000 00000000 00000001 00001305 00000000",
+        ..TWO_STEPS
+    };
+    let changes = [(472, 0x73), (473, 0xe0), (474, 0x50), (475, 0x30)];
+    assert!(rt; given.says_with(alloc, &changes, "no 3 hart 0 step 1\n")?);
     Ok(())
 }

@@ -7,6 +7,8 @@ mod atom_tests;
 mod command;
 #[cfg(test)]
 mod file_tests;
+#[cfg(test)]
+mod limit_tests;
 mod making;
 #[cfg(test)]
 mod tests;

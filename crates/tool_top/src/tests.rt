@@ -223,7 +223,7 @@ fn what_is_no_template_is_told(rt: HostRuntime) -> Result<(), Fail> {
         (vec![in alloc; 0xFF; 1000]?, "template line 1: bad byte\n"),
         (Vec::new(alloc), "template line 1: unexpected\n"),
         (
-            "ram 0x80000000 0x80001000\nfoo\n".as_bytes().to_vec(alloc)?,
+            "ram 0x80000000 0x80001000\nfoo".as_bytes().to_vec(alloc)?,
             "template line 2: unexpected\n",
         ),
     ] {

@@ -14,7 +14,7 @@ alike p q p' q' is is' h = subst (λ x. Alike x q') (sym is) (subst (λ x. Alike
 
 -- ---- which bytes a blank joins
 
-blanks : (b : ℕ) → is_blank b ≡ true → (b ≡ 32) ⊎ (b ≡ 9)
+pub blanks : (b : ℕ) → is_blank b ≡ true → (b ≡ 32) ⊎ (b ≡ 9)
 blanks b h = here (b == 32) refl h
   where
     second : (t : Bool) → (b == 9) ≡ t → t ≡ true → (b ≡ 32) ⊎ (b ≡ 9)

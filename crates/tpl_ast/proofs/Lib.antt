@@ -3,6 +3,7 @@ pub mod Least
 pub mod Spelled
 pub mod Sums
 pub mod Blanks
+pub mod Alike
 pub mod Proved
 pub mod Told
 pub mod Leaves
@@ -10,3 +11,8 @@ pub mod Kept
 pub mod Short
 pub mod Steps
 pub mod Sound
+pub mod Readers
+pub mod Lists
+pub mod Domains
+pub mod Atoms
+pub mod Statements

@@ -20,7 +20,7 @@ parses_by text short = rw (le-ltb 65536 (length text) short) refl
 
 -- ---- comments and carriage returns
 
-until_is : (b c : ℕ) (l : List ℕ) (t : Bool) → eqb c b ≡ t → length_until b (c ∷ l) ≡ cond t 0 (length_until b l + 1)
+pub until_is : (b c : ℕ) (l : List ℕ) (t : Bool) → eqb c b ≡ t → length_until b (c ∷ l) ≡ cond t 0 (length_until b l + 1)
 until_is b c l t is = rw is refl
 
 within_one : (b c : ℕ) (l : List ℕ) (t : Bool) → eqb c b ≡ t → length_until b l ≤ length l → length_until b (c ∷ l) ≤ length (c ∷ l)
@@ -35,8 +35,8 @@ until_first : (b : ℕ) (l rest : List ℕ) → length_until b (l ++ b ∷ rest)
 until_first b [] rest = until_is b b rest true (eq-eqb b b refl)
 until_first b (c ∷ l) rest = ap (λ (n : ℕ). cond (eqb c b) 0 (n + 1)) (until_first b l rest)
 
-pub comments : (l comment : List ℕ) → uncommented (l ++ 35 ∷ comment) ≡ uncommented l
-comments l comment = ap (λ (n : ℕ). take n (l ++ 35 ∷ comment)) (until_first 35 l comment) ∙ take-append-le (length_until 35 l) l (35 ∷ comment) (until_within 35 l)
+pub uncommented_before : (l comment : List ℕ) → uncommented (l ++ 35 ∷ comment) ≡ uncommented l
+uncommented_before l comment = ap (λ (n : ℕ). take n (l ++ 35 ∷ comment)) (until_first 35 l comment) ∙ take-append-le (length_until 35 l) l (35 ∷ comment) (until_within 35 l)
 
 pub carriage_returns : (l : List ℕ) → stripped (l ++ 13 ∷ []) ≡ l
 carriage_returns l =

@@ -1,5 +1,5 @@
 -- Laws of the language.
-use Rattle.std.specs.Prelude.{◌≡◌, ℕ, ◌%◌, ◌<◌, ◌≤◌, Bool, true, false, not, ◌&&◌, ◌||◌, List, [], ◌∷◌, ◌++◌, map, length, Ok, Err, ◌+◌, Vec, slice_index_or, Some, None}
+use Rattle.std.specs.Prelude.{◌≡◌, ℕ, ◌%◌, ◌<◌, ◌≤◌, ◌↔◌, Bool, true, false, not, ◌&&◌, ◌||◌, List, [], ◌∷◌, ◌++◌, map, length, Ok, Err, ◌+◌, Vec, slice_index_or, Some, None}
 use Rattle.std.specs.Global.{Global}
 use Rattle.std.specs.List.{AllByRecursion, list_any}
 use Rattle.rv_csr.specs.declared.table.Register.{Register}
@@ -19,9 +19,11 @@ use Rattle.tpl_ast.specs.declared.words.Key.{Key}
 use Rattle.tpl_ast.specs.Bodies.{lines_of_body}
 use Rattle.tpl_ast.specs.Depths.{size_of_body, size_of_item, size_of_ways}
 use Rattle.tpl_ast.specs.Expansion.{layout_of, records_in}
+use Rattle.tpl_ast.specs.Grammar.{statement_of}
 use Rattle.tpl_ast.specs.Lengths.{fixed_of_body, length_of_body, length_of_harts, saturated}
 use Rattle.tpl_ast.specs.Lines.{is_bad_byte, lines, stripped, uncommented}
-use Rattle.tpl_ast.specs.Tokens.{is_blank, joins, tokens_of}
+use Rattle.tpl_ast.specs.Spelling.{Spells}
+use Rattle.tpl_ast.specs.Tokens.{Token, is_blank, joins, tokens_of}
 use Rattle.tpl_ast.specs.Judging.{is_name_twice, is_phrase_above, is_phrase_long}
 use Rattle.tpl_ast.specs.Kinds.{kind_number}
 use Rattle.tpl_ast.specs.Parsing.{Known, Parses, allows, body_length, fault, fault_of, hart_lines, is_bad_ram, is_bad_start, is_deep, is_double, is_empty, is_last, is_long, is_unknown, judged, nothing, parses, passes_count}
@@ -48,18 +50,19 @@ AreAlike _ _ = ⊥
 abbrev pub TokensDecide : Type 0
 TokensDecide = (text other : List ℕ) → length text ≤ 65536 → length other ≤ 65536 → AreAlike (lines text) (lines other) → parses text ≡ parses other
 
+-- a comment at the end of a line says nothing, where its bytes are allowed
 abbrev pub CommentsSayNothing : Type 0
-CommentsSayNothing = (l comment : List ℕ) → uncommented (l ++ 35 ∷ comment) ≡ uncommented l
+CommentsSayNothing = (l comment : List ℕ) → list_any is_bad_byte comment ≡ false → ReadAlike (l ++ 35 ∷ comment) l
 
 abbrev pub CarriageReturnsSayNothing : Type 0
 CarriageReturnsSayNothing = (l : List ℕ) → stripped (l ++ 13 ∷ []) ≡ l
 
 -- blanks before and behind all tokens say nothing, several blanks say what one says, and one between two bytes that stand apart without it says nothing
 pub record BlanksSayNothing : Type 0 where
-  pub before : (b : ℕ) (l : List ℕ) → is_blank b ≡ true → tokens_of (b ∷ l) ≡ tokens_of l
-  pub behind : (l : List ℕ) (b : ℕ) → is_blank b ≡ true → tokens_of (l ++ b ∷ []) ≡ tokens_of l
-  pub between : (l : List ℕ) (b c : ℕ) (m : List ℕ) → is_blank b ≡ true → is_blank c ≡ true → tokens_of (l ++ b ∷ c ∷ m) ≡ tokens_of (l ++ b ∷ m)
-  pub beside : (l : List ℕ) (x b y : ℕ) (m : List ℕ) → joins x y ≡ false → is_blank b ≡ true → tokens_of (l ++ x ∷ b ∷ y ∷ m) ≡ tokens_of (l ++ x ∷ y ∷ m)
+  pub before : (b : ℕ) (l : List ℕ) → is_blank b ≡ true → ReadAlike (b ∷ l) l
+  pub behind : (l : List ℕ) (b : ℕ) → is_blank b ≡ true → ReadAlike (l ++ b ∷ []) l
+  pub between : (l : List ℕ) (b c : ℕ) (m : List ℕ) → is_blank b ≡ true → is_blank c ≡ true → ReadAlike (l ++ b ∷ c ∷ m) (l ++ b ∷ m)
+  pub beside : (l : List ℕ) (x b y : ℕ) (m : List ℕ) → joins x y ≡ false → is_blank b ≡ true → ReadAlike (l ++ x ∷ b ∷ y ∷ m) (l ++ x ∷ y ∷ m)
 
 -- ---- the answer for a faulty text depends on its lines up to the faulty one alone
 
@@ -139,6 +142,10 @@ pub record WordsAreRead : Type 0 where
   pub keys : (k : Key) → key_of (spelling_of k) ≡ Some k
   pub ops : (op : Op) → op_of (name_of op) ≡ Some op
   pub csrs : (r : Register) → csr_of (row_of r).name ≡ Some r
+
+-- a line's tokens are a statement exactly where the statement is spelled with them
+abbrev pub StatementsAreSpelled : Type 0
+StatementsAreSpelled = (tokens : List Token) (p : Phrase) → (statement_of tokens ≡ Some p) ↔ Spells p tokens
 
 -- ---- the least kind
 

@@ -5,6 +5,7 @@ pub mod Lines
 pub mod Tokens
 pub mod Phrases
 pub mod Grammar
+pub mod Spelling
 pub mod Sets
 pub mod Judging
 pub mod Bodies

@@ -1,10 +1,10 @@
 // Laws of the language.
-ghost use Rattle.tpl_ast.specs.Laws.{BlanksSayNothing, CarriageReturnsSayNothing, CommentsSayNothing, FirstFaultDecides, FixedLengthsAreExact, LeastKindIsTold, LengthsAreKept, LengthsBound, LinesTellLayouts, LongTextsAreRefused, SizesFall, TemplatesKeepLimits, TokensDecide, WordsAreRead};
+ghost use Rattle.tpl_ast.specs.Laws.{BlanksSayNothing, CarriageReturnsSayNothing, CommentsSayNothing, FirstFaultDecides, FixedLengthsAreExact, LeastKindIsTold, LengthsAreKept, LengthsBound, LinesTellLayouts, LongTextsAreRefused, SizesFall, StatementsAreSpelled, TemplatesKeepLimits, TokensDecide, WordsAreRead};
 
 /// Does nothing. Its contract says that a text says what the tokens of its lines say, that comments, blanks and
 /// carriage returns before line feeds say nothing, that the answer for a faulty text depends on its lines up to
 /// the faulty one alone, and that a text of more than 65,536 bytes is refused as a whole.
-#[tactic(auto, using(crate::proofs::Blanks::before, crate::proofs::Blanks::behind, crate::proofs::Blanks::beside, crate::proofs::Blanks::between, crate::proofs::Texts::carriage_returns, crate::proofs::Texts::comments, crate::proofs::Texts::first_fault, crate::proofs::Texts::long_texts, crate::proofs::Texts::tokens_decide))]
+#[tactic(auto, using(crate::proofs::Texts::carriage_returns, crate::proofs::Texts::first_fault, crate::proofs::Texts::long_texts, crate::proofs::Texts::tokens_decide))]
 pub fn language_laws()
     ensures tokens { TokensDecide }
     ensures comments { CommentsSayNothing }
@@ -44,6 +44,13 @@ pub fn length_laws()
 #[tactic(auto, using(crate::proofs::Spelled::words_are_read))]
 pub fn word_law()
     ensures { WordsAreRead }
+{}
+
+/// Does nothing. Its contract says that the tokens of a line are a statement exactly where the statement is spelled
+/// with them.
+#[tactic(auto, using(crate::proofs::Statements::statements_are_spelled))]
+pub fn statement_law()
+    ensures { StatementsAreSpelled }
 {}
 
 /// Does nothing. Its contract says that of the faults that a statement has the one of the least kind is told.

@@ -1,9 +1,11 @@
 // The lines of a text, each judged after those before it.
-ghost use Rattle.std.specs.Prelude.{◌≡◌, ◌≤◌, ◌<◌, false, true, length, IfOk, OnOk};
+ghost use Rattle.std.specs.Prelude.{◌≡◌, ◌≤◌, ◌<◌, false, true, length, Err, IfOk, OnOk};
 ghost use Rattle.tpl_ast.specs.Bodies.{LabelOf};
+ghost use Rattle.tpl_ast.specs.declared.fault.Kind.TheVariants.{TooLong};
 ghost use Rattle.tpl_ast.specs.Judging.{is_phrase_above};
 ghost use Rattle.tpl_ast.specs.Lines.{lines};
-ghost use Rattle.tpl_ast.specs.Parsing.{Parses, after, all_values, allows, closed_in, fault_of, judged, nothing, parses, passes_count, run, said, said_by, takes_items, told, with_item, with_name};
+ghost use Rattle.tpl_ast.specs.Parsing.{Parses, after, all_values, allows, closed_in, fault, fault_of, judged, nothing, parses, passes_count, run, said, said_by, takes_items, told, with_item, with_name};
+ghost use Rattle.tpl_parse.specs.declared.error.ParseError.TheVariants as errors;
 ghost use Rattle.tpl_parse.specs.Answers.{Answers, IsSaid, Meets, at_line};
 ghost use Rattle.tpl_parse.specs.Reading.{phrase};
 ghost use Rattle.tpl_parse.specs.State.{known};
@@ -284,6 +286,8 @@ pub fn parse(alloc: Global, text: &[u8]) -> Result<Template, ParseError>
     ensures said { Answers said_by result (parses text.now) }
     ensures text { IfOk result (λ t. t.text ≡ text.now) }
     ensures template { IfOk result (λ t. Parses t.text t) }
+    // A text that is too long takes no memory to refuse.
+    ensures long { 65536 < length text.now → result ≡ Err (errors.Fault (fault 0 TooLong)) }
 {
     if text.len() > 65536 {
         return Err(ParseError::Fault(Fault {

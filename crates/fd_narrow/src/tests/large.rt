@@ -14,7 +14,7 @@ type Large = (Op, &'static [Domain], &'static [Kind], Slot, Ranges);
 
 const ANY: Domain = (Slot::A, ALL);
 
-const LARGE: [Large; 24] = [
+const LARGE: [Large; 31] = [
     (
         Op::Add,
         &[ANY, (Slot::B, &[(5, 9)])],
@@ -195,6 +195,70 @@ const LARGE: [Large; 24] = [
         &[Kind::Writes],
         Slot::A,
         &[(3, 9)],
+    ),
+    // No value is legal for mhartid, and misa is no register here.
+    (
+        Op::Csrrc,
+        &[(Slot::Csr, &[(0xf14, 0xf14)]), (Slot::Rs1, &[(1, 1)]), ANY],
+        &[Kind::Writes],
+        Slot::A,
+        &[],
+    ),
+    (
+        Op::Csrrs,
+        &[(Slot::Csr, &[(0x301, 0x301)]), (Slot::Rs1, &[(1, 1)]), ANY],
+        &[Kind::Writes],
+        Slot::A,
+        &[],
+    ),
+    (
+        Op::Csrrci,
+        &[(Slot::Csr, &[(0xf14, 0xf14)]), (Slot::Imm, &[(0, 31)])],
+        &[Kind::Writes],
+        Slot::Imm,
+        &[(0, 0)],
+    ),
+    (
+        Op::Csrrsi,
+        &[(Slot::Csr, &[(0x301, 0x301)]), (Slot::Imm, &[(0, 31)])],
+        &[Kind::Writes],
+        Slot::Imm,
+        &[(0, 0)],
+    ),
+    (
+        Op::Csrrc,
+        &[
+            (Slot::Csr, &[(0x180, 0x180)]),
+            (Slot::Rs1, &[(1, 1)]),
+            (Slot::OldCsr, ALL),
+            ANY,
+        ],
+        &[Kind::Writes],
+        Slot::A,
+        ALL,
+    ),
+    // The fewer numbers are taken one by one.
+    (
+        Op::Sw,
+        &[
+            (Slot::A, &[(0x1000, 0x1000), (0x5000, 0x5000)]),
+            (Slot::Imm, SIGNED),
+            (Slot::Ea, &[(0x1400, 0x3fff)]),
+        ],
+        &[SUM],
+        Slot::Ea,
+        &[(0x1400, 0x17ff)],
+    ),
+    (
+        Op::Sw,
+        &[
+            (Slot::A, &[(0, 0xffff)]),
+            (Slot::Imm, SIGNED),
+            (Slot::Ea, &[(0x3000, 0x3000), (0x9000, 0x9000)]),
+        ],
+        &[SUM],
+        Slot::A,
+        &[(0x2801, 0x3800), (0x8801, 0x9800)],
     ),
     (
         Op::Lw,

@@ -193,10 +193,45 @@ const TO_MEPC: &[Domain] = &[
     (Slot::OldCsr, ALL),
 ];
 
+const TO_MHARTID: &[Domain] = &[
+    (Slot::Rs1, &[(1, 31)]),
+    (Slot::Csr, &[(0xf14, 0xf14)]),
+    (Slot::A, ALL),
+    (Slot::OldCsr, &[(0, 3)]),
+];
+
+const TO_MISA: &[Domain] = &[
+    (Slot::Rs1, &[(1, 31)]),
+    (Slot::Csr, &[(0x301, 0x301)]),
+    (Slot::A, ALL),
+    (Slot::OldCsr, &[(0, 0)]),
+];
+
+const TO_BOTH: &[Domain] = &[
+    (Slot::Rs1, EACH),
+    (Slot::Csr, &[(0x340, 0x340), (0xf14, 0xf14)]),
+    (Slot::A, ALL),
+    (Slot::OldCsr, ALL),
+];
+
+/// A store between the two pages that its base reaches.
+const STORE_BETWEEN: Row = (
+    17,
+    &[
+        (Slot::Rs1, EACH),
+        (Slot::Rs2, EACH),
+        (Slot::Imm, SIGNED),
+        (Slot::A, &[(0x1000, 0x1000), (0x5000, 0x5000)]),
+        (Slot::B, ALL),
+        (Slot::Ea, &[(0x3000, 0x3fff)]),
+    ],
+    &[SUM, Link::Linked],
+);
+
 /// Cases, one draw for all variables, and the values of the operation that is found.
 type Wide = (&'static [Row], u32, Option<(u8, &'static [(Slot, u32)])>);
 
-const WIDE: [Wide; 24] = [
+const WIDE: [Wide; 29] = [
     (
         &[LOAD],
         0,
@@ -317,6 +352,25 @@ const WIDE: [Wide; 24] = [
         u32::MAX,
         Some((49, &[(Slot::Rs1, 5), (Slot::Csr, 0x341), (Slot::OldCsr, 0)])),
     ),
+    // No value is legal for mhartid, nor at an address without a register.
+    (&[(50, TO_MHARTID, &[Link::Writes])], 0, None),
+    (&[(49, TO_MHARTID, &[Link::Writes])], 7, None),
+    (&[(50, TO_MISA, &[Link::Writes])], u32::MAX, None),
+    (
+        &[(50, TO_BOTH, &[Link::Writes])],
+        1,
+        Some((
+            50,
+            &[
+                (Slot::Rs1, 1),
+                (Slot::Csr, 0x340),
+                (Slot::A, 1),
+                (Slot::OldCsr, 1),
+            ],
+        )),
+    ),
+    // Sums of few numbers are just those.
+    (&[STORE_BETWEEN], 0, None),
 ];
 
 #[test]

@@ -40,7 +40,6 @@ const ITEMS: &str = "set odd = {1, 3, 5..7}
 hart 0 {
 start pc 0x80000000 priv m
 body {
-fault outcome in {1, 12}
 label top
 do op in {addi, lui}; rd in odd; prefer imm in {-4..3}
 repeat 3 {
@@ -52,6 +51,18 @@ do target == top
 }
 0: {
 }
+}
+}
+}
+";
+
+/// The items that stand in no other example.
+const OTHER_ITEMS: &str = "hart 0 {
+start pc 0x80000000 priv m
+body {
+fault outcome in {1, 12}
+seq {
+do
 }
 }
 }
@@ -125,7 +136,7 @@ fn assert_told(rt: &impl Abort, alloc: Global, text: &str, want: &str) -> Result
 
 #[test]
 fn examples_are_templates(rt: HostRuntime) -> Result<(), Fail> {
-    for text in [FIRST, STATEMENTS, ITEMS] {
+    for text in [FIRST, STATEMENTS, ITEMS, OTHER_ITEMS] {
         assert_told(&rt, rt.alloc(), text, "ok")?;
     }
     Ok(())

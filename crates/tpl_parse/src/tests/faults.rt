@@ -322,7 +322,8 @@ const NUMBER_TOO_LARGE: &str = "\
 26 26 3 repeat -1 {
 30 30 3 65536: {
 30 30 3 0x100000002: {
-39 39 3 start pc 0x100001000 priv u";
+39 39 3 start pc 0x100001000 priv u
+41 41 3 do rd in {32}|}";
 
 /// Kind 4.
 const UNKNOWN_NAME: &str = "\
@@ -356,7 +357,8 @@ const UNKNOWN_NAME: &str = "\
 21 21 4 do rs1 == a
 21 21 4 do imm == add
 21 21 4 do a == a
-31 31 4 do target == end";
+31 31 4 do target == end
+41 41 4 do target == end|}";
 
 /// Kind 5.
 const DOUBLE_NAME: &str = "\

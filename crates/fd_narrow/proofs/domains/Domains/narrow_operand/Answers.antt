@@ -8,5 +8,5 @@ pub returns : goal.returns
 returns c =
     let P = IsLegalOperand c.args.csr c.args.change c.args.zero c.args.slot in
     on_ok c.narrow_old.result (Leaves P c.narrow_by_old.new.self c.narrow_old.new.self) (Leaves P c.args.self.now c.narrow_old.new.self)
-    (followed P c.args.self.now c.narrow_by_old.new.self c.narrow_old.new.self (followed P c.args.self.now c.narrow_set_bits.new.self c.narrow_by_old.new.self c.in_ok-narrow_set_bits.ensures c.in_ok-narrow_by_old.ensures))
+    (followed P c.args.self.now c.narrow_by_old.new.self c.narrow_old.new.self (followed P c.args.self.now c.narrow_bits.new.self c.narrow_by_old.new.self c.in_ok-narrow_bits.ensures c.in_ok-narrow_by_old.ensures))
     c.narrow_old.ensures
