@@ -2,9 +2,13 @@ pub mod Low
 pub mod Totals
 pub mod Members
 pub mod Ascending
-pub mod Residues
+pub mod Pieces
 pub mod Times
 pub mod Powers
 pub mod Merging
 pub mod Sets
 pub mod Sameness
+pub mod Halving
+pub mod Masks
+pub mod Raising
+pub mod Ends

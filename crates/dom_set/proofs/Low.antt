@@ -1,10 +1,8 @@
--- Numbers that agree in the low bits.
-use Rattle.std.proofs.Common.{◌≡◌, ℕ, suc, ◌+◌, ◌-◌, ◌*◌, ◌/◌, ◌%◌, ◌^◌, ◌<◌, ◌≤◌, ◌⊎◌, inl, inr, Bool, true, false, eqb, refl, sym, ap, ◌∙◌, arith}
-use Rattle.std.proofs.lemmas.Bool.{cases_lt, eqb-true, eq-eqb}
-use Rattle.std.proofs.lemmas.Bool.Decides.{nat_tests}
-use Rattle.std.proofs.lemmas.Nat.{pow_pos, mod-pow-add, mod_low, mod_below, div-mul-add, mod-mul-add}
-use Rattle.std.proofs.Math.Nat.{pow-suc, mul-le-mul_left, add-mod, add-mul-mod_self_left, div-add-mod'}
-use Rattle.dom_set.specs.Progressions.{agree, one}
+-- Powers of two, and the numbers that are multiples of one.
+use Rattle.std.proofs.Common.{◌≡◌, ℕ, suc, ◌+◌, ◌-◌, ◌*◌, ◌/◌, ◌%◌, ◌^◌, ◌<◌, ◌≤◌, inl, inr, Bool, true, false, ◌&&◌, eqb, leb, refl, sym, ap, ◌∙◌, arith}
+use Rattle.std.proofs.lemmas.Bool.{cases_lt, eqb-true, leb-true, le-leb, and_parts, and_from, false_from_ne_true}
+use Rattle.std.proofs.lemmas.Nat.{pow_pos, mod-pow-add, mod_low, mod_below}
+use Rattle.std.proofs.Math.Nat.{pow-suc, mul-le-mul_left, mul-mod_left}
 
 pub pow_twice : (k : ℕ) → 2 ^ (k + 1) ≡ 2 ^ k + 2 ^ k
 pow_twice k = let is : k + 1 ≡ suc k = omega arith in rw is (omega (arith, pow-suc 2 k))
@@ -22,72 +20,74 @@ gap s x y pos same lt = elim (cases_lt (x / s) (y / s)) [
   | inr more ↦ omega (arith, mul-le-mul_left s more)
 ]
 
-same_sum : (s a b e : ℕ) → a % s ≡ b % s → (a + e) % s ≡ (b + e) % s
-same_sum s a b e h = add-mod a e s ∙ ap (λ (n : ℕ). (n + e % s) % s) h ∙ sym (add-mod b e s)
-
-turned_back : (s a e : ℕ) → 0 < s → (a + e + (s - e % s)) % s ≡ a % s
-turned_back s a e pos =
-    let is : a + e + (s - e % s) ≡ a + s * (e / s + 1) = omega arith in
-    ap (λ (n : ℕ). n % s) is ∙ add-mul-mod_self_left a s (e / s + 1)
-
-same_part : (s a b e : ℕ) → 0 < s → (a + e) % s ≡ (b + e) % s → a % s ≡ b % s
-same_part s a b e pos h = sym (turned_back s a e pos) ∙ same_sum s (a + e) (b + e) (s - e % s) h ∙ turned_back s b e pos
-
--- sums with one number agree as the numbers do
-pub agree-add : (k a b e : ℕ) → agree k (a + e) (b + e) ≡ agree k a b
-agree-add k a b e = same_tests _ _
-    (λ h. eq-eqb _ _ (same_part (2 ^ k) a b e (pow_pos k) (eqb-true _ _ h)))
-    (λ h. eq-eqb _ _ (same_sum (2 ^ k) a b e (eqb-true _ _ h)))
-
-mod_down : (j k n : ℕ) → j ≤ k → n % 2 ^ k % 2 ^ j ≡ n % 2 ^ j
+pub mod_down : (j k n : ℕ) → j ≤ k → n % 2 ^ k % 2 ^ j ≡ n % 2 ^ j
 mod_down j k n le =
     let is : (k - j) + j ≡ k = omega arith in
     ap (λ (m : ℕ). n % 2 ^ m % 2 ^ j) (sym is) ∙ ap (λ (m : ℕ). m % 2 ^ j) (mod-pow-add n (k - j) j)
     ∙ mod_low (n / 2 ^ j % 2 ^ (k - j)) j (n % 2 ^ j) (mod_below n (2 ^ j) (pow_pos j))
 
--- numbers that agree in more bits agree in fewer
-pub mod_fewer : (j k x y : ℕ) → j ≤ k → x % 2 ^ k ≡ y % 2 ^ k → x % 2 ^ j ≡ y % 2 ^ j
-mod_fewer j k x y le h = sym (mod_down j k x le) ∙ ap (λ (m : ℕ). m % 2 ^ j) h ∙ mod_down j k y le
+-- ---- the multiples between two numbers
 
-upper : (n k : ℕ) → n % 2 ^ (k + 1) ≡ (n / 2 ^ k % 2) * 2 ^ k + n % 2 ^ k
-upper n k = let is : 1 + k ≡ k + 1 = omega arith in ap (λ (m : ℕ). n % 2 ^ m) (sym is) ∙ mod-pow-add n 1 k
+multiple_below : (s n : ℕ) → 0 < s → (n - n % s) % s ≡ 0
+multiple_below s n pos = let is : n - n % s ≡ n / s * s = omega arith in ap (λ (m : ℕ). m % s) is ∙ mul-mod_left (n / s) s
 
-two : (n : ℕ) → n < 2 → (n ≡ 0) ⊎ (n ≡ 1)
-two n lt = elim (cases_lt n 1) [ inl none ↦ inl (omega arith) | inr some ↦ inr (omega arith) ]
+-- first is `low` rounded up to a multiple of s, and last `high` rounded down to one
+pub record IsRounded (s low high first last : ℕ) : Type 0 where
+  pub first_is : first % s ≡ 0
+  pub last_is : last % s ≡ 0
+  pub from : low ≤ first
+  pub to : last ≤ high
+  pub near : first < low + s
+  pub close : high < last + s
 
-next_block : (s a : ℕ) → a + s ≡ (a / s + 1) * s + a % s
-next_block s a = omega (arith, div-add-mod' a s)
+pub rounded : (s low high up down step low' high' : ℕ) → 0 < s → step ≡ s → low' ≡ low → high' ≡ high →
+    up ≡ (low' + (step - 1)) % s → down ≡ high' % s → IsRounded s low high (low' + (step - 1) - up) (high' - down)
+rounded s low high up down step low' high' pos step_is low_is high_is up_is down_is =
+    rw (up_is, down_is, step_is, low_is, high_is) (record {
+      first_is = multiple_below s (low + (s - 1)) pos;
+      last_is = multiple_below s high pos;
+      from = omega (arith, mod_below (low + (s - 1)) s pos);
+      to = omega arith;
+      near = omega (arith, mod_below (low + (s - 1)) s pos);
+      close = omega (arith, mod_below high s pos);
+    })
 
-next_up : (s a : ℕ) → 0 < s → (a + s) / s ≡ a / s + 1
-next_up s a pos = ap (λ (n : ℕ). n / s) (next_block s a) ∙ div-mul-add (a / s + 1) s (a % s) (mod_below a s pos)
+reached : (s low high first last x : ℕ) → 0 < s → IsRounded s low high first last → x % s ≡ 0 → low ≤ x → first ≤ x
+reached s low high first last x pos r is from = elim (cases_lt x first) [
+  | inl before ↦ (let far : x + s ≤ first = gap s x first pos (is ∙ sym r.first_is) before in absurd (omega (arith, r.near)))
+  | inr at ↦ at
+]
 
-next_low : (s a : ℕ) → 0 < s → (a + s) % s ≡ a % s
-next_low s a pos = ap (λ (n : ℕ). n % s) (next_block s a) ∙ mod-mul-add (a / s + 1) s (a % s) (mod_below a s pos)
+within : (s low high first last x : ℕ) → 0 < s → IsRounded s low high first last → x % s ≡ 0 → x ≤ high → x ≤ last
+within s low high first last x pos r is to = elim (cases_lt last x) [
+  | inl past ↦ (let far : last + s ≤ x = gap s last x pos (r.last_is ∙ sym is) past in absurd (omega (arith, r.close)))
+  | inr at ↦ at
+]
 
-other_half : (n : ℕ) → (n + 1) % 2 ≡ 1 - n % 2
-other_half n = omega arith
+pub multiples_are : (s low high first last x : ℕ) → 0 < s → IsRounded s low high first last →
+    ((leb first x && leb x last) && eqb (x % s) 0) ≡ (eqb (x % s) 0 && (leb low x && leb x high))
+multiples_are s low high first last x pos r = same_tests _ _
+    (λ h.
+    let parts = and_parts (leb first x && leb x last) (eqb (x % s) 0) h in
+    let ends = and_parts (leb first x) (leb x last) parts.0 in
+    let from : first ≤ x = leb-true _ _ ends.0 in
+    let to : x ≤ last = leb-true _ _ ends.1 in
+    and_from _ _ parts.1 (and_from _ _ (le-leb low x (omega (arith, r.from))) (le-leb x high (omega (arith, r.to)))))
+    (λ h.
+    let parts = and_parts (eqb (x % s) 0) (leb low x && leb x high) h in
+    let ends = and_parts (leb low x) (leb x high) parts.1 in
+    let is : x % s ≡ 0 = eqb-true _ _ parts.0 in
+    and_from _ _
+    (and_from _ _ (le-leb first x (reached s low high first last x pos r is (leb-true _ _ ends.0)))
+    (le-leb x last (within s low high first last x pos r is (leb-true _ _ ends.1))))
+    parts.0)
 
-by_halves : (s u v x a : ℕ) → x < s → a < s → (u ≡ 0) ⊎ (u ≡ 1) → (v ≡ 0) ⊎ (v ≡ 1) →
-    one (eqb (u * s + x) (v * s + a)) + one (eqb (u * s + x) ((1 - v) * s + a)) ≡ one (eqb x a)
-by_halves s u v x a lx la (inl p) (inl q) = rw (p, q) (zero_zero s x a lx la) where
-  zero_zero : (s x a : ℕ) → x < s → a < s → one (eqb (0 * s + x) (0 * s + a)) + one (eqb (0 * s + x) ((1 - 0) * s + a)) ≡ one (eqb x a)
-  zero_zero s x a lx la = grind (arith, nat_tests)
-by_halves s u v x a lx la (inl p) (inr q) = rw (p, q) (zero_one s x a lx la) where
-  zero_one : (s x a : ℕ) → x < s → a < s → one (eqb (0 * s + x) (1 * s + a)) + one (eqb (0 * s + x) ((1 - 1) * s + a)) ≡ one (eqb x a)
-  zero_one s x a lx la = grind (arith, nat_tests)
-by_halves s u v x a lx la (inr p) (inl q) = rw (p, q) (one_zero s x a lx la) where
-  one_zero : (s x a : ℕ) → x < s → a < s → one (eqb (1 * s + x) (0 * s + a)) + one (eqb (1 * s + x) ((1 - 0) * s + a)) ≡ one (eqb x a)
-  one_zero s x a lx la = grind (arith, nat_tests)
-by_halves s u v x a lx la (inr p) (inr q) = rw (p, q) (one_one s x a lx la) where
-  one_one : (s x a : ℕ) → x < s → a < s → one (eqb (1 * s + x) (1 * s + a)) + one (eqb (1 * s + x) ((1 - 1) * s + a)) ≡ one (eqb x a)
-  one_one s x a lx la = grind (arith, nat_tests)
-
--- the numbers of a class are those of its two halves
-pub halves : (k x a : ℕ) → one (agree (k + 1) x a) + one (agree (k + 1) x (a + 2 ^ k)) ≡ one (agree k x a)
-halves k x a =
-    let pos = pow_pos k in
-    let other : (a + 2 ^ k) / 2 ^ k % 2 ≡ 1 - a / 2 ^ k % 2 = ap (λ (n : ℕ). n % 2) (next_up (2 ^ k) a pos) ∙ other_half (a / 2 ^ k) in
-    let turned : (a + 2 ^ k) % 2 ^ (k + 1) ≡ (1 - a / 2 ^ k % 2) * 2 ^ k + a % 2 ^ k =
-    upper (a + 2 ^ k) k ∙ (λ i. other i * 2 ^ k + next_low (2 ^ k) a pos i) in
-    (λ i. one (eqb (upper x k i) (upper a k i)) + one (eqb (upper x k i) (turned i)))
-    ∙ by_halves (2 ^ k) (x / 2 ^ k % 2) (a / 2 ^ k % 2) (x % 2 ^ k) (a % 2 ^ k) (mod_below x (2 ^ k) pos) (mod_below a (2 ^ k) pos) (two _ (omega arith)) (two _ (omega arith))
+pub no_multiples : (s low high first last x : ℕ) → 0 < s → IsRounded s low high first last → last < first →
+    false ≡ (eqb (x % s) 0 && (leb low x && leb x high))
+no_multiples s low high first last x pos r none = sym (false_from_ne_true _ (λ h.
+    let parts = and_parts (eqb (x % s) 0) (leb low x && leb x high) h in
+    let ends = and_parts (leb low x) (leb x high) parts.1 in
+    let is : x % s ≡ 0 = eqb-true _ _ parts.0 in
+    let from = reached s low high first last x pos r is (leb-true _ _ ends.0) in
+    let to = within s low high first last x pos r is (leb-true _ _ ends.1) in
+    omega arith))

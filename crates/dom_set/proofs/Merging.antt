@@ -1,54 +1,54 @@
--- Progressions of multiples of one step, joined and kept apart.
-use Rattle.std.proofs.Common.{◌≡◌, ℕ, suc, ◌+◌, ◌-◌, ◌%◌, ◌^◌, ◌<◌, ◌≤◌, inl, inr, Bool, true, false, ◌&&◌, ◌||◌, eqb, ltb, leb, max, List, [], ◌∷◌, length, get_or, take, drop, refl, sym, ap, ◌∙◌, arith}
-use Rattle.std.proofs.lemmas.Bool.{cases_lt, le-leb, or_cases, or_left, or_right, or_from, false_from_ne_true}
-use Rattle.std.proofs.lemmas.Bool.Decides.{nat_tests}
+-- Pieces of multiples of one step, joined and kept apart.
+use Rattle.std.proofs.Common.{◌≡◌, ℕ, suc, ◌+◌, ◌-◌, ◌%◌, ◌^◌, ◌<◌, ◌≤◌, inl, inr, Bool, true, false, ◌&&◌, ◌||◌, eqb, leb, max, List, [], ◌∷◌, length, get_or, take, drop, refl, sym, ap, ◌∙◌, arith}
+use Rattle.std.proofs.lemmas.Bool.{cases_lt, eqb-true, or_cases, or_left, or_right, or_from, false_from_ne_true}
+use Rattle.std.proofs.lemmas.Nat.{and_mask}
 use Rattle.std.proofs.lemmas.List.{take_rest, drop_more}
 use Rattle.std.proofs.lemmas.List.Folds.{list_any_more}
 use Rattle.dom_set.specs.Elements.{is_within}
-use Rattle.dom_set.specs.declared.progression.Progression.{Progression}
-use Rattle.dom_set.specs.Progressions.{in_progression, holds, one}
+use Rattle.dom_set.specs.declared.pattern.Pattern.{Pattern}
+use Rattle.dom_set.specs.declared.piece.Piece.{Piece}
+use Rattle.dom_set.specs.Counting.{one}
+use Rattle.dom_set.specs.Patterns.{matches}
+use Rattle.dom_set.specs.Pieces.{in_piece, holds}
 use Rattle.dom_set.proofs.Low.{same_tests, gap}
-use Rattle.dom_set.proofs.Residues.{test, passes, test_from}
+use Rattle.dom_set.proofs.Pieces.{test, passes, test_from}
 
--- the multiples between two numbers
-pub multiples_is : (s last x low high : ℕ) → x < 2 ^ 32 → last ≡ 2 ^ 32 - 1 → 0 % s ≡ 0 →
-    (test s 0 last x && (leb low x && ltb x (high + 1))) ≡ (eqb (x % s) 0 && (leb low x && leb x high))
-multiples_is s last x low high lt is none =
-    let high' : leb x last ≡ true = le-leb x last (omega arith) in
-    let low' : leb 0 x ≡ true = le-leb 0 x (omega arith) in
-    rw (high', low', none) (λ i. eqb (x % s) 0 && (leb low x && below x high i)) where
-      below : (x high : ℕ) → ltb x (high + 1) ≡ leb x high
-      below x high = grind (arith, nat_tests)
+-- the pattern of the multiples of a power of two
+pub multiple_is : (shift : ℕ) (p : Pattern) (x : ℕ) → p.mask ≡ 2 ^ shift - 1 → p.bits ≡ 0 → matches p x ≡ eqb (x % 2 ^ shift) 0
+unfolding matches
+multiple_is shift p x mask bits = rw (mask, bits) (ap (λ (n : ℕ). eqb n 0) (and_mask x shift))
 
-pub joined_is : (s first last first' last' x : ℕ) → 0 < s →
-    first % s ≡ 0 → last % s ≡ 0 → first' % s ≡ 0 → last' % s ≡ 0 → first ≤ last → first ≤ first' → first' ≤ last + s →
-    test s first (max last last') x ≡ (test s first last x || test s first' last' x)
-joined_is s first last first' last' x pos f l f' l' ordered after touching = same_tests _ _
-    (λ h. let p = passes s first (max last last') x h in
-    elim (cases_lt last x) [
-      | inr within ↦ or_left _ _ (test_from s first last x (record { low = p.low; high = within; same = p.same }))
+abbrev multiple : ℕ → ℕ → Bool
+multiple s x = eqb (x % s) 0
+
+pub joined_is : (s low high low' high' x : ℕ) → 0 < s → low % s ≡ 0 → high % s ≡ 0 → low ≤ high → low ≤ low' → low' ≤ high + s →
+    test (multiple s) low (max high high') x ≡ (test (multiple s) low high x || test (multiple s) low' high' x)
+joined_is s low high low' high' x pos l h ordered after touching = same_tests _ _
+    (λ t. let p = passes (multiple s) low (max high high') x t in
+    elim (cases_lt high x) [
+      | inr within ↦ or_left _ _ (test_from (multiple s) low high x (record { above = p.above; below = within; matched = p.matched }))
       | inl past ↦ (
-          let far : last + s ≤ x = gap s last x pos (l ∙ sym f ∙ sym p.same) past in
-          or_right _ _ (test_from s first' last' x (record { low = omega arith; high = omega (arith, p.high); same = p.same ∙ f ∙ sym f' }))
+          let far : high + s ≤ x = gap s high x pos (h ∙ sym (eqb-true _ _ p.matched)) past in
+          or_right _ _ (test_from (multiple s) low' high' x (record { above = omega arith; below = omega (arith, p.below); matched = p.matched }))
           )
     ])
-    (λ h. elim (or_cases (test s first last x) (test s first' last' x) h) [
-      | inl here ↦ (let p = passes s first last x here in
-          test_from s first (max last last') x (record { low = p.low; high = omega (arith, p.high); same = p.same }))
-      | inr there ↦ (let p = passes s first' last' x there in
-          test_from s first (max last last') x (record { low = omega (arith, p.low); high = omega (arith, p.high); same = p.same ∙ f' ∙ sym f }))
+    (λ t. elim (or_cases (test (multiple s) low high x) (test (multiple s) low' high' x) t) [
+      | inl here ↦ (let p = passes (multiple s) low high x here in
+          test_from (multiple s) low (max high high') x (record { above = p.above; below = omega (arith, p.below); matched = p.matched }))
+      | inr there ↦ (let p = passes (multiple s) low' high' x there in
+          test_from (multiple s) low (max high high') x (record { above = omega (arith, p.above); below = omega (arith, p.below); matched = p.matched }))
     ])
 
 -- a number below the first is not held
-below_first : (p : Progression) (x : ℕ) → x < p.first → in_progression p x ≡ false
-unfolding in_progression
-below_first p x lt = false_from_ne_true _ (λ h. let t = passes (2 ^ p.shift) p.first p.last x h in omega (arith, t.low))
+below_first : (p : Piece) (x : ℕ) → x < p.low → in_piece p x ≡ false
+unfolding in_piece
+below_first p x lt = false_from_ne_true _ (λ h. let t = passes (matches p.pattern) p.low p.high x h in omega (arith, t.above))
 
-pub up_to_last : (p : Progression) (x : ℕ) → in_progression p x ≡ true → x ≤ p.last
-unfolding in_progression
-up_to_last p x h = let t = passes (2 ^ p.shift) p.first p.last x h in t.high
+pub up_to_last : (p : Piece) (x : ℕ) → in_piece p x ≡ true → x ≤ p.high
+unfolding in_piece
+up_to_last p x h = let t = passes (matches p.pattern) p.low p.high x h in t.below
 
-pub holds_above : (ps : List Progression) (x : ℕ) → ((k : ℕ) (d : Progression) → k < length ps → x < (get_or ps k d).first) → holds ps x ≡ false
+pub holds_above : (ps : List Piece) (x : ℕ) → ((k : ℕ) (d : Piece) → k < length ps → x < (get_or ps k d).low) → holds ps x ≡ false
 holds_above [] x h = refl
 holds_above (p ∷ ps) x h = or_from _ _ (below_first p x (h 0 p (omega arith))) (holds_above ps x (λ k d lt. h (suc k) d (omega arith)))
 
@@ -56,10 +56,10 @@ one_or : (a b : Bool) → (a ≡ true → b ≡ false) → one (a || b) ≡ one 
 one_or true b h = ap (λ (t : Bool). 1 + one t) (sym (h refl))
 one_or false b h = omega arith
 
--- a progression that ends before the next begins shares nothing with what follows
-pub apart_from_rest : (open' q : Progression) (rest : List Progression) (x : ℕ) → open'.last < q.first →
-    ((k : ℕ) (d : Progression) → k < length rest → q.first ≤ (get_or rest k d).first) →
-    one (in_progression open' x || (in_progression q x || holds rest x)) ≡ one (in_progression open' x) + one (in_progression q x || holds rest x)
+-- a piece that ends before the next begins shares nothing with what follows
+pub apart_from_rest : (open' q : Piece) (rest : List Piece) (x : ℕ) → open'.high < q.low →
+    ((k : ℕ) (d : Piece) → k < length rest → q.low ≤ (get_or rest k d).low) →
+    one (in_piece open' x || (in_piece q x || holds rest x)) ≡ one (in_piece open' x) + one (in_piece q x || holds rest x)
 apart_from_rest open' q rest x before sorted = one_or _ _ (λ h.
     let at = up_to_last open' x h in
     or_from _ _ (below_first q x (omega arith)) (holds_above rest x (λ k d lt. omega (arith, sorted k d lt))))
@@ -68,7 +68,7 @@ pub or_regroup : (a b c : Bool) → ((a || b) || c) ≡ (a || (b || c))
 or_regroup true b c = refl
 or_regroup false b c = refl
 
-pub front_is : (ps : List Progression) (p : Progression) → 1 ≤ length ps → p ≡ get_or ps 0 p → p ∷ take (length ps - 1) (drop 1 ps) ≡ ps
+pub front_is : (ps : List Piece) (p : Piece) → 1 ≤ length ps → p ≡ get_or ps 0 p → p ∷ take (length ps - 1) (drop 1 ps) ≡ ps
 front_is ps p some is = (λ i. is i ∷ take_rest ps 1 i) ∙ sym (drop_more ps 0 p some)
 
 and_or : (a b c : Bool) → ((a && b) || (a && c)) ≡ (a && (b || c))

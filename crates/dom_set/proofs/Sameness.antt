@@ -1,20 +1,22 @@
--- Lists of progressions that hold the same numbers.
+-- Lists of pieces that hold the same numbers.
 use Rattle.std.proofs.Common.{◌≡◌, ℕ, ◌+◌, ◌*◌, ◌^◌, ◌<◌, ◌≤◌, inl, inr, Bool, true, leb, List, [], ◌∷◌, refl, sym, ap, ◌∙◌, arith}
 use Rattle.std.specs.Cmp.Lexicographic.{pointwise}
 use Rattle.std.proofs.lemmas.Bool.{cases_lt, and_parts, false≢true}
-use Rattle.dom_set.specs.declared.progression.Progression.{Progression}
+use Rattle.dom_set.specs.declared.piece.Piece.{Piece}
 use Rattle.dom_set.specs.Elements.{elements_of, is_in}
-use Rattle.dom_set.specs.Progressions.{in_progression, holds, one, times, total, IsApart}
+use Rattle.dom_set.specs.Counting.{one, total}
+use Rattle.dom_set.specs.Patterns.{matches}
+use Rattle.dom_set.specs.Pieces.{in_piece, holds, times, IsApart}
 use Rattle.dom_set.proofs.Totals.{total_same, total_equal}
 use Rattle.dom_set.proofs.Times.{holds_is, times_is}
 use Rattle.dom_set.proofs.Sets.{elements_same, is_in-elements}
 
-pub same_fields : (p q : Progression) (x : ℕ) → p.first ≡ q.first → p.last ≡ q.last → p.shift ≡ q.shift → in_progression p x ≡ in_progression q x
-unfolding in_progression
-same_fields p q x first last shift = rw (first, last, shift) refl
+pub same_fields : (p q : Piece) (x : ℕ) → p.low ≡ q.low → p.high ≡ q.high → p.pattern.mask ≡ q.pattern.mask → p.pattern.bits ≡ q.pattern.bits → in_piece p x ≡ in_piece q x
+unfolding in_piece matches
+same_fields p q x low high mask bits = rw (low, high, mask, bits) refl
 
-pub same_by_place : (E : Progression → Progression → Bool) (ps qs : List Progression) → pointwise E ps qs ≡ true →
-    ((p q : Progression) → E p q ≡ true → (x : ℕ) → in_progression p x ≡ in_progression q x) → (x : ℕ) → times ps x ≡ times qs x
+pub same_by_place : (E : Piece → Piece → Bool) (ps qs : List Piece) → pointwise E ps qs ≡ true →
+    ((p q : Piece) → E p q ≡ true → (x : ℕ) → in_piece p x ≡ in_piece q x) → (x : ℕ) → times ps x ≡ times qs x
 same_by_place E [] [] h each x = refl
 same_by_place E [] (q ∷ qs) h each x = absurd (false≢true h)
 same_by_place E (p ∷ ps) [] h each x = absurd (false≢true h)
@@ -41,7 +43,7 @@ square a le = elim (cases_lt a 1) [
 ]
 
 -- as many common numbers as either has: they are the same
-pub same_from_counts : (ps qs : List Progression) (n : ℕ) → IsApart ps → IsApart qs →
+pub same_from_counts : (ps qs : List Piece) (n : ℕ) → IsApart ps → IsApart qs →
     total (times ps) n ≡ total (times qs) n → total (times ps) n ≡ total (λ x. times ps x * times qs x) n →
     (x : ℕ) → x < n → times ps x ≡ times qs x
 same_from_counts ps qs n a b sizes common x lt =
@@ -49,18 +51,18 @@ same_from_counts ps qs n a b sizes common x lt =
     let right = total_equal (λ x. times ps x * times qs x) (times qs) n (λ x. product_le_right (times ps x) (times qs x) (a x)) (sym common ∙ sizes) x lt in
     sym left ∙ right
 
-pub sizes_from_same : (ps qs : List Progression) (n : ℕ) → ((x : ℕ) → x < n → times ps x ≡ times qs x) → total (times ps) n ≡ total (times qs) n
+pub sizes_from_same : (ps qs : List Piece) (n : ℕ) → ((x : ℕ) → x < n → times ps x ≡ times qs x) → total (times ps) n ≡ total (times qs) n
 sizes_from_same ps qs n h = total_same (times ps) (times qs) n h
 
-pub common_from_same : (ps qs : List Progression) (n : ℕ) → IsApart ps → ((x : ℕ) → x < n → times ps x ≡ times qs x) →
+pub common_from_same : (ps qs : List Piece) (n : ℕ) → IsApart ps → ((x : ℕ) → x < n → times ps x ≡ times qs x) →
     total (times ps) n ≡ total (λ x. times ps x * times qs x) n
 common_from_same ps qs n a h = total_same (times ps) (λ x. times ps x * times qs x) n
     (λ x lt. sym (square (times ps x) (a x)) ∙ ap (λ (t : ℕ). times ps x * t) (h x lt))
 
-pub same_elements : (ps qs : List Progression) → ((x : ℕ) → x < 2 ^ 32 → times ps x ≡ times qs x) → elements_of (holds ps) ≡ elements_of (holds qs)
+pub same_elements : (ps qs : List Piece) → ((x : ℕ) → x < 2 ^ 32 → times ps x ≡ times qs x) → elements_of (holds ps) ≡ elements_of (holds qs)
 same_elements ps qs h = elements_same (holds ps) (holds qs) (λ x lt. holds_is ps x ∙ ap (λ (n : ℕ). leb 1 n) (h x lt) ∙ sym (holds_is qs x))
 
-pub same_times : (ps qs : List Progression) → IsApart ps → IsApart qs → elements_of (holds ps) ≡ elements_of (holds qs) →
+pub same_times : (ps qs : List Piece) → IsApart ps → IsApart qs → elements_of (holds ps) ≡ elements_of (holds qs) →
     (x : ℕ) → x < 2 ^ 32 → times ps x ≡ times qs x
 same_times ps qs a b h x lt =
     times_is ps x a

@@ -1,4 +1,4 @@
--- What progressions that are apart say of the list of their numbers.
+-- What pieces that are apart say of the list of their numbers.
 use Rattle.std.proofs.Common.{◌≡◌, ℕ, suc, ◌+◌, ◌-◌, ◌*◌, ◌%◌, ◌^◌, ◌<◌, ◌≤◌, ◌↔◌, inl, inr, Bool, true, false, cond, ◌&&◌, ◌||◌, not, ltb, leb, List, [], ◌∷◌, length, filter, Option, Some, None, Contains, All, IsNone, refl, sym, ap, ◌∙◌, arith}
 use Rattle.std.specs.List.{find, slice_get}
 use Rattle.std.specs.List.Sorted.{IsStrictlyIncreasing}
@@ -9,9 +9,10 @@ use Rattle.std.specs.Int.{w32, cast_signed}
 use Rattle.std.proofs.lemmas.Int.{to_z_pos}
 use Rattle.std.proofs.lemmas.Bool.Decides.{nat_tests}
 use Rattle.std.proofs.lemmas.Map.Keys.{sorted_from_strictly_increasing}
-use Rattle.dom_set.specs.declared.progression.Progression.{Progression}
+use Rattle.dom_set.specs.declared.piece.Piece.{Piece}
 use Rattle.dom_set.specs.Elements.{elements_of, is_in, first_cyclic, is_signed_lt}
-use Rattle.dom_set.specs.Progressions.{holds, one, times, total, IsApart, IsFirstFrom}
+use Rattle.dom_set.specs.Counting.{one, total}
+use Rattle.dom_set.specs.Pieces.{holds, times, IsApart, IsFirstFrom}
 use Rattle.dom_set.proofs.Totals.{total_same}
 use Rattle.dom_set.proofs.Members.{members, members_same, filter_both, is_in-members, is_in-Contains, Contains-is_in, length-members, slice_get-members, first_is_found, find_none, find_first, members_ascend, members_below}
 use Rattle.dom_set.proofs.Ascending.{same_members}
@@ -35,15 +36,15 @@ filter_is t u w h =
 
 -- ---- questions
 
-pub has_is : (ps : List Progression) (x : ℕ) → x < 2 ^ 32 → (holds ps x ≡ true) ↔ Contains (elements_of (holds ps)) x
+pub has_is : (ps : List Piece) (x : ℕ) → x < 2 ^ 32 → (holds ps x ≡ true) ↔ Contains (elements_of (holds ps)) x
 has_is ps x lt =
     let same = is_in-elements (holds ps) x lt in
     (λ h. is_in-Contains _ x (same ∙ h), λ h. sym same ∙ Contains-is_in _ x h)
 
-once : (ps : List Progression) (n : ℕ) → IsApart ps → total (times ps) n ≡ total (λ x. one (holds ps x)) n
+once : (ps : List Piece) (n : ℕ) → IsApart ps → total (times ps) n ≡ total (λ x. one (holds ps x)) n
 once ps n apart = total_same (times ps) (λ x. one (holds ps x)) n (λ x _. times_is ps x apart)
 
-pub size_is : (ps : List Progression) → IsApart ps → total (times ps) (2 ^ 32) ≡ length (elements_of (holds ps))
+pub size_is : (ps : List Piece) → IsApart ps → total (times ps) (2 ^ 32) ≡ length (elements_of (holds ps))
 size_is ps apart = once ps (2 ^ 32) apart ∙ sym (length-members (holds ps) (2 ^ 32)) ∙ ap length (sym (elements_is (holds ps)))
 
 pub ascending : (t : ℕ → Bool) → IsStrictlyIncreasing (elements_of t)
@@ -54,7 +55,7 @@ pub words : (t : ℕ → Bool) → All (λ x. x < 2 ^ 32) (elements_of t)
 unfolding elements_of
 words t = members_below t (2 ^ 32)
 
-pub nth_is : (ps : List Progression) (n x : ℕ) → IsApart ps → x < 2 ^ 32 → total (times ps) x ≡ n → times ps x ≡ 1 →
+pub nth_is : (ps : List Piece) (n x : ℕ) → IsApart ps → x < 2 ^ 32 → total (times ps) x ≡ n → times ps x ≡ 1 →
     slice_get (elements_of (holds ps)) n ≡ Some x
 nth_is ps n x apart lt below held =
     ap (λ (xs : List ℕ). slice_get xs n) (elements_is (holds ps))
@@ -69,21 +70,21 @@ found t from v lt is =
 none_found : (t : ℕ → Bool) (from : ℕ) → IsFirstFrom t from None → find (leb from) (elements_of t) ≡ None
 none_found t from none = ap (find (leb from)) (elements_is t) ∙ find_none (leb from) t (2 ^ 32) (λ x lt h. none x (leb-true from x h))
 
-held_word : (ps : List Progression) (v : ℕ) → holds ps v ≡ true → v < 2 ^ 32
+held_word : (ps : List Piece) (v : ℕ) → holds ps v ≡ true → v < 2 ^ 32
 held_word ps v h = elim (cases_lt v (2 ^ 32)) [
   | inl lt ↦ lt
   | inr past ↦ absurd (false≢true (sym (holds_is ps v ∙ ap (ltb 0) (times_past ps v past)) ∙ h))
 ]
 
-pub cyclic_here : (ps : List Progression) (pivot v : ℕ) → IsFirstFrom (holds ps) pivot (Some v) → Some v ≡ first_cyclic (elements_of (holds ps)) pivot
+pub cyclic_here : (ps : List Piece) (pivot v : ℕ) → IsFirstFrom (holds ps) pivot (Some v) → Some v ≡ first_cyclic (elements_of (holds ps)) pivot
 cyclic_here ps pivot v is =
     sym (ap (λ (o : Option ℕ). option_or o (slice_get (elements_of (holds ps)) 0)) (found (holds ps) pivot v (held_word ps v is.0) is))
 
-first_of_all : (ps : List Progression) (o : Option ℕ) → IsFirstFrom (holds ps) 0 o → slice_get (elements_of (holds ps)) 0 ≡ o
+first_of_all : (ps : List Piece) (o : Option ℕ) → IsFirstFrom (holds ps) 0 o → slice_get (elements_of (holds ps)) 0 ≡ o
 first_of_all ps None is = first_is_found (elements_of (holds ps)) ∙ none_found (holds ps) 0 is
 first_of_all ps (Some v) is = first_is_found (elements_of (holds ps)) ∙ found (holds ps) 0 v (held_word ps v is.0) is
 
-pub cyclic_round : (ps : List Progression) (pivot : ℕ) (o : Option ℕ) → IsFirstFrom (holds ps) pivot None → IsFirstFrom (holds ps) 0 o →
+pub cyclic_round : (ps : List Piece) (pivot : ℕ) (o : Option ℕ) → IsFirstFrom (holds ps) pivot None → IsFirstFrom (holds ps) 0 o →
     o ≡ first_cyclic (elements_of (holds ps)) pivot
 cyclic_round ps pivot o none is =
     sym (first_of_all ps o is)
@@ -103,7 +104,7 @@ product_one true true = refl
 product_one true false = refl
 product_one false b = omega arith
 
-pub and_is : (ps qs out : List Progression) → IsApart ps → IsApart qs → ((x : ℕ) → times out x ≡ times ps x * times qs x) →
+pub and_is : (ps qs out : List Piece) → IsApart ps → IsApart qs → ((x : ℕ) → times out x ≡ times ps x * times qs x) →
     elements_of (holds out) ≡ filter (is_in (elements_of (holds qs))) (elements_of (holds ps))
 and_is ps qs out a b h = filter_is (holds ps) (is_in (elements_of (holds qs))) (holds out) (λ x lt.
     holds_once out x _ (h x ∙ (λ i. times_is ps x a i * times_is qs x b i) ∙ product_one (holds ps x) (holds qs x))
@@ -119,19 +120,13 @@ some_left false n = all (ltb 0 n) where
   all true = refl
   all false = refl
 
-pub minus_is : (ps qs out : List Progression) → ((x : ℕ) → times out x ≡ cond (holds qs x) 0 (times ps x)) →
+pub minus_is : (ps qs out : List Piece) → ((x : ℕ) → times out x ≡ cond (holds qs x) 0 (times ps x)) →
     elements_of (holds out) ≡ filter (λ x. not (is_in (elements_of (holds qs)) x)) (elements_of (holds ps))
 minus_is ps qs out h = filter_is (holds ps) (λ x. not (is_in (elements_of (holds qs)) x)) (holds out) (λ x lt.
     holds_is out x ∙ ap (ltb 0) (h x) ∙ some_left (holds qs x) (times ps x)
     ∙ (λ i. sym (holds_is ps x) i && not (sym (is_in-elements (holds qs) x lt) i)))
 
-pub minus_apart : (ps qs out : List Progression) → IsApart ps → ((x : ℕ) → times out x ≡ cond (holds qs x) 0 (times ps x)) → IsApart out
-minus_apart ps qs out a h x = omega (arith, h x, less (holds qs x) (times ps x) (a x)) where
-  less : (b : Bool) (n : ℕ) → n ≤ 1 → cond b 0 n ≤ 1
-  less true n le = omega arith
-  less false n le = le
-
-pub shift_is : (ps out : List Progression) (d : ℕ) → ((y : ℕ) → y < 2 ^ 32 → times out y ≡ times ps ((y + (2 ^ 32 - d)) % 2 ^ 32)) →
+pub shift_is : (ps out : List Piece) (d : ℕ) → ((y : ℕ) → y < 2 ^ 32 → times out y ≡ times ps ((y + (2 ^ 32 - d)) % 2 ^ 32)) →
     elements_of (holds out) ≡ elements_of (λ y. is_in (elements_of (holds ps)) ((y + (2 ^ 32 - d)) % 2 ^ 32))
 shift_is ps out d h = elements_same (holds out) (λ y. is_in (elements_of (holds ps)) ((y + (2 ^ 32 - d)) % 2 ^ 32)) (λ y lt.
     holds_is out y ∙ ap (ltb 0) (h y lt) ∙ sym (holds_is ps ((y + (2 ^ 32 - d)) % 2 ^ 32))
@@ -149,7 +144,7 @@ clip_held false n = none (ltb 0 n) where
   none true = refl
   none false = refl
 
-pub clip_is : (ps out : List Progression) (from end : ℕ) (u : ℕ → Bool) → ((x : ℕ) → times out x ≡ cond (leb from x && ltb x end) (times ps x) 0) →
+pub clip_is : (ps out : List Piece) (from end : ℕ) (u : ℕ → Bool) → ((x : ℕ) → times out x ≡ cond (leb from x && ltb x end) (times ps x) 0) →
     ((x : ℕ) → x < 2 ^ 32 → u x ≡ (leb from x && ltb x end)) → elements_of (holds out) ≡ filter u (elements_of (holds ps))
 clip_is ps out from end u h same = filter_is (holds ps) u (holds out) (λ x lt.
     holds_is out x ∙ ap (ltb 0) (h x) ∙ clip_held (leb from x && ltb x end) (times ps x)
@@ -192,19 +187,12 @@ two_clips : (x y n : ℕ) → x < 2 ^ 31 → y < 2 ^ 32 →
     cond (leb 0 y && ltb y x) n 0 + cond (leb (2 ^ 31) y && ltb y (2 ^ 32)) n 0 ≡ cond (ltb y x || leb (2 ^ 31) y) n 0
 two_clips x y n lt ly = grind (arith, nat_tests)
 
-two_clips_le : (x y n : ℕ) → x < 2 ^ 31 → n ≤ 1 → cond (leb 0 y && ltb y x) n 0 + cond (leb (2 ^ 31) y && ltb y (2 ^ 32)) n 0 ≤ 1
-two_clips_le x y n lt le = grind (arith, nat_tests)
-
-pub signed_is : (ps out : List Progression) (x : ℕ) → x < 2 ^ 31 →
+pub signed_is : (ps out : List Piece) (x : ℕ) → x < 2 ^ 31 →
     ((y : ℕ) → times out y ≡ cond (leb 0 y && ltb y x) (times ps y) 0 + cond (leb (2 ^ 31) y && ltb y (2 ^ 32)) (times ps y) 0) →
     elements_of (holds out) ≡ filter (λ y. is_signed_lt y x) (elements_of (holds ps))
 signed_is ps out x lt h = filter_is (holds ps) (λ y. is_signed_lt y x) (holds out) (λ y ly.
     holds_is out y ∙ ap (ltb 0) (h y ∙ two_clips x y (times ps y) lt ly) ∙ clip_held (ltb y x || leb (2 ^ 31) y) (times ps y)
     ∙ (λ i. sym (holds_is ps y) i && sym (less_natural x y lt ly) i))
-
-pub signed_apart : (ps out : List Progression) (x : ℕ) → x < 2 ^ 31 → IsApart ps →
-    ((y : ℕ) → times out y ≡ cond (leb 0 y && ltb y x) (times ps y) 0 + cond (leb (2 ^ 31) y && ltb y (2 ^ 32)) (times ps y) 0) → IsApart out
-signed_apart ps out x lt a h y = omega (arith, h y, two_clips_le x y (times ps y) lt (a y))
 
 -- ---- the laws
 

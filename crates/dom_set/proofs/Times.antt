@@ -1,62 +1,73 @@
--- How many progressions of a list hold a number.
-use Rattle.std.proofs.Common.{◌≡◌, ℕ, ◌+◌, ◌*◌, ◌<◌, ◌≤◌, ◌^◌, inl, inr, Bool, true, false, ◌&&◌, ◌||◌, ltb, List, [], ◌∷◌, ◌++◌, length, get_or, drop, Option, refl, sym, ap, ◌∙◌, arith, zero-add}
+-- How many pieces of a list hold a number.
+use Rattle.std.proofs.Common.{◌≡◌, ℕ, ◌+◌, ◌*◌, ◌<◌, ◌≤◌, ◌^◌, inl, inr, Bool, true, false, cond, ◌&&◌, ◌||◌, ltb, List, [], ◌∷◌, ◌++◌, length, get_or, drop, Option, refl, sym, ap, ◌∙◌, arith, zero-add}
 use Rattle.std.proofs.lemmas.Bool.{cases_lt, lt-ltb, false_from_ne_true}
 use Rattle.std.proofs.lemmas.List.{drop_more, drop_all}
-use Rattle.dom_set.specs.declared.progression.Progression.{Progression}
-use Rattle.dom_set.specs.Progressions.{in_progression, in_piece, holds, one, times, IsApart, total}
-use Rattle.dom_set.proofs.Residues.{passes}
+use Rattle.dom_set.specs.declared.piece.Piece.{Piece}
+use Rattle.dom_set.specs.Counting.{one, total}
+use Rattle.dom_set.specs.Pieces.{in_piece, is_held, holds, times, IsApart}
+use Rattle.dom_set.specs.Patterns.{matches}
+use Rattle.dom_set.proofs.Pieces.{passes}
 use Rattle.dom_set.proofs.Totals.{total_same, total_add, total_zero, total_most}
 
-pub times_append : (ps qs : List Progression) (x : ℕ) → times (ps ++ qs) x ≡ times ps x + times qs x
+pub times_append : (ps qs : List Piece) (x : ℕ) → times (ps ++ qs) x ≡ times ps x + times qs x
 times_append [] qs x = omega arith
 times_append (p ∷ ps) qs x = omega (arith, times_append ps qs x)
 
-pub times_push : (ps : List Progression) (p : Progression) (x : ℕ) → times (ps ++ p ∷ []) x ≡ times ps x + one (in_progression p x)
+pub times_push : (ps : List Piece) (p : Piece) (x : ℕ) → times (ps ++ p ∷ []) x ≡ times ps x + one (in_piece p x)
 times_push ps p x = omega (arith, times_append ps (p ∷ []) x)
 
 -- the rest of a list from a place on, and from the next
-pub rest_is : (ps : List Progression) (i : ℕ) (p : Progression) → i < length ps → p ≡ get_or ps i p → drop i ps ≡ p ∷ drop (i + 1) ps
-rest_is ps i p lt is = drop_more ps i p lt ∙ ap (λ (q : Progression). q ∷ drop (i + 1) ps) (sym is)
+pub rest_is : (ps : List Piece) (i : ℕ) (p : Piece) → i < length ps → p ≡ get_or ps i p → drop i ps ≡ p ∷ drop (i + 1) ps
+rest_is ps i p lt is = drop_more ps i p lt ∙ ap (λ (q : Piece). q ∷ drop (i + 1) ps) (sym is)
 
-pub times_rest : (ps : List Progression) (i : ℕ) (p : Progression) (x : ℕ) → i < length ps → p ≡ get_or ps i p →
-    times (drop i ps) x ≡ one (in_progression p x) + times (drop (i + 1) ps) x
-times_rest ps i p x lt is = ap (λ (qs : List Progression). times qs x) (rest_is ps i p lt is)
+pub times_rest : (ps : List Piece) (i : ℕ) (p : Piece) (x : ℕ) → i < length ps → p ≡ get_or ps i p →
+    times (drop i ps) x ≡ one (in_piece p x) + times (drop (i + 1) ps) x
+times_rest ps i p x lt is = ap (λ (qs : List Piece). times qs x) (rest_is ps i p lt is)
 
-pub times_done : (ps : List Progression) (i : ℕ) (x : ℕ) → length ps ≤ i → times (drop i ps) x ≡ 0
-times_done ps i x le = ap (λ (qs : List Progression). times qs x) (drop_all i ps le)
+pub times_done : (ps : List Piece) (i : ℕ) (x : ℕ) → length ps ≤ i → times (drop i ps) x ≡ 0
+times_done ps i x le = ap (λ (qs : List Piece). times qs x) (drop_all i ps le)
 
--- ---- sums over a list, a progression at a time
+pub none_less : (b : Bool) (n : ℕ) → n ≡ 0 → cond b 0 n ≡ 0
+none_less true n none = refl
+none_less false n none = none
 
-pub total_rest : (ps : List Progression) (i : ℕ) (p : Progression) (n : ℕ) → i < length ps → p ≡ get_or ps i p →
-    total (times (drop i ps)) n ≡ total (λ x. one (in_progression p x)) n + total (times (drop (i + 1) ps)) n
+-- a piece, and of the list what it leaves
+pub times_with : (b : Bool) (n : ℕ) → cond b 0 n + one b ≡ cond b 1 n
+times_with true n = refl
+times_with false n = omega arith
+
+-- ---- sums over a list, a piece at a time
+
+pub total_rest : (ps : List Piece) (i : ℕ) (p : Piece) (n : ℕ) → i < length ps → p ≡ get_or ps i p →
+    total (times (drop i ps)) n ≡ total (λ x. one (in_piece p x)) n + total (times (drop (i + 1) ps)) n
 total_rest ps i p n lt is =
-    total_same (times (drop i ps)) (λ x. one (in_progression p x) + times (drop (i + 1) ps) x) n (λ x _. times_rest ps i p x lt is)
-    ∙ total_add (λ x. one (in_progression p x)) (times (drop (i + 1) ps)) n
+    total_same (times (drop i ps)) (λ x. one (in_piece p x) + times (drop (i + 1) ps) x) n (λ x _. times_rest ps i p x lt is)
+    ∙ total_add (λ x. one (in_piece p x)) (times (drop (i + 1) ps)) n
 
-pub total_done : (ps : List Progression) (i n : ℕ) → length ps ≤ i → total (times (drop i ps)) n ≡ 0
+pub total_done : (ps : List Piece) (i n : ℕ) → length ps ≤ i → total (times (drop i ps)) n ≡ 0
 total_done ps i n le = total_zero (times (drop i ps)) n (λ x _. times_done ps i x le)
 
-pub total_fits : (ps : List Progression) (n : ℕ) → IsApart ps → total (times ps) n ≤ n
+pub total_fits : (ps : List Piece) (n : ℕ) → IsApart ps → total (times ps) n ≤ n
 total_fits ps n apart = total_most (times ps) n apart
 
 one_both : (a b : Bool) (t : ℕ) → one a * (one b + t) ≡ one (a && b) + one a * t
 one_both true b t = omega arith
 one_both false b t = omega arith
 
-pub shared_rest : (p : Progression) (qs : List Progression) (i : ℕ) (q : Progression) (piece : Option Progression) (n : ℕ) →
-    i < length qs → q ≡ get_or qs i q → ((x : ℕ) → in_piece piece x ≡ (in_progression p x && in_progression q x)) →
-    total (λ x. one (in_progression p x) * times (drop i qs) x) n
-    ≡ total (λ x. one (in_piece piece x)) n + total (λ x. one (in_progression p x) * times (drop (i + 1) qs) x) n
+pub shared_rest : (p : Piece) (qs : List Piece) (i : ℕ) (q : Piece) (piece : Option Piece) (n : ℕ) →
+    i < length qs → q ≡ get_or qs i q → ((x : ℕ) → is_held piece x ≡ (in_piece p x && in_piece q x)) →
+    total (λ x. one (in_piece p x) * times (drop i qs) x) n
+    ≡ total (λ x. one (is_held piece x)) n + total (λ x. one (in_piece p x) * times (drop (i + 1) qs) x) n
 shared_rest p qs i q piece n lt is both =
-    total_same (λ x. one (in_progression p x) * times (drop i qs) x) (λ x. one (in_piece piece x) + one (in_progression p x) * times (drop (i + 1) qs) x) n
+    total_same (λ x. one (in_piece p x) * times (drop i qs) x) (λ x. one (is_held piece x) + one (in_piece p x) * times (drop (i + 1) qs) x) n
     (λ x _.
-    ap (λ (t : ℕ). one (in_progression p x) * t) (times_rest qs i q x lt is)
-    ∙ one_both (in_progression p x) (in_progression q x) (times (drop (i + 1) qs) x)
-    ∙ ap (λ (b : Bool). one b + one (in_progression p x) * times (drop (i + 1) qs) x) (sym (both x)))
-    ∙ total_add (λ x. one (in_piece piece x)) (λ x. one (in_progression p x) * times (drop (i + 1) qs) x) n
+    ap (λ (t : ℕ). one (in_piece p x) * t) (times_rest qs i q x lt is)
+    ∙ one_both (in_piece p x) (in_piece q x) (times (drop (i + 1) qs) x)
+    ∙ ap (λ (b : Bool). one b + one (in_piece p x) * times (drop (i + 1) qs) x) (sym (both x)))
+    ∙ total_add (λ x. one (is_held piece x)) (λ x. one (in_piece p x) * times (drop (i + 1) qs) x) n
 
-pub shared_done : (p : Progression) (qs : List Progression) (i n : ℕ) → length qs ≤ i → total (λ x. one (in_progression p x) * times (drop i qs) x) n ≡ 0
-shared_done p qs i n le = total_zero _ n (λ x _. ap (λ (t : ℕ). one (in_progression p x) * t) (times_done qs i x le) ∙ omega arith)
+pub shared_done : (p : Piece) (qs : List Piece) (i n : ℕ) → length qs ≤ i → total (λ x. one (in_piece p x) * times (drop i qs) x) n ≡ 0
+shared_done p qs i n le = total_zero _ n (λ x _. ap (λ (t : ℕ). one (in_piece p x) * t) (times_done qs i x le) ∙ omega arith)
 
 one_le : (b : Bool) → one b ≤ 1
 one_le true = omega arith
@@ -68,41 +79,55 @@ product_le a b la lb = elim (cases_lt a 1) [
   | inr some ↦ (let e : a * b ≡ b = (let o : a ≡ 1 = omega arith in ap (λ (n : ℕ). n * b) o ∙ omega arith) in omega arith)
 ]
 
-pub shared_fits : (p : Progression) (qs : List Progression) (n : ℕ) → IsApart qs → total (λ x. one (in_progression p x) * times qs x) n ≤ n
-shared_fits p qs n apart = total_most _ n (λ x. product_le (one (in_progression p x)) (times qs x) (one_le (in_progression p x)) (apart x))
+pub shared_fits : (p : Piece) (qs : List Piece) (n : ℕ) → IsApart qs → total (λ x. one (in_piece p x) * times qs x) n ≤ n
+shared_fits p qs n apart = total_most _ n (λ x. product_le (one (in_piece p x)) (times qs x) (one_le (in_piece p x)) (apart x))
 
-pub common_rest : (ps qs : List Progression) (i : ℕ) (p : Progression) (n : ℕ) → i < length ps → p ≡ get_or ps i p →
+pub common_rest : (ps qs : List Piece) (i : ℕ) (p : Piece) (n : ℕ) → i < length ps → p ≡ get_or ps i p →
     total (λ x. times (drop i ps) x * times qs x) n
-    ≡ total (λ x. one (in_progression p x) * times qs x) n + total (λ x. times (drop (i + 1) ps) x * times qs x) n
+    ≡ total (λ x. one (in_piece p x) * times qs x) n + total (λ x. times (drop (i + 1) ps) x * times qs x) n
 common_rest ps qs i p n lt is =
-    total_same (λ x. times (drop i ps) x * times qs x) (λ x. one (in_progression p x) * times qs x + times (drop (i + 1) ps) x * times qs x) n
+    total_same (λ x. times (drop i ps) x * times qs x) (λ x. one (in_piece p x) * times qs x + times (drop (i + 1) ps) x * times qs x) n
     (λ x _. ap (λ (t : ℕ). t * times qs x) (times_rest ps i p x lt is) ∙ omega arith)
-    ∙ total_add (λ x. one (in_progression p x) * times qs x) (λ x. times (drop (i + 1) ps) x * times qs x) n
+    ∙ total_add (λ x. one (in_piece p x) * times qs x) (λ x. times (drop (i + 1) ps) x * times qs x) n
 
-pub common_done : (ps qs : List Progression) (i n : ℕ) → length ps ≤ i → total (λ x. times (drop i ps) x * times qs x) n ≡ 0
+pub common_done : (ps qs : List Piece) (i n : ℕ) → length ps ≤ i → total (λ x. times (drop i ps) x * times qs x) n ≡ 0
 common_done ps qs i n le = total_zero _ n (λ x _. ap (λ (t : ℕ). t * times qs x) (times_done ps i x le) ∙ omega arith)
 
-pub common_apart : (ps qs : List Progression) → IsApart ps → IsApart qs → (x : ℕ) → times ps x * times qs x ≤ 1
+pub common_apart : (ps qs : List Piece) → IsApart ps → IsApart qs → (x : ℕ) → times ps x * times qs x ≤ 1
 common_apart ps qs a b x = product_le (times ps x) (times qs x) (a x) (b x)
 
-pub common_fits : (ps qs : List Progression) (n : ℕ) → IsApart ps → IsApart qs → total (λ x. times ps x * times qs x) n ≤ n
+pub common_fits : (ps qs : List Piece) (n : ℕ) → IsApart ps → IsApart qs → total (λ x. times ps x * times qs x) n ≤ n
 common_fits ps qs n a b = total_most _ n (common_apart ps qs a b)
 
--- ---- whether some progression holds a number
+-- ---- whether some piece holds a number
 
 step_holds : (a : Bool) (h : Bool) (n : ℕ) → h ≡ ltb 0 n → (a || h) ≡ ltb 0 (one a + n)
 step_holds true h n e = sym (lt-ltb 0 (1 + n) (omega arith))
 step_holds false h n e = e ∙ ap (ltb 0) (sym (zero-add n))
 
-pub holds_is : (ps : List Progression) (x : ℕ) → holds ps x ≡ ltb 0 (times ps x)
+pub holds_is : (ps : List Piece) (x : ℕ) → holds ps x ≡ ltb 0 (times ps x)
 holds_is [] x = refl
-holds_is (p ∷ ps) x = step_holds (in_progression p x) (holds ps x) (times ps x) (holds_is ps x)
+holds_is (p ∷ ps) x = step_holds (in_piece p x) (holds ps x) (times ps x) (holds_is ps x)
+
+pub with_held : (b : Bool) (n : ℕ) → ltb 0 (cond b 1 n) ≡ (ltb 0 n || b)
+with_held true n = all (ltb 0 n) where
+  all : (a : Bool) → true ≡ (a || true)
+  all true = refl
+  all false = refl
+with_held false n = none (ltb 0 n) where
+  none : (a : Bool) → a ≡ (a || false)
+  none true = refl
+  none false = refl
+
+pub with_apart : (b : Bool) (n : ℕ) → n ≤ 1 → cond b 1 n ≤ 1
+with_apart true n le = omega arith
+with_apart false n le = le
 
 positive_one : (b : Bool) → ltb 0 (one b) ≡ b
 positive_one true = refl
 positive_one false = refl
 
-pub holds_once : (ps : List Progression) (x : ℕ) (b : Bool) → times ps x ≡ one b → holds ps x ≡ b
+pub holds_once : (ps : List Piece) (x : ℕ) (b : Bool) → times ps x ≡ one b → holds ps x ≡ b
 holds_once ps x b h = holds_is ps x ∙ ap (ltb 0) h ∙ positive_one b
 
 one_positive : (n : ℕ) → n ≤ 1 → one (ltb 0 n) ≡ n
@@ -111,18 +136,21 @@ one_positive n le = elim (cases_lt 0 n) [
   | inr none ↦ (let e : n ≡ 0 = omega arith in rw e refl)
 ]
 
--- where the progressions are apart, at most one does
-pub times_is : (ps : List Progression) (x : ℕ) → IsApart ps → times ps x ≡ one (holds ps x)
+-- where the pieces are apart, at most one does
+pub times_is : (ps : List Piece) (x : ℕ) → IsApart ps → times ps x ≡ one (holds ps x)
 times_is ps x apart = sym (one_positive (times ps x) (apart x)) ∙ ap one (sym (holds_is ps x))
 
--- the numbers of progressions are words
-past_last : (p : Progression) (x : ℕ) → 2 ^ 32 ≤ x → in_progression p x ≡ false
-unfolding in_progression
-past_last p x le = false_from_ne_true _ (λ h. let t = passes (2 ^ p.shift) p.first p.last x h in omega (arith, t.high, p.fits))
+-- the numbers of pieces are words
+pub word_held : (p : Piece) (x : ℕ) → in_piece p x ≡ true → x < 2 ^ 32
+unfolding in_piece
+word_held p x h = let t = passes (matches p.pattern) p.low p.high x h in omega (arith, t.below, p.fits)
 
-pub times_past : (ps : List Progression) (x : ℕ) → 2 ^ 32 ≤ x → times ps x ≡ 0
+past_last : (p : Piece) (x : ℕ) → 2 ^ 32 ≤ x → in_piece p x ≡ false
+past_last p x le = false_from_ne_true _ (λ h. omega (arith, word_held p x h))
+
+pub times_past : (ps : List Piece) (x : ℕ) → 2 ^ 32 ≤ x → times ps x ≡ 0
 times_past [] x le = refl
 times_past (p ∷ ps) x le = (λ i. one (past_last p x le i) + times_past ps x le i)
 
-pub apart_below : (ps : List Progression) → ((x : ℕ) → x < 2 ^ 32 → times ps x ≤ 1) → IsApart ps
+pub apart_below : (ps : List Piece) → ((x : ℕ) → x < 2 ^ 32 → times ps x ≤ 1) → IsApart ps
 apart_below ps h x = elim (cases_lt x (2 ^ 32)) [ inl lt ↦ h x lt | inr past ↦ omega (arith, times_past ps x past) ]

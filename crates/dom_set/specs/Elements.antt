@@ -1,5 +1,5 @@
 -- Finite sets of 32-bit numbers, as the ascending lists of their elements.
-use Rattle.std.specs.Prelude.{ℕ, zero, suc, ◌^◌, ◌==◌, ◌&&◌, nat_le, int_lt, Bool, List, [], ◌∷◌, ◌++◌, Option, filter, slice_get}
+use Rattle.std.specs.Prelude.{ℕ, zero, suc, ◌^◌, ◌==◌, ◌&&◌, bit_and, nat_le, int_lt, Bool, List, [], ◌∷◌, ◌++◌, Option, filter, slice_get}
 use Rattle.std.specs.List.{list_any, find}
 use Rattle.std.specs.Option.{option_or}
 use Rattle.std.specs.Int.{w32, cast_signed}
@@ -20,6 +20,10 @@ is_in xs x = list_any (λ y. y == x) xs
 -- whether the number is in one of the ranges, each from a lowest number to a highest
 abbrev pub is_within : List (ℕ × ℕ) → ℕ → Bool
 is_within ranges x = list_any (λ r. nat_le r.0 x && nat_le x r.1) ranges
+
+-- whether the number matches one of the patterns, each a mask and the bits that the number has under it
+abbrev pub is_matching : List (ℕ × ℕ) → ℕ → Bool
+is_matching patterns x = list_any (λ p. bit_and x p.0 == p.1) patterns
 
 -- the first from the pivot upwards, or the first of all where there is none
 abbrev pub first_cyclic : List ℕ → ℕ → Option ℕ

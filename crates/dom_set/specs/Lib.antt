@@ -1,3 +1,5 @@
 pub mod Elements
 pub mod Laws
-pub mod Progressions
+pub mod Counting
+pub mod Patterns
+pub mod Pieces

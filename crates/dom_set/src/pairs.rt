@@ -1,13 +1,15 @@
-// From pairs of ends to progressions that are apart.
+// From pairs of ends to pieces that are apart.
 ghost use Rattle.std.specs.Prelude.{◌≡◌, ℕ, ◌+◌, ◌^◌, ◌<◌, ◌≤◌, ◌↔◌, ◌&&◌, ◌||◌, ◌==◌, ◌%◌, nat_le, ◌∷◌, IfOk, IfSome, OnOk, All, IsTrue};
 ghost use Rattle.std.specs.List.Sorted.{IsNonDecreasingBy};
 ghost use Rattle.std.specs.Int.{IsPowerOfTwo};
 ghost use Rattle.dom_set.specs.Elements.{is_within};
-ghost use Rattle.dom_set.specs.Progressions.{in_progression, in_piece, one, times, holds, IsApart, IsMultiples};
+ghost use Rattle.dom_set.specs.Counting.{one};
+ghost use Rattle.dom_set.specs.Pieces.{in_piece, is_held, times, holds, IsApart, IsMultiples};
 
 use crate::error::OutOfMemory;
-use crate::progression::Progression;
-use crate::steps;
+use crate::pattern::Pattern;
+use crate::piece::Piece;
+use crate::steps::{low_bits, step};
 use std::alloc::Global;
 
 /// The exponent of a power of two.
@@ -20,27 +22,28 @@ fn exponent(n: u32) -> u32
 }
 
 /// The multiples of 2^shift from one number to another.
-fn multiples(low: u32, high: u32, shift: u32) -> Option<Progression>
+fn multiples(low: u32, high: u32, shift: u32) -> Option<Piece>
     requires { shift < 32 }
     ensures multiples { IfSome result (IsMultiples shift) }
     ensures held { (x : ℕ) → x < 2 ^ 32 →
-        in_piece result x ≡ (x % 2 ^ shift == 0 && (nat_le low x && nat_le x high)) }
+        is_held result x ≡ (x % 2 ^ shift == 0 && (nat_le low x && nat_le x high)) }
 {
-    let all = Progression {
-        first: 0,
-        last: u32::MAX,
-        shift,
-    };
-    all.clipped(u64::from(low), u64::from(high) + 1)
+    let up = u64::from(low) + (step(shift) - 1);
+    let first = up - low_bits(up, shift);
+    let high = u64::from(high);
+    let last = high - low_bits(high, shift);
+    if last < first {
+        return None;
+    }
+    Some(Piece {
+        low: first as u32,
+        high: last as u32,
+        pattern: Pattern::multiples(shift),
+    })
 }
 
 /// Appends the multiples of 2^shift from one number to another.
-fn push_multiples(
-    out: &mut Vec<Progression>,
-    low: u32,
-    high: u32,
-    shift: u32,
-) -> Result<(), OutOfMemory>
+fn push_multiples(out: &mut Vec<Piece>, low: u32, high: u32, shift: u32) -> Result<(), OutOfMemory>
     requires { shift < 32 }
     ensures multiples { OnOk result
         (All (IsMultiples shift) out.old.items → All (IsMultiples shift) out.new.items) }
@@ -54,7 +57,7 @@ fn push_multiples(
 }
 
 /// The multiples of 2^shift in each pair.
-fn aligned(alloc: Global, pairs: &[(u32, u32)], shift: u32) -> Result<Vec<Progression>, OutOfMemory>
+fn aligned(alloc: Global, pairs: &[(u32, u32)], shift: u32) -> Result<Vec<Piece>, OutOfMemory>
     requires { shift < 32 }
     ensures multiples { IfOk result (λ v. All (IsMultiples shift) v.items) }
     ensures held { IfOk result (λ v. (x : ℕ) → x < 2 ^ 32 →
@@ -67,45 +70,45 @@ fn aligned(alloc: Global, pairs: &[(u32, u32)], shift: u32) -> Result<Vec<Progre
     Ok(out)
 }
 
-/// Whether a progression that begins no lower goes on with the first or overlaps it.
-fn touches(p: Progression, q: Progression) -> bool
-    ensures { IsTrue result ↔ (q.first ≤ p.last + 2 ^ p.shift) }
+/// Whether a piece that begins no lower goes on with the first or overlaps it.
+fn touches(p: Piece, q: Piece) -> bool
+    ensures { IsTrue result ↔ (q.low ≤ p.high + p.pattern.mask + 1) }
 {
-    u64::from(q.first) <= u64::from(p.last) + steps::step(p.shift)
+    u64::from(q.low) <= u64::from(p.high) + u64::from(p.pattern.mask) + 1
 }
 
-/// The numbers of two progressions of one step of which the second begins no lower, and touches the
+/// The numbers of two pieces of one step of which the second begins no lower, and touches the
 /// first.
-fn joined(p: Progression, q: Progression, shift: u32) -> Progression
+fn joined(p: Piece, q: Piece, shift: u32) -> Piece
     requires first { IsMultiples shift p }
     requires second { IsMultiples shift q }
-    requires ordered { p.first ≤ q.first }
-    requires touching { q.first ≤ p.last + 2 ^ p.shift }
+    requires ordered { p.low ≤ q.low }
+    requires touching { q.low ≤ p.high + p.pattern.mask + 1 }
     ensures multiples { IsMultiples shift result }
-    ensures first { result.first ≡ p.first }
+    ensures first { result.low ≡ p.low }
     ensures held { (x : ℕ) →
-        in_progression result x ≡ (in_progression p x || in_progression q x) }
+        in_piece result x ≡ (in_piece p x || in_piece q x) }
 {
-    Progression {
-        first: p.first,
-        last: p.last.max(q.last),
-        shift,
+    Piece {
+        low: p.low,
+        high: p.high.max(q.high),
+        pattern: p.pattern,
     }
 }
 
-/// The numbers of the first progression and the rest, all of one step and in the order of their
+/// The numbers of the first piece and the rest, all of one step and in the order of their
 /// first numbers, each once.
 fn merged_from(
     alloc: Global,
-    first: Progression,
-    rest: &[Progression],
+    first: Piece,
+    rest: &[Piece],
     shift: u32,
-) -> Result<Vec<Progression>, OutOfMemory>
+) -> Result<Vec<Piece>, OutOfMemory>
     requires first { IsMultiples shift first }
     requires rest { All (IsMultiples shift) rest.now }
-    requires sorted { IsNonDecreasingBy (λ p. p.first) (first ∷ rest.now) }
+    requires sorted { IsNonDecreasingBy (λ p. p.low) (first ∷ rest.now) }
     ensures { IfOk result (λ v. (x : ℕ) →
-        times v.items x ≡ one (in_progression first x || holds rest.now x)) }
+        times v.items x ≡ one (in_piece first x || holds rest.now x)) }
 {
     let mut out = Vec::new(alloc);
     let mut open = first;
@@ -121,14 +124,10 @@ fn merged_from(
     Ok(out)
 }
 
-/// The numbers of progressions of one step in the order of their first numbers, each once.
-fn merged(
-    alloc: Global,
-    sorted: &[Progression],
-    shift: u32,
-) -> Result<Vec<Progression>, OutOfMemory>
+/// The numbers of pieces of one step in the order of their first numbers, each once.
+fn merged(alloc: Global, sorted: &[Piece], shift: u32) -> Result<Vec<Piece>, OutOfMemory>
     requires multiples { All (IsMultiples shift) sorted.now }
-    requires sorted { IsNonDecreasingBy (λ p. p.first) sorted.now }
+    requires sorted { IsNonDecreasingBy (λ p. p.low) sorted.now }
     ensures { IfOk result (λ v. (x : ℕ) → times v.items x ≡ one (holds sorted.now x)) }
 {
     match sorted {
@@ -137,12 +136,8 @@ fn merged(
     }
 }
 
-/// The multiples of a power of two in the ranges, as progressions that are apart.
-pub fn ranges_of(
-    alloc: Global,
-    pairs: &[(u32, u32)],
-    align: u32,
-) -> Result<Vec<Progression>, OutOfMemory>
+/// The multiples of a power of two in the ranges, as pieces that are apart.
+pub fn pieces_of(alloc: Global, pairs: &[(u32, u32)], align: u32) -> Result<Vec<Piece>, OutOfMemory>
     requires { IsPowerOfTwo align }
     ensures apart { IfOk result (λ v. IsApart v.items) }
     ensures held { IfOk result (λ v. (x : ℕ) → x < 2 ^ 32 →
@@ -150,7 +145,7 @@ pub fn ranges_of(
 {
     let shift = exponent(align);
     let mut all = aligned(alloc, pairs, shift)?;
-    all.sort_unstable_by_key(|p| p.first);
-    let ranges = merged(alloc, &all, shift)?;
-    Ok(ranges)
+    all.sort_unstable_by_key(|p| p.low);
+    let pieces = merged(alloc, &all, shift)?;
+    Ok(pieces)
 }

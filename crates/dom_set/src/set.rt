@@ -2,19 +2,19 @@
 ghost use Rattle.std.specs.Prelude.{◌≡◌, ℕ, ◌+◌, ◌-◌, ◌^◌, ◌%◌, ◌<◌, ◌≤◌, ◌↔◌, ◌==◌, ◌&&◌, [], length, filter, not, nat_lt, Some, slice_get, IfOk, IsTrue, IsNone, All, Contains};
 ghost use Rattle.std.specs.List.Sorted.{IsStrictlyIncreasing};
 ghost use Rattle.std.specs.Int.{IsPowerOfTwo};
-ghost use Rattle.dom_set.specs.Elements.{elements_of, is_in, is_within, is_signed_lt, first_cyclic};
+ghost use Rattle.dom_set.specs.Elements.{elements_of, is_in, is_within, is_matching, is_signed_lt, first_cyclic};
 
 use crate::error::OutOfMemory;
-use crate::progression::Progression;
+use crate::piece::Piece;
 use crate::steps::END;
-use crate::{pairs, ranges};
+use crate::{lists, pairs};
 use std::alloc::Global;
 use std::marker::Model;
 
 /// A finite set of 32-bit numbers.
 #[derive(Drop)]
 pub struct Set {
-    ranges: Vec<Progression>,
+    pieces: Vec<Piece>,
 }
 
 impl Model for Set {
@@ -23,11 +23,11 @@ impl Model for Set {
     ghost Value = { List ℕ };
 
     ghost use Rattle.dom_set.specs.Elements.{elements_of};
-    ghost use Rattle.dom_set.specs.Progressions.{holds, IsApart};
+    ghost use Rattle.dom_set.specs.Pieces.{holds, IsApart};
 
-    ghost view = { λ s. elements_of (holds s.ranges.items) };
+    ghost view = { λ s. elements_of (holds s.pieces.items) };
 
-    ghost invariant = { λ s. IsApart s.ranges.items };
+    ghost invariant = { λ s. IsApart s.pieces.items };
 }
 
 impl Set {
@@ -36,7 +36,7 @@ impl Set {
         ensures { result ≡ [] }
     {
         Set {
-            ranges: Vec::new(alloc),
+            pieces: Vec::new(alloc),
         }
     }
 
@@ -45,7 +45,7 @@ impl Set {
         ensures { IfOk result (λ s. s ≡ self.now) }
     {
         Ok(Set {
-            ranges: Vec::from_slice(alloc, &self.ranges)?,
+            pieces: Vec::from_slice(alloc, &self.pieces)?,
         })
     }
 
@@ -55,8 +55,17 @@ impl Set {
         requires { IsPowerOfTwo align }
         ensures { IfOk result (λ s. s ≡ elements_of (λ x. x % align == 0 && is_within ranges.now x)) }
     {
-        let ranges = pairs::ranges_of(alloc, ranges, align)?;
-        Ok(Set { ranges })
+        let pieces = pairs::pieces_of(alloc, ranges, align)?;
+        Ok(Set { pieces })
+    }
+
+    /// The numbers that match one of the patterns. Each pattern is a mask and the bits that a number has
+    /// under it; nothing matches one with a bit outside its mask.
+    pub fn from_patterns(alloc: Global, patterns: &[(u32, u32)]) -> Result<Set, OutOfMemory>
+        ensures { IfOk result (λ s. s ≡ elements_of (is_matching patterns.now)) }
+    {
+        let pieces = lists::matching(alloc, patterns)?;
+        Ok(Set { pieces })
     }
 
     /// Whether the number is an element.
@@ -64,7 +73,7 @@ impl Set {
         ensures element { IsTrue result ↔ Contains self.now x }
         ensures test { result ≡ is_in self.now x }
     {
-        ranges::any_has(&self.ranges, x)
+        lists::any_has(&self.pieces, x)
     }
 
     /// How many elements there are.
@@ -74,7 +83,7 @@ impl Set {
         ensures ascending { IsStrictlyIncreasing self.now }
         ensures words { All (λ x. x < 2 ^ 32) self.now }
     {
-        ranges::count_below(&self.ranges, END)
+        lists::count_below(&self.pieces, END)
     }
 
     /// The element with so many below it.
@@ -82,7 +91,7 @@ impl Set {
         requires { n < length self.now }
         ensures { slice_get self.now n ≡ Some result }
     {
-        ranges::nth(&self.ranges, n)
+        lists::nth(&self.pieces, n)
     }
 
     /// The first element from the pivot upwards, or the first of all where there is none.
@@ -90,9 +99,9 @@ impl Set {
         ensures first { result ≡ first_cyclic self.now pivot }
         ensures none { IsNone result ↔ (self.now ≡ []) }
     {
-        match ranges::first_from(&self.ranges, pivot) {
+        match lists::first_from(&self.pieces, pivot) {
             Some(x) => Some(x),
-            None => ranges::first_from(&self.ranges, 0),
+            None => lists::first_from(&self.pieces, 0),
         }
     }
 
@@ -100,16 +109,16 @@ impl Set {
     pub fn and(&self, alloc: Global, other: &Set) -> Result<Set, OutOfMemory>
         ensures { IfOk result (λ s. s ≡ filter (is_in other.now) self.now) }
     {
-        let ranges = ranges::common(alloc, &self.ranges, &other.ranges)?;
-        Ok(Set { ranges })
+        let pieces = lists::common(alloc, &self.pieces, &other.pieces)?;
+        Ok(Set { pieces })
     }
 
     /// The elements that are not in the other set.
     pub fn minus(&self, alloc: Global, other: &Set) -> Result<Set, OutOfMemory>
         ensures { IfOk result (λ s. s ≡ filter (λ x. not (is_in other.now x)) self.now) }
     {
-        let ranges = ranges::minus(alloc, &self.ranges, &other.ranges)?;
-        Ok(Set { ranges })
+        let pieces = lists::minus(alloc, &self.pieces, &other.pieces)?;
+        Ok(Set { pieces })
     }
 
     /// Each element plus the distance, modulo 2^32.
@@ -117,31 +126,31 @@ impl Set {
         ensures { IfOk result (λ s. s ≡
             elements_of (λ y. is_in self.now ((y + (2 ^ 32 - distance)) % 2 ^ 32))) }
     {
-        let ranges = ranges::shifted(alloc, &self.ranges, distance)?;
-        Ok(Set { ranges })
+        let pieces = lists::shifted(alloc, &self.pieces, distance)?;
+        Ok(Set { pieces })
     }
 
     /// The elements that are less than the number.
     pub fn below(&self, alloc: Global, x: u32) -> Result<Set, OutOfMemory>
         ensures { IfOk result (λ s. s ≡ filter (λ y. nat_lt y x) self.now) }
     {
-        let mut ranges = Vec::new(alloc);
-        ranges::push_clipped(&mut ranges, &self.ranges, 0, u64::from(x))?;
-        Ok(Set { ranges })
+        let mut pieces = Vec::new(alloc);
+        lists::push_clipped(&mut pieces, &self.pieces, 0, u64::from(x))?;
+        Ok(Set { pieces })
     }
 
     /// The elements that are less than the number, both read as signed numbers.
     pub fn signed_below(&self, alloc: Global, x: u32) -> Result<Set, OutOfMemory>
         ensures { IfOk result (λ s. s ≡ filter (λ y. is_signed_lt y x) self.now) }
     {
-        let mut ranges = Vec::new(alloc);
+        let mut pieces = Vec::new(alloc);
         if x >= LEAST {
-            ranges::push_clipped(&mut ranges, &self.ranges, u64::from(LEAST), u64::from(x))?;
-            return Ok(Set { ranges });
+            lists::push_clipped(&mut pieces, &self.pieces, u64::from(LEAST), u64::from(x))?;
+            return Ok(Set { pieces });
         }
-        ranges::push_clipped(&mut ranges, &self.ranges, 0, u64::from(x))?;
-        ranges::push_clipped(&mut ranges, &self.ranges, u64::from(LEAST), END)?;
-        Ok(Set { ranges })
+        lists::push_clipped(&mut pieces, &self.pieces, 0, u64::from(x))?;
+        lists::push_clipped(&mut pieces, &self.pieces, u64::from(LEAST), END)?;
+        Ok(Set { pieces })
     }
 }
 
@@ -158,7 +167,7 @@ impl PartialEq for Set {
         ensures value { result ≡ pointwise nat_eq self.now other.now }
         ensures same { IsTrue result ↔ (self.now ≡ other.now) }
     {
-        ranges::are_same(&self.ranges, &other.ranges)
+        lists::are_same(&self.pieces, &other.pieces)
     }
 }
 

@@ -35,6 +35,79 @@ const ROWS: [Row; 17] = [
     ),
 ];
 
+/// Patterns, and the numbers that match one of them in ascending order: none at all, one with a bit
+/// outside its mask, all bits, bits that are free far apart, and patterns that overlap.
+const MATCHING: [(&[(u32, u32)], &[u32]); 7] = [
+    (&[], &[]),
+    (&[(1, 2)], &[]),
+    (&[(u32::MAX, 7)], &[7]),
+    (
+        &[(0xffff_fff5, 0x8000_0005)],
+        &[0x8000_0005, 0x8000_0007, 0x8000_000d, 0x8000_000f],
+    ),
+    (
+        &[(0xffef_ffbd, 0)],
+        &[0, 2, 0x40, 0x42, 0x10_0000, 0x10_0002, 0x10_0040, 0x10_0042],
+    ),
+    (
+        &[(0xffff_fff8, 8), (0xffff_ffea, 8)],
+        &[8, 9, 10, 11, 12, 13, 14, 15, 24, 25, 28, 29],
+    ),
+    (
+        &[
+            (0x7fff_fffe, 4),
+            (0xffff_fffe, 4),
+            (0, 1),
+            (u32::MAX, u32::MAX),
+        ],
+        &[4, 5, 0x8000_0004, 0x8000_0005, u32::MAX],
+    ),
+];
+
+/// Patterns, how many numbers match one of them, one of these, and how many of them are below it.
+const SIZES: [(&[(u32, u32)], u64, u32, u64); 12] = [
+    (&[(0, 0)], 1 << 32, 0xdead_beef, 0xdead_beef),
+    (&[(3, 0)], 1 << 30, 20, 5),
+    (
+        &[(0xfff0_0000, 0x8000_0000)],
+        1 << 20,
+        0x8001_2345,
+        0x1_2345,
+    ),
+    (&[(u32::MAX, 7)], 1, 7, 0),
+    (&[(0xf0f0_0f0f, 0x1010_0101)], 1 << 16, 0x1112_3141, 0x1234),
+    (&[(0xf0f0_0f0f, 0x1010_0101)], 1 << 16, 0x1f1f_f1f1, 0xffff),
+    (&[(0xffa1_e655, 0)], 1 << 12, 0x22, 5),
+    (&[(0xffa1_e655, 0)], 1 << 12, 0x5e_19aa, 0xfff),
+    (&[(3, 0), (12, 8)], 7 << 28, 0x1000_000a, 0x700_0004),
+    (
+        &[(12, 8), (3, 0), (12, 8)],
+        7 << 28,
+        0xffff_fffc,
+        (7 << 28) - 1,
+    ),
+    (
+        &[(0x8000_0001, 1), (1, 2)],
+        1 << 30,
+        0x7fff_ffff,
+        (1 << 30) - 1,
+    ),
+    (&[(0x8000_0000, 0x8000_0000)], 1 << 31, 0x8000_0000, 0),
+];
+
+/// Patterns, and ranges with a power of two whose multiples in them are the same numbers.
+const SAME: [(&[(u32, u32)], Row); 6] = [
+    (&[(0, 0)], (&[(0, u32::MAX)], 1)),
+    (&[(3, 0)], (&[(0, u32::MAX)], 4)),
+    (
+        &[(0xfff0_0000, 0x8000_0000)],
+        (&[(0x8000_0000, 0x800f_ffff)], 1),
+    ),
+    (&[(1, 0), (1, 1)], (&[(0, u32::MAX)], 1)),
+    (&[(0x8000_0fff, 0)], (&[(0, 0x7fff_ffff)], 4096)),
+    (&[(12, 16), (3, 4)], (&[], 1)),
+];
+
 /// Distances and bounds.
 const NUMBERS: [u32; 11] = [
     0,
@@ -93,17 +166,22 @@ fn multiples(alloc: Global, row: Row) -> Result<Vec<u32>, AllocError> {
 }
 
 #[tactic(auto, using(crate::proofs::Powers::power_from_test))]
-fn case_of(rt: &impl Abort, alloc: Global, row: Row) -> Result<Case, Fail> {
+fn set_of(rt: &impl Abort, alloc: Global, row: Row) -> Result<Set, Fail> {
     assert!(rt; row.1.is_power_of_two());
-    let set = Set::from_ranges(alloc, row.0, row.1)?;
-    let list = multiples(alloc, row)?;
-    Ok(Case { set, list })
+    Ok(Set::from_ranges(alloc, row.0, row.1)?)
 }
 
 fn cases(rt: &impl Abort, alloc: Global) -> Result<Vec<Case>, Fail> {
     let mut out = Vec::new(alloc);
     for row in ROWS {
-        out.push(case_of(rt, alloc, row)?)?;
+        let set = set_of(rt, alloc, row)?;
+        let list = multiples(alloc, row)?;
+        out.push(Case { set, list })?;
+    }
+    for (patterns, elements) in MATCHING {
+        let set = Set::from_patterns(alloc, patterns)?;
+        let list = Vec::from_slice(alloc, elements)?;
+        out.push(Case { set, list })?;
     }
     Ok(out)
 }
@@ -258,5 +336,91 @@ fn a_set_is_what_was_taken_off_and_what_was_left(rt: HostRuntime) -> Result<(), 
         assert!(rt; all.minus(alloc, &others)? == case.set);
         assert!(rt; others.and(alloc, &case.set)?.size() == 0);
     }
+    Ok(())
+}
+
+#[test]
+fn numbers_of_patterns_are_counted_and_found(rt: HostRuntime) -> Result<(), Fail> {
+    let alloc = rt.alloc();
+    for (patterns, size, x, place) in SIZES {
+        let set = Set::from_patterns(alloc, patterns)?;
+        assert_eq!(rt; set.size(), size);
+        assert!(rt; place < set.size());
+        assert_eq!(rt; set.nth(place), x);
+        assert!(rt; set.has(x));
+        assert_eq!(rt; set.first_from(x), Some(x));
+        assert_eq!(rt; set.below(alloc, x)?.size(), place);
+    }
+    Ok(())
+}
+
+#[test]
+fn the_next_number_that_matches_is_found(rt: HostRuntime) -> Result<(), Fail> {
+    let alloc = rt.alloc();
+    let set = Set::from_patterns(alloc, &[(0xf0f0_0f0f, 0x1010_0101)])?;
+    assert_eq!(rt; set.first_from(0), Some(0x1010_0101));
+    assert_eq!(rt; set.first_from(0x1010_0112), Some(0x1010_0121));
+    assert_eq!(rt; set.first_from(0x1010_01f2), Some(0x1010_1101));
+    assert_eq!(rt; set.first_from(0x1f1f_f1f2), Some(0x1010_0101));
+    assert_eq!(rt; set.below(alloc, 0x1010_0200)?.size(), 16);
+    let ends = Set::from_patterns(alloc, &[(0xff, 0xf1), (3, 0)])?;
+    assert_eq!(rt; set.and(alloc, &ends)?.size(), 1 << 12);
+    assert_eq!(rt; set.minus(alloc, &ends)?.size(), 15 << 12);
+    Ok(())
+}
+
+#[test]
+fn patterns_and_ranges_make_the_same_sets(rt: HostRuntime) -> Result<(), Fail> {
+    let alloc = rt.alloc();
+    for (patterns, row) in SAME {
+        let set = Set::from_patterns(alloc, patterns)?;
+        let ranges = set_of(&rt, alloc, row)?;
+        assert!(rt; set == ranges);
+        assert!(rt; ranges == set);
+        for x in NUMBERS {
+            assert!(rt; set.below(alloc, x)? == ranges.below(alloc, x)?);
+            assert!(rt; set.signed_below(alloc, x)? == ranges.signed_below(alloc, x)?);
+            assert!(rt; set.shift(alloc, x)? == ranges.shift(alloc, x)?);
+        }
+    }
+    Ok(())
+}
+
+#[test]
+fn what_two_sets_share_and_what_one_leaves_is_all(rt: HostRuntime) -> Result<(), Fail> {
+    let alloc = rt.alloc();
+    for a in SIZES {
+        let first = Set::from_patterns(alloc, a.0)?;
+        for b in SIZES {
+            let second = Set::from_patterns(alloc, b.0)?;
+            let common = first.and(alloc, &second)?;
+            let rest = first.minus(alloc, &second)?;
+            assert_eq!(rt; common.size() + rest.size(), a.1);
+            assert_eq!(rt; rest.and(alloc, &second)?.size(), 0);
+            assert!(rt; common == second.and(alloc, &first)?);
+            assert!(rt; first.minus(alloc, &rest)? == common);
+        }
+    }
+    Ok(())
+}
+
+#[test]
+fn numbers_of_patterns_are_moved_round(rt: HostRuntime) -> Result<(), Fail> {
+    let alloc = rt.alloc();
+    let seven_of_sixteen = Set::from_patterns(alloc, &[(3, 0), (12, 8)])?;
+    for x in NUMBERS {
+        let moved = seven_of_sixteen.shift(alloc, x)?;
+        assert_eq!(rt; moved.size(), 7 << 28);
+        assert!(rt; moved.has(x));
+        assert!(rt; moved.has(x.wrapping_add(10)));
+        assert!(rt; !moved.has(x.wrapping_add(7)));
+        assert!(rt; moved.shift(alloc, x.wrapping_neg())? == seven_of_sixteen);
+    }
+    let below = Set::from_patterns(alloc, &[(0xffa1_e655, 0)])?;
+    let moved = below.shift(alloc, 5)?;
+    assert_eq!(rt; moved.size(), 1 << 12);
+    assert_eq!(rt; moved.first_from(0), Some(5));
+    assert_eq!(rt; moved.first_from(8), Some(13));
+    assert_eq!(rt; moved.first_from(0x5e_19ae), Some(0x5e_19af));
     Ok(())
 }

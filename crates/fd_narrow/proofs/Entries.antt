@@ -1,7 +1,8 @@
 -- What tables say of variables.
-use Rattle.std.proofs.Common.{◌≡◌, ℕ, ◌≤◌, ⊎_elim, not, Bool, true, false, List, [], ◌∷◌, ◌++◌, Option, Some, None, IsTrue, length, slice_get, get_or, nat_lt, refl, sym, ap, ◌∙◌, subst, arith, eqb-true}
+use Rattle.std.proofs.Common.{◌≡◌, ℕ, ◌≤◌, ◌==◌, ⊎_elim, not, Bool, true, false, List, [], ◌∷◌, ◌++◌, Option, Some, None, IsTrue, length, slice_get, get_or, nat_lt, refl, sym, ap, ◌∙◌, subst, arith, eqb-true}
 use Rattle.std.specs.List.{filter}
 use Rattle.std.proofs.lemmas.Bool.{ltb-true}
+use Rattle.std.proofs.lemmas.Bool.Decides.{nat_tests}
 use Rattle.std.proofs.lemmas.Option.{slice_get_read}
 use Rattle.dom_set.specs.Elements.{is_in, is_within}
 use Rattle.fd_prob.specs.declared.slot.Slot.{Slot}
@@ -9,7 +10,7 @@ use Rattle.fd_prob.specs.Relations.{agrees, is_held, value_of}
 use Rattle.fd_narrow.specs.Narrowing.{domain_in}
 use Rattle.fd_narrow.specs.Spans.{IsOfRanges}
 use Rattle.fd_narrow.specs.Steps.{IsValueIn, IsValueOutside, Leaves}
-use Rattle.fd_narrow.specs.Tables.{AreListed, AreRefused, is_listed, is_refused}
+use Rattle.fd_narrow.specs.Tables.{AreListed, AreOthers, AreRefused, is_listed, is_other, is_refused}
 use Rattle.fd_narrow.proofs.Compositions.{weakened}
 use Rattle.fd_narrow.proofs.Members.{is_in-filter, joined}
 use Rattle.fd_narrow.proofs.Sameness.{none_in}
@@ -30,6 +31,18 @@ refused_pushed table values indices i v entry out before j h = ⊎_elim
 
 pub refused_more : (table : List (Option ℕ)) (values : List ℕ) (indices new : List (ℕ × ℕ)) (i v : ℕ) → slice_get table i ≡ Some (Some v) → is_in values v ≡ false → AreRefused table values indices → new ≡ indices ++ (i, i) ∷ [] → AreRefused table values new
 refused_more table values indices new i v entry out before is = subst (AreRefused table values) (sym is) (refused_pushed table values indices i v entry out before)
+
+unequal : (a b : ℕ) → (a ≡ b → ⊥) → (a == b) ≡ false
+unequal a b apart = grind (arith, nat_tests)
+
+others_pushed : (table : List (Option ℕ)) (indices : List (ℕ × ℕ)) (i v : ℕ) → slice_get table i ≡ Some (Some v) → (v ≡ i → ⊥) → AreOthers table indices → AreOthers table (indices ++ (i, i) ∷ [])
+others_pushed table indices i v entry other before j h = ⊎_elim
+    (λ k. before j k)
+    (λ k. subst (λ (n : ℕ). IsTrue (is_other n (slice_get table n))) (at_place i j k) (subst (λ (e : Option (Option ℕ)). IsTrue (is_other i e)) (sym entry) (ap not (unequal v i other))))
+    (pushed_splits indices (i, i) j h)
+
+pub others_more : (table : List (Option ℕ)) (indices new : List (ℕ × ℕ)) (i v : ℕ) → slice_get table i ≡ Some (Some v) → (v ≡ i → ⊥) → AreOthers table indices → new ≡ indices ++ (i, i) ∷ [] → AreOthers table new
+others_more table indices new i v entry other before is = subst (AreOthers table) (sym is) (others_pushed table indices i v entry other before)
 
 listed_kept : (e : Option (Option ℕ)) (values : List (ℕ × ℕ)) (span : ℕ × ℕ) → IsTrue (is_listed values e) → IsTrue (is_listed (values ++ span ∷ []) e)
 listed_kept (Some (Some v)) values span h = pushed_kept values span v h
@@ -57,6 +70,22 @@ pub index_narrows : (a b : List (List ℕ)) (index value : Slot) (table : List (
 index_narrows a b index value table values set ranges at_value refused is leaves = weakened (IsValueOutside index set) (λ x. IsTrue (is_held x index value table)) a b
     (λ x inside held small. ⊎_elim
     (λ k. absurd (not_both (slice_get table (value_of x index)) values (value_of x value) (refused (value_of x index) (is.within (value_of x index) k)) held (subst (λ (d : List ℕ). IsTrue (is_in d (value_of x value))) (sym at_value) (inside value))))
+    (λ k. k)
+    (true_or_false (is_in set (value_of x index)))) leaves
+
+-- an entry other than its index is not the variable's own value
+not_own : (i : ℕ) (e : Option (Option ℕ)) → IsTrue (is_other i e) → IsTrue (agrees e i) → ⊥
+not_own i (Some (Some w)) other held = both (w == i) other held where
+  both : (b : Bool) → IsTrue (not b) → IsTrue b → ⊥
+  both true h k = cc h
+  both false h k = cc k
+not_own i (Some None) other held = cc other
+not_own i None other held = cc other
+
+pub own_narrows : (a b : List (List ℕ)) (index : Slot) (table : List (Option ℕ)) (set : List ℕ) (ranges : List (ℕ × ℕ)) → AreOthers table ranges → IsOfRanges ranges set → Leaves (IsValueOutside index set) a b → Leaves (λ x. IsTrue (is_held x index index table)) a b
+own_narrows a b index table set ranges others is leaves = weakened (IsValueOutside index set) (λ x. IsTrue (is_held x index index table)) a b
+    (λ x inside held small. ⊎_elim
+    (λ k. absurd (not_own (value_of x index) (slice_get table (value_of x index)) (others (value_of x index) (is.within (value_of x index) k)) held))
     (λ k. k)
     (true_or_false (is_in set (value_of x index)))) leaves
 

@@ -1,7 +1,6 @@
 -- What the targets of jumps say of variables.
-use Rattle.std.proofs.Common.{◌≡◌, ◌==◌, ℕ, ◌+◌, ◌-◌, ◌%◌, ◌<◌, ◌^◌, ◌&&◌, ◌||◌, ◌⊎◌, not, Bool, true, false, List, [], ◌∷◌, IsTrue, inl, inr, refl, ap, ◌∙◌, subst, arith, eq-eqb}
+use Rattle.std.proofs.Common.{◌≡◌, ◌==◌, ℕ, ◌+◌, ◌-◌, ◌%◌, ◌<◌, ◌^◌, ◌&&◌, ◌||◌, not, Bool, true, false, List, [], ◌∷◌, IsTrue, refl, ap, ◌∙◌, subst, arith, eq-eqb}
 use Rattle.std.specs.List.{filter}
-use Rattle.std.proofs.lemmas.Bool.{cases_lt}
 use Rattle.dom_set.specs.Elements.{elements_of, is_in, is_within}
 use Rattle.dom_set.specs.Laws.{ElementsPass, IsInTests}
 use Rattle.fd_prob.specs.declared.problem.Assignment.{Assignment}
@@ -36,9 +35,6 @@ module _ (pass : ElementsPass) (tests : IsInTests) where
   even_has set evens even is_evens is v small zeroth h =
       let here : is_in evens v ≡ true = ap (λ (d : List ℕ). is_in d v) is_evens ∙ is_in-elements_of pass tests (λ x. x % 2 == 0 && is_within ((0, 2 ^ 32 - 1) ∷ []) x) v small ∙ joined (v % 2 == 0) (is_within ((0, 2 ^ 32 - 1) ∷ []) v) (eq-eqb (v % 2) 0 zeroth) (pushed_has [] (0, 2 ^ 32 - 1) v (omega arith) (omega arith)) in
       ap (λ (d : List ℕ). is_in d v) is ∙ is_in-filter (is_in evens) set v ∙ joined (is_in evens v) (is_in set v) here h
-
-parity : (v : ℕ) → (v % 2 ≡ 0) ⊎ (v % 2 ≡ 1)
-parity v = elim (cases_lt (v % 2) 1) [ inl h ↦ inl (omega (arith, h)) | inr h ↦ inr (omega (arith, h)) ]
 
 pub indirect_narrows : (a b c : List (List ℕ)) (set sums : List ℕ) → HasOddToo set sums → Leaves (λ x. IsTrue (is_in sums ((value_of x slots.A + value_of x slots.Imm) % 2 ^ 32))) a b → Leaves (λ x. IsTrue (is_in sums ((value_of x slots.Imm + value_of x slots.A) % 2 ^ 32))) b c → Leaves (λ x. IsTrue (is_in set ((value_of x slots.A + value_of x slots.Imm) % 2 ^ 32 - (value_of x slots.A + value_of x slots.Imm) % 2 ^ 32 % 2))) a c
 indirect_narrows a b c set sums has one two =

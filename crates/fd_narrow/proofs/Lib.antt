@@ -10,6 +10,7 @@ pub mod Ranks
 pub mod Comparing
 pub mod RowParts
 pub mod Jumps
-pub mod Subsets
-pub mod Settable
+pub mod Legality
+pub mod Origins
 pub mod Operands
+pub mod Quarters

@@ -1,46 +1,77 @@
 -- What is written to control and status registers.
-use Rattle.std.proofs.Common.{◌≡◌, ℕ, ◌<◌, ◌≤◌, ◌^◌, ⊎_elim, Bool, true, false, nat_eq, bit_or, List, [], ◌∷◌, ◌++◌, Some, None, IsTrue, refl, sym, ◌∙◌, subst, arith, eqb-true}
-use Rattle.std.specs.Prelude.{if◌then◌else◌}
-use Rattle.dom_set.specs.Elements.{is_in}
+use Rattle.std.proofs.Common.{◌≡◌, ◌==◌, ℕ, ◌<◌, ◌≤◌, ◌^◌, ◌&&◌, ⊎_elim, inl, inr, Bool, true, false, nat_eq, ◌||◌, All, List, [], ◌∷◌, Option, Some, None, IsTrue, length, refl, sym, ap, ◌∙◌, subst, arith, eqb-true}
+use Rattle.std.specs.List.{filter, find, list_any}
+use Rattle.std.specs.Prelude.{◌↔◌, if◌then◌else◌}
 use Rattle.std.proofs.lemmas.Bool.Decides.{nat_tests}
-use Rattle.rv_csr.specs.Table.{is_legal_at}
+use Rattle.dom_set.specs.Elements.{is_in, is_within}
+use Rattle.rv_csr.specs.declared.table.Register.{Register}
+use Rattle.rv_csr.specs.Table.{address_of, is_legal_at, is_legal_for, registers}
+use Rattle.fd_prob.specs.declared.problem.Assignment.{Assignment}
 use Rattle.fd_prob.specs.declared.slot.Slot.{Slot}
 use Rattle.fd_prob.specs.declared.slot.Slot.TheVariants as slots
 use Rattle.fd_prob.specs.Relations.{is_none_or_legal, value_of}
-use Rattle.fd_narrow.specs.declared.writes.Change.TheVariants.{Sets}
-use Rattle.fd_narrow.specs.declared.writes.Write.{Write}
-use Rattle.fd_narrow.specs.Legal.{HasLegalAt, HasSettableAt}
+use Rattle.fd_narrow.specs.declared.sources.Made.{Made}
+use Rattle.fd_narrow.specs.declared.writes.Change.{Change}
+use Rattle.fd_narrow.specs.Narrowing.{IsInside, domain_in}
+use Rattle.fd_narrow.specs.Sources.{CanBe, IsLegalSource, made}
+use Rattle.fd_narrow.specs.Spans.{IsOfRanges}
 use Rattle.fd_narrow.specs.Steps.{IsValueIn, Leaves}
-use Rattle.fd_narrow.specs.Writes.{AreIllegal, IsLegalOperand, completed, written}
+use Rattle.fd_narrow.specs.Writes.{IsLegalFrom, IsLegalOperand, by_register, changed}
 use Rattle.fd_narrow.proofs.Compositions.{weakened}
-use Rattle.fd_narrow.proofs.Spans.{pushed_splits}
+use Rattle.fd_narrow.proofs.Members.{element, is_in-filter, joined, right, same}
+use Rattle.fd_narrow.proofs.Sameness.{none_in}
+use Rattle.fd_narrow.proofs.Spans.{true_or_false}
+use Rattle.fd_narrow.proofs.Totals.{there}
 
 pub no_register : (n v : ℕ) → 2 ^ 16 ≤ n → is_legal_at n v ≡ false
 no_register n v h = grind (arith, nat_tests)
 
-at_place : (i j : ℕ) → (i ≤ j) × (j ≤ i) → i ≡ j
-at_place i j h = omega (arith, h.0, h.1)
+-- what is written, where something is, and else that nothing is
+if_written : (b : Bool) (csr n : ℕ) → b ≡ false → IsTrue (is_none_or_legal csr (if b then None else Some n)) → IsTrue (is_legal_at csr n)
+if_written true csr n e h = absurd (cc e)
+if_written false csr n e h = h
 
-illegal_pushed : (write : Write) (ranges : List (ℕ × ℕ)) (value : ℕ) → AreIllegal write ranges → is_none_or_legal write.csr (completed write value) ≡ false → AreIllegal write (ranges ++ (value, value) ∷ [])
-illegal_pushed write ranges value before illegal v h = ⊎_elim
-    (λ k. before v k)
-    (λ k. subst (λ (n : ℕ). is_none_or_legal write.csr (completed write n) ≡ false) (at_place value v k) illegal)
-    (pushed_splits ranges (value, value) v h)
+pub sources_narrow : (a b : List (List ℕ)) (csr : ℕ) (how : Made) (zero : Bool) (s t : Slot) (known : Option ℕ) (set : List ℕ) → ((x : Assignment) → IsInside a x → CanBe known (value_of x t)) → ((x : Assignment) → IsInside a x → value_of x t < 2 ^ 32) → ((v : ℕ) → v < 2 ^ 32 → IsTrue (is_in set v) ↔ IsLegalSource csr how known zero v) → Leaves (IsValueIn s set) a b → Leaves (IsLegalFrom csr how zero s t) a b
+sources_narrow a b csr how zero s t known set can words is leaves = weakened (IsValueIn s set) (IsLegalFrom csr how zero s t) a b
+    (λ x inside from small. (is (value_of x s) small).1 (⊎_elim inl (λ k. inr (value_of x t, words x inside, can x inside, k)) from)) leaves
 
-pub illegal_more : (write : Write) (ranges new : List (ℕ × ℕ)) (value : ℕ) (legal : Bool) → AreIllegal write ranges → legal ≡ is_none_or_legal write.csr (completed write value) → legal ≡ false → new ≡ ranges ++ (value, value) ∷ [] → AreIllegal write new
-illegal_more write ranges new value legal before is illegal end = subst (AreIllegal write) (sym end) (illegal_pushed write ranges value before (sym is ∙ illegal))
+pub old_narrows : (a b : List (List ℕ)) (csr : ℕ) (how : Made) (change : Change) (zero : Bool) (s : Slot) → ((old operand : ℕ) → made how old operand ≡ changed change old operand) → ((x : Assignment) → IsInside a x → (zero && nat_eq (value_of x s) 0) ≡ false) → Leaves (IsLegalFrom csr how false slots.OldCsr s) a b → Leaves (IsLegalOperand csr change zero s) a b
+old_narrows a b csr how change zero s makes writes leaves = weakened (IsLegalFrom csr how false slots.OldCsr s) (IsLegalOperand csr change zero s) a b
+    (λ x inside h. inr (subst (λ (n : ℕ). IsTrue (is_legal_at csr n)) (sym (makes (value_of x slots.OldCsr) (value_of x s))) (if_written (zero && nat_eq (value_of x s) 0) csr (changed change (value_of x slots.OldCsr) (value_of x s)) (writes x inside) h))) leaves
 
-pub legal_narrows : (a b : List (List ℕ)) (s : Slot) (csr : ℕ) (legal : List ℕ) → HasLegalAt csr legal → Leaves (IsValueIn s legal) a b → Leaves (λ x. IsTrue (is_legal_at csr (value_of x s))) a b
-legal_narrows a b s csr legal has leaves = weakened (IsValueIn s legal) (λ x. IsTrue (is_legal_at csr (value_of x s))) a b (λ x inside h small. has (value_of x s) small h) leaves
+pub operand_narrows : (a b : List (List ℕ)) (csr : ℕ) (how : Made) (change : Change) (zero : Bool) (s : Slot) → ((old operand : ℕ) → made how operand old ≡ changed change old operand) → Leaves (IsLegalFrom csr how zero s slots.OldCsr) a b → Leaves (IsLegalOperand csr change zero s) a b
+operand_narrows a b csr how change zero s makes leaves = weakened (IsLegalFrom csr how zero s slots.OldCsr) (IsLegalOperand csr change zero s) a b
+    (λ x inside h. ⊎_elim inl
+    (λ writes. inr (subst (λ (n : ℕ). IsTrue (is_legal_at csr n)) (sym (makes (value_of x slots.OldCsr) (value_of x s))) (if_written (zero && nat_eq (value_of x s) 0) csr (changed change (value_of x slots.OldCsr) (value_of x s)) writes h)))
+    (true_or_false (zero && nat_eq (value_of x s) 0))) leaves
 
--- a word that is set so that a legal one comes of it, or that sets nothing
-settable_of : (csr old v : ℕ) (zero : Bool) (set : List ℕ) → HasSettableAt csr set → v < 2 ^ 32 → IsTrue (is_none_or_legal csr (written Sets zero old v)) → IsTrue (is_in set v)
-settable_of csr old v false set has small h = has.bits v old small h
-settable_of csr old v true set has small h = by_zero (nat_eq v 0) refl h where
-  by_zero : (b : Bool) → nat_eq v 0 ≡ b → IsTrue (is_none_or_legal csr (if b then None else Some (bit_or old v))) → IsTrue (is_in set v)
-  by_zero true e k = subst (λ (n : ℕ). IsTrue (is_in set n)) (sym (eqb-true v 0 e)) has.nothing
-  by_zero false e k = has.bits v old small k
+pub register_narrows : (a b : List (List ℕ)) (csr : ℕ) (change : Change) → ((x : Assignment) → IsInside a x → nat_eq (value_of x slots.Rs1) 0 ≡ false) → Leaves (IsLegalOperand csr change false slots.A) a b → Leaves (λ x. IsTrue (is_none_or_legal csr (by_register change x))) a b
+register_narrows a b csr change writes leaves = weakened (IsLegalOperand csr change false slots.A) (λ x. IsTrue (is_none_or_legal csr (by_register change x))) a b
+    (λ x inside h. if_written (nat_eq (value_of x slots.Rs1) 0) csr (changed change (value_of x slots.OldCsr) (value_of x slots.A)) (writes x inside) h) leaves
 
-pub settable_narrows : (a b : List (List ℕ)) (s : Slot) (csr : ℕ) (zero : Bool) (set : List ℕ) → HasSettableAt csr set → Leaves (IsValueIn s set) a b → Leaves (IsLegalOperand csr Sets zero s) a b
-settable_narrows a b s csr zero set has leaves = weakened (IsValueIn s set) (IsLegalOperand csr Sets zero s) a b
-    (λ x inside h small. settable_of csr (value_of x slots.OldCsr) (value_of x s) zero set has small h) leaves
+pub rs1_narrows : (a b : List (List ℕ)) (csr : ℕ) (how : Made) (change : Change) (known : Option ℕ) (set operands some x0 : List ℕ) → ((old operand : ℕ) → made how operand old ≡ changed change old operand) → ((x : Assignment) → IsInside a x → CanBe known (value_of x slots.OldCsr)) → ((x : Assignment) → IsInside a x → value_of x slots.OldCsr < 2 ^ 32) → ((v : ℕ) → v < 2 ^ 32 → IsTrue (is_in set v) ↔ IsLegalSource csr how known false v) → operands ≡ domain_in a slots.A → All (λ v. v < 2 ^ 32) operands → some ≡ filter (is_in set) operands → length some ≡ 0 → IsOfRanges ((0, 0) ∷ []) x0 → Leaves (IsValueIn slots.Rs1 x0) a b → Leaves (λ x. IsTrue (is_none_or_legal csr (by_register change x))) a b
+rs1_narrows a b csr how change known set operands some x0 makes can words is at_a all_words filtered none is_x0 leaves = weakened (IsValueIn slots.Rs1 x0) (λ x. IsTrue (is_none_or_legal csr (by_register change x))) a b
+    (λ x inside h small. ⊎_elim
+    (λ k. is_x0.all (value_of x slots.Rs1) small (subst (λ (n : ℕ). IsTrue (is_within ((0, 0) ∷ []) n)) (sym (eqb-true (value_of x slots.Rs1) 0 k)) refl))
+    (λ k. absurd (missed x inside (if_written (nat_eq (value_of x slots.Rs1) 0) csr (changed change (value_of x slots.OldCsr) (value_of x slots.A)) k h)))
+    (true_or_false (nat_eq (value_of x slots.Rs1) 0))) leaves where
+      missed : (x : Assignment) → IsInside a x → IsTrue (is_legal_at csr (changed change (value_of x slots.OldCsr) (value_of x slots.A))) → ⊥
+      missed x inside legal =
+          let here : IsTrue (is_in operands (value_of x slots.A)) = there a slots.A operands x at_a inside in
+          let word : value_of x slots.A < 2 ^ 32 = element (λ v. v < 2 ^ 32) operands (value_of x slots.A) all_words here in
+          let source : IsTrue (is_in set (value_of x slots.A)) = (is (value_of x slots.A) word).1 (inr (value_of x slots.OldCsr, words x inside, can x inside, subst (λ (n : ℕ). IsTrue (is_legal_at csr n)) (sym (makes (value_of x slots.OldCsr) (value_of x slots.A))) legal)) in
+          let still : IsTrue (is_in some (value_of x slots.A)) = ap (λ (d : List ℕ). is_in d (value_of x slots.A)) filtered ∙ is_in-filter (is_in set) operands (value_of x slots.A) ∙ joined (is_in set (value_of x slots.A)) (is_in operands (value_of x slots.A)) source here in
+          cc (still, none_in some none (value_of x slots.A))
+
+-- where a word is legal there is a register
+legal_found : (test : Register → Bool) (all : List Register) (n : ℕ) → IsTrue (is_legal_for (find test all) n) → IsTrue (list_any test all)
+legal_found test [] n h = absurd (cc h)
+legal_found test (register ∷ all) n h = first_or_later (test register) (find test all) (list_any test all) h (legal_found test all n) where
+  first_or_later : (b : Bool) (rest : Option Register) (later : Bool) → IsTrue (is_legal_for (if b then Some register else rest) n) → (IsTrue (is_legal_for rest n) → IsTrue later) → IsTrue (b || later)
+  first_or_later true rest later k f = refl
+  first_or_later false rest later k f = f k
+
+pub at_addresses : (word : ℕ) (all : List Register) (ranges : List (ℕ × ℕ)) (set : List ℕ) → all ≡ registers → ((v : ℕ) → is_within ranges v ≡ (list_any (λ register. address_of register == v) all && is_legal_at v word)) → IsOfRanges ranges set → (v : ℕ) → v < 2 ^ 32 → is_in set v ≡ is_legal_at v word
+at_addresses word all ranges set are within is v small = same (is_in set v) (is_legal_at v word)
+    (λ h. right (list_any (λ register. address_of register == v) all) (is_legal_at v word) (sym (within v) ∙ is.within v h))
+    (λ h. is.all v small (within v ∙ joined (list_any (λ register. address_of register == v) all) (is_legal_at v word) (subst (λ (some : List Register). IsTrue (list_any (λ register. address_of register == v) some)) (sym are) (legal_found (λ register. address_of register == v) registers word h)) h))

@@ -112,9 +112,6 @@ differences_by_ranges first second made firsts seconds others ranges words one t
     let fits : w < 2 ^ 32 = element (λ n. n < 2 ^ 32) second w words h in
     is.all v small (subst (λ (n : ℕ). IsTrue (is_within ranges n)) (away v w small fits) (sums ((v + w) % 2 ^ 32) ((2 ^ 32 - w) % 2 ^ 32) (one ((v + w) % 2 ^ 32) k) (turned w (omega arith) (two w h))))
 
-pub negated_back : (v d : ℕ) → v < 2 ^ 32 → d < 2 ^ 32 → (v + (2 ^ 32 - (0 + (2 ^ 32 - d)) % 2 ^ 32)) % 2 ^ 32 ≡ (v + d) % 2 ^ 32
-negated_back v d small fits = omega arith
-
 -- one element more is a range
 pub singled : (xs : List ℕ) (ranges new : List (ℕ × ℕ)) (i v k d : ℕ) → slice_get xs i ≡ Some v → new ≡ ranges ++ (v, v) ∷ [] → ((j e : ℕ) → j < i → IsTrue (is_within ranges (get_or xs j e))) → k < i + 1 → IsTrue (is_within new (get_or xs k d))
 singled xs ranges new i v k d here end before lt = subst (λ (rs : List (ℕ × ℕ)). IsTrue (is_within rs (get_or xs k d))) (sym end) (elim (cases_lt k i) [

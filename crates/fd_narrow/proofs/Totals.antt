@@ -5,7 +5,7 @@ use Rattle.fd_prob.specs.declared.problem.Assignment.{Assignment}
 use Rattle.fd_prob.specs.declared.slot.Slot.{Slot}
 use Rattle.fd_prob.specs.Relations.{is_sum, value_of}
 use Rattle.fd_narrow.specs.Narrowing.{IsInside, domain_in}
-use Rattle.fd_narrow.specs.Spans.{HasDifferences, HasSums}
+use Rattle.fd_narrow.specs.Spans.{HasDifferences, HasHalves, HasSums}
 use Rattle.fd_narrow.specs.Steps.{IsValueIn, Leaves}
 use Rattle.fd_narrow.proofs.Compositions.{followed, weakened}
 
@@ -33,3 +33,10 @@ pub sum_narrows : (a b c d : List (List ℕ)) (s t u : Slot) → Leaves (λ x. I
 sum_narrows a b c d s t u one two three =
     let P : Assignment → Type 0 = λ x. IsTrue (is_sum x s t u) in
     followed P a c d (followed P a b c one two) (weakened (λ x. IsTrue (is_sum x t s u)) P c d (λ x inside sum. turned_sum x s t u sum) three)
+
+-- the sum is twice the variable
+pub doubled_narrows : (a b c : List (List ℕ)) (s u : Slot) (whole halved : List ℕ) → whole ≡ domain_in b u → HasHalves whole halved → Leaves (λ x. IsTrue (is_sum x s s u)) a b → Leaves (IsValueIn s halved) b c → Leaves (λ x. IsTrue (is_sum x s s u)) a c
+doubled_narrows a b c s u whole halved at_u halves one two =
+    let P : Assignment → Type 0 = λ x. IsTrue (is_sum x s s u) in
+    followed P a b c one (weakened (IsValueIn s halved) P b c
+    (λ x inside sum small. halves (value_of x s) small (subst (λ (n : ℕ). IsTrue (is_in whole n)) (sym (summed x s s u sum)) (there b u whole x at_u inside))) two)

@@ -1,10 +1,11 @@
 pub mod Narrowing
 pub mod Steps
 pub mod Spans
+pub mod Remainders
 pub mod Tables
 pub mod Orders
 pub mod Standings
 pub mod Parts
 pub mod Targets
-pub mod Legal
+pub mod Sources
 pub mod Writes

@@ -42,3 +42,15 @@ HaveSums ranges firsts others = (v w : ℕ) → IsTrue (is_within firsts v) → 
 -- what leads to 0 when a word of the ranges is added
 abbrev pub AreNegated : List (ℕ × ℕ) → List (ℕ × ℕ) → Type 0
 AreNegated negated ranges = (w : ℕ) → w ≤ 2 ^ 32 → IsTrue (is_within ranges w) → IsTrue (is_within negated ((2 ^ 32 - w) % 2 ^ 32))
+
+-- the words that give an element when they are doubled, modulo 2 ^ 32
+abbrev pub HasHalves : List ℕ → List ℕ → Type 0
+HasHalves set halved = (v : ℕ) → v < 2 ^ 32 → IsTrue (is_in set ((v + v) % 2 ^ 32)) → IsTrue (is_in halved v)
+
+-- the words that give a number of the range when they are doubled
+abbrev pub HaveHalvesOf : List (ℕ × ℕ) → ℕ × ℕ → Type 0
+HaveHalvesOf halved range = (v : ℕ) → v < 2 ^ 32 → range.0 ≤ (v + v) % 2 ^ 32 → (v + v) % 2 ^ 32 ≤ range.1 → IsTrue (is_within halved v)
+
+-- the words that give a number of the ranges when they are doubled
+abbrev pub HaveHalves : List (ℕ × ℕ) → List (ℕ × ℕ) → Type 0
+HaveHalves halved ranges = (v : ℕ) → v < 2 ^ 32 → IsTrue (is_within ranges ((v + v) % 2 ^ 32)) → IsTrue (is_within halved v)

@@ -1,15 +1,14 @@
 -- What an operand makes an instruction write to a control and status register.
-use Rattle.std.specs.Prelude.{◌≡◌, ℕ, ◌-◌, ◌^◌, Bool, false, ◌&&◌, bit_and, bit_or, nat_eq, if◌then◌else◌, List, Option, Some, None, IsTrue}
-use Rattle.dom_set.specs.Elements.{is_within}
+use Rattle.std.specs.Prelude.{ℕ, ◌-◌, ◌^◌, Bool, ◌&&◌, ◌⊎◌, bit_and, bit_or, nat_eq, if◌then◌else◌, Option, Some, None, IsTrue}
+use Rattle.rv_csr.specs.Table.{is_legal_at}
 use Rattle.fd_prob.specs.declared.problem.Assignment.{Assignment}
 use Rattle.fd_prob.specs.declared.slot.Slot.{Slot}
 use Rattle.fd_prob.specs.declared.slot.Slot.TheVariants as slots
 use Rattle.fd_prob.specs.Relations.{is_none_or_legal, value_of}
+use Rattle.fd_narrow.specs.declared.sources.Made.{Made}
 use Rattle.fd_narrow.specs.declared.writes.Change.{Change}
 use Rattle.fd_narrow.specs.declared.writes.Change.TheVariants.{Sets, Clears}
-use Rattle.fd_narrow.specs.declared.writes.Known.{Known}
-use Rattle.fd_narrow.specs.declared.writes.Known.TheVariants.{Old, Operand}
-use Rattle.fd_narrow.specs.declared.writes.Write.{Write}
+use Rattle.fd_narrow.specs.Sources.{made}
 
 -- the old value with the operand's bits set or cleared (Unprivileged, Zicsr)
 abbrev pub changed : Change → ℕ → ℕ → ℕ
@@ -20,22 +19,14 @@ changed Clears old operand = bit_and old (2 ^ 32 - 1 - operand)
 abbrev pub written : Change → Bool → ℕ → ℕ → Option ℕ
 written change zero old operand = if zero && nat_eq operand 0 then None else Some (changed change old operand)
 
--- what is written with a value for the open part
-abbrev pub completed_with : Known → Change → Bool → ℕ → Option ℕ
-completed_with (Old old) change zero value = written change zero old value
-completed_with (Operand operand) change zero value = written change zero value operand
-
-abbrev pub completed : Write → ℕ → Option ℕ
-completed write value = completed_with write.known write.change write.zero value
-
--- with each value of the ranges what is written is not legal
-abbrev pub AreIllegal : Write → List (ℕ × ℕ) → Type 0
-AreIllegal write ranges = (v : ℕ) → IsTrue (is_within ranges v) → is_none_or_legal write.csr (completed write v) ≡ false
-
--- with the value of a variable what is written is legal
-abbrev pub IsLegalWith : Write → Slot → Assignment → Type 0
-IsLegalWith write s x = IsTrue (is_none_or_legal write.csr (completed write (value_of x s)))
+-- what is written by the value of rs1, where rs1 is not x0
+abbrev pub by_register : Change → Assignment → Option ℕ
+by_register change x = if nat_eq (value_of x slots.Rs1) 0 then None else Some (changed change (value_of x slots.OldCsr) (value_of x slots.A))
 
 -- what is written by the operand of an assignment is legal
 abbrev pub IsLegalOperand : ℕ → Change → Bool → Slot → Assignment → Type 0
 IsLegalOperand csr change zero s x = IsTrue (is_none_or_legal csr (written change zero (value_of x slots.OldCsr) (value_of x s)))
+
+-- what comes of the values of two variables is legal, or the first is 0 and that writes nothing
+abbrev pub IsLegalFrom : ℕ → Made → Bool → Slot → Slot → Assignment → Type 0
+IsLegalFrom csr how zero s t x = IsTrue (zero && nat_eq (value_of x s) 0) ⊎ IsTrue (is_legal_at csr (made how (value_of x s) (value_of x t)))

@@ -6,7 +6,7 @@ ghost use Rattle.fd_narrow.specs.Narrowing.{domain_in};
 ghost use Rattle.fd_narrow.specs.Steps.{IsNever, IsOnly, IsValueIn, IsValueOutside, Leaves};
 
 use dom_set::{OutOfMemory, Set};
-use fd_prob::{Case, Slot};
+use fd_prob::{Case, Slot, copy_sets};
 use std::alloc::Global;
 use std::marker::Model;
 
@@ -26,17 +26,6 @@ impl Model for Domains {
     ghost invariant = { λ s. length s.sets.items ≡ 14 };
 }
 
-/// The same sets, in memory of their own.
-fn copies(alloc: Global, sets: &[Set]) -> Result<Vec<Set>, OutOfMemory>
-    ensures { IfOk result (λ v. v.items ≡ sets.now) }
-{
-    let mut made = Vec::new(alloc);
-    for set in sets {
-        made.push(set.copy(alloc)?)?;
-    }
-    Ok(made)
-}
-
 /// The sum of the sizes of so few sets that it fits.
 fn total_of(sets: &[Set]) -> u64
     requires { length sets.now ≡ 14 }
@@ -54,7 +43,7 @@ impl Domains {
         requires { IsCase case.now }
         ensures { IfOk result (λ d. d ≡ case.now.doms) }
     {
-        let sets = copies(alloc, case.doms.as_slice())?;
+        let sets = copy_sets(alloc, case.doms.as_slice())?;
         Ok(Domains { sets })
     }
 
@@ -62,7 +51,7 @@ impl Domains {
     pub fn copy(&self, alloc: Global) -> Result<Domains, OutOfMemory>
         ensures { IfOk result (λ d. d ≡ self.now) }
     {
-        let sets = copies(alloc, &self.sets)?;
+        let sets = copy_sets(alloc, &self.sets)?;
         Ok(Domains { sets })
     }
 
@@ -114,6 +103,7 @@ impl Domains {
     pub(crate) fn cut(&mut self, alloc: Global, slot: Slot, set: &Set) -> Result<(), OutOfMemory>
         ensures { OnOk result (Leaves (IsValueIn slot set.now) self.old self.new) }
     {
+        // `count` says that there is a domain at the variable's place.
         self.count();
         let domain = self.domain(slot);
         if domain.size() > 0 {
@@ -127,6 +117,7 @@ impl Domains {
     pub(crate) fn take(&mut self, alloc: Global, slot: Slot, set: &Set) -> Result<(), OutOfMemory>
         ensures { OnOk result (Leaves (IsValueOutside slot set.now) self.old self.new) }
     {
+        // `count` says that there is a domain at the variable's place.
         self.count();
         let domain = self.domain(slot);
         if domain.size() > 0 {
@@ -140,6 +131,7 @@ impl Domains {
     pub(crate) fn empty(&mut self, alloc: Global, slot: Slot)
         ensures { Leaves IsNever self.old self.new }
     {
+        // `count` says that there is a domain at the variable's place.
         self.count();
         self.set(slot, Set::new(alloc));
     }

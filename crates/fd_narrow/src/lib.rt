@@ -2,13 +2,16 @@
 //! says of them: values with which it cannot be met are taken away, and none that fits is lost.
 #![tactic(auto)]
 
+mod addresses;
 mod domains;
 mod equalities;
 mod legal;
 mod narrowing;
 mod orders;
 mod ranges;
+mod remainders;
 mod rows;
+mod sources;
 mod standings;
 mod sums;
 mod tables;

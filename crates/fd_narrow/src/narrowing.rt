@@ -10,8 +10,9 @@ use fd_prob::Rel;
 use rv_isa::Op;
 use std::alloc::Global;
 
-/// How often the relations are gone through, at most.
-const PASSES: usize = 8;
+/// How often the relations are gone through, at most: so often that each of the 14 variables can become known
+/// in a pass of its own, and not until ranges that rule each other out number by number are empty.
+const PASSES: usize = 16;
 
 impl Domains {
     /// The domains without what the relations rule out, in a case of the operation.

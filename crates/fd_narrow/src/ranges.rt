@@ -1,8 +1,9 @@
 // Sets by ranges and sums of sets, where more elements than those asked for do no harm.
-ghost use Rattle.std.specs.Prelude.{◌≡◌, ℕ, ◌+◌, ◌-◌, ◌%◌, ◌^◌, ◌<◌, false, All, IfOk, IfSome, IsNone, OnOk};
+ghost use Rattle.std.specs.Prelude.{◌≡◌, ℕ, ◌+◌, ◌-◌, ◌%◌, ◌^◌, ◌<◌, false, true, All, IfOk, IfSome, IsNone, IsTrue, OnOk};
 ghost use Rattle.dom_set.specs.Elements.{is_in};
-ghost use Rattle.fd_narrow.specs.Spans.{AreCovered, AreKept, HasDifferences, HasSums, HaveRound, HaveSums, HaveSumsWith, AreNegated, IsBetween, IsOfRanges};
+ghost use Rattle.fd_narrow.specs.Spans.{AreCovered, AreKept, HasDifferences, HasHalves, HasSums, HaveHalves, HaveHalvesOf, HaveRound, HaveSums, HaveSumsWith, AreNegated, IsBetween, IsOfRanges};
 
+use crate::remainders::class_sums;
 use dom_set::{OutOfMemory, Set, set_laws};
 use std::alloc::Global;
 
@@ -31,6 +32,17 @@ pub fn shifted(alloc: Global, set: &Set, distance: u32) -> Result<Set, OutOfMemo
     set_laws();
     let shifted = set.shift(alloc, distance)?;
     Ok(shifted)
+}
+
+/// Whether the sets have a common element.
+pub fn meet(alloc: Global, first: &Set, second: &Set) -> Result<bool, OutOfMemory>
+    ensures { IfOk result (λ met. (v : ℕ) → IsTrue (is_in first.now v) → IsTrue (is_in second.now v) → met ≡ true) }
+{
+    let common = first.and(alloc, second)?;
+    if common.size() == 0 {
+        return Ok(false);
+    }
+    Ok(true)
 }
 
 /// The least and the greatest element, unless the set is empty.
@@ -186,7 +198,10 @@ pub fn sums(alloc: Global, first: &Set, second: &Set) -> Result<Set, OutOfMemory
         let sums = shifted(alloc, second, first.nth(0))?;
         return Ok(sums);
     }
-    sums_around(alloc, first, second)
+    let around = sums_around(alloc, first, second)?;
+    let classes = class_sums(alloc, first, second, 1)?;
+    let sums = around.and(alloc, &classes)?;
+    Ok(sums)
 }
 
 /// The words that give an element of the first set when one of the second is added, by their ranges, which are
@@ -213,5 +228,47 @@ pub fn differences(alloc: Global, first: &Set, second: &Set) -> Result<Set, OutO
         let differences = shifted(alloc, first, 0u32.wrapping_sub(second.nth(0)))?;
         return Ok(differences);
     }
-    differences_around(alloc, first, second)
+    let around = differences_around(alloc, first, second)?;
+    // What is left by a difference is left by the first number and three times the second.
+    let classes = class_sums(alloc, first, second, 3)?;
+    let differences = around.and(alloc, &classes)?;
+    Ok(differences)
+}
+
+/// The words that give a number of the range when they are doubled, modulo 2^32: one in each half of all words
+/// for each even number.
+fn push_halved(ranges: &mut Vec<Span>, range: Span) -> Result<(), OutOfMemory>
+    ensures halves { OnOk result (HaveHalvesOf ranges.new.items range) }
+    ensures kept { OnOk result (AreKept ranges.old.items ranges.new.items) }
+{
+    let (low, high) = (range.0 / 2 + range.0 % 2, range.1 / 2);
+    // An odd number is no double.
+    if high < low {
+        return Ok(());
+    }
+    ranges.push((low, high))?;
+    ranges.push((HALF + low, HALF + high))?;
+    Ok(())
+}
+
+/// The words that give a number of the ranges when they are doubled.
+fn halved_ranges(alloc: Global, ranges: &[Span]) -> Result<Vec<Span>, OutOfMemory>
+    ensures { IfOk result (λ halved. HaveHalves halved.items ranges.now) }
+{
+    let mut halved = Vec::new(alloc);
+    for range in ranges {
+        push_halved(&mut halved, *range)?;
+    }
+    Ok(halved)
+}
+
+/// The words that give an element when they are doubled, modulo 2^32: just these where the elements are few, and
+/// else perhaps more.
+pub fn halved(alloc: Global, set: &Set) -> Result<Set, OutOfMemory>
+    ensures { IfOk result (HasHalves set.now) }
+{
+    let ranges = parts(alloc, set, true)?;
+    let halved = halved_ranges(alloc, &ranges)?;
+    let words = words_of(alloc, &halved)?;
+    Ok(words)
 }

@@ -9,6 +9,7 @@ ghost use Rattle.fd_narrow.specs.Steps.{Leaves};
 ghost use Rattle.fd_prob.specs.declared.problem.Assignment.{Assignment};
 
 use crate::domains::Domains;
+use crate::ranges::meet;
 use dom_set::{OutOfMemory, Set};
 use fd_prob::{Quad, Slot};
 use std::alloc::Global;
@@ -48,17 +49,6 @@ impl Part {
             Part::Word => &row.word,
         }
     }
-}
-
-/// Whether the sets have a common element.
-fn meet(alloc: Global, first: &Set, second: &Set) -> Result<bool, OutOfMemory>
-    ensures { IfOk result (λ met. (v : ℕ) → IsTrue (is_in first.now v) → IsTrue (is_in second.now v) → met ≡ true) }
-{
-    let common = first.and(alloc, second)?;
-    if common.size() == 0 {
-        return Ok(false);
-    }
-    Ok(true)
 }
 
 impl Domains {

@@ -4,7 +4,7 @@ ghost use Rattle.fd_prob.specs.Relations.{is_sum, value_of};
 ghost use Rattle.fd_narrow.specs.Steps.{Leaves};
 
 use crate::domains::Domains;
-use crate::ranges::{differences, sums};
+use crate::ranges::{differences, halved, sums, words_of};
 use dom_set::OutOfMemory;
 use fd_prob::Slot;
 use std::alloc::Global;
@@ -32,8 +32,25 @@ impl Domains {
         self.cut(alloc, s, &parts)
     }
 
-    /// The first two variables add up to the third, modulo 2^32.
-    pub(crate) fn narrow_sum(
+    /// Cuts a variable to 0: a sum is one of its own parts just where the other part is 0.
+    fn narrow_other_part(&mut self, alloc: Global, s: Slot, t: Slot) -> Result<(), OutOfMemory>
+        ensures { OnOk result (Leaves (λ x. IsTrue (is_sum x s t t)) self.old self.new) }
+    {
+        let zero = words_of(alloc, &[(0, 0)])?;
+        self.cut(alloc, s, &zero)
+    }
+
+    /// The sum is twice the variable.
+    fn narrow_doubled(&mut self, alloc: Global, s: Slot, sum: Slot) -> Result<(), OutOfMemory>
+        ensures { OnOk result (Leaves (λ x. IsTrue (is_sum x s s sum)) self.old self.new) }
+    {
+        self.narrow_total(alloc, s, s, sum)?;
+        let parts = halved(alloc, self.domain(sum))?;
+        self.cut(alloc, s, &parts)
+    }
+
+    /// The first two of three variables add up to the third.
+    fn narrow_parts(
         &mut self,
         alloc: Global,
         s: Slot,
@@ -45,5 +62,26 @@ impl Domains {
         self.narrow_total(alloc, s, t, sum)?;
         self.narrow_part(alloc, s, t, sum)?;
         self.narrow_part(alloc, t, s, sum)
+    }
+
+    /// The first two variables add up to the third, modulo 2^32.
+    pub(crate) fn narrow_sum(
+        &mut self,
+        alloc: Global,
+        s: Slot,
+        t: Slot,
+        sum: Slot,
+    ) -> Result<(), OutOfMemory>
+        ensures { OnOk result (Leaves (λ x. IsTrue (is_sum x s t sum)) self.old self.new) }
+    {
+        if t == sum {
+            self.narrow_other_part(alloc, s, t)
+        } else if s == sum {
+            self.narrow_other_part(alloc, t, s)
+        } else if s == t {
+            self.narrow_doubled(alloc, s, sum)
+        } else {
+            self.narrow_parts(alloc, s, t, sum)
+        }
     }
 }

@@ -1,8 +1,8 @@
 // Tables of values.
-ghost use Rattle.std.specs.Prelude.{IsTrue, IfOk, OnOk};
+ghost use Rattle.std.specs.Prelude.{◌≡◌, ◌-◌, ◌^◌, IsTrue, IfOk, OnOk, length, min};
 ghost use Rattle.fd_prob.specs.Relations.{is_held};
 ghost use Rattle.fd_narrow.specs.Steps.{Leaves};
-ghost use Rattle.fd_narrow.specs.Tables.{AreListed, AreRefused};
+ghost use Rattle.fd_narrow.specs.Tables.{AreListed, AreOthers, AreRefused};
 
 use crate::domains::Domains;
 use crate::ranges::{Span, words_of};
@@ -17,8 +17,10 @@ struct Entries {
     values: Vec<Span>,
 }
 
-/// A word above which the table has no index that counts.
-fn end_of(table: &[Option<u32>]) -> u32 {
+/// The word from which on the table has no index that counts.
+fn end_of(table: &[Option<u32>]) -> u32
+    ensures { result ≡ min (length table.now) (2 ^ 32 - 1) }
+{
     u32::try_from(table.len()).unwrap_or(u32::MAX)
 }
 
@@ -58,6 +60,35 @@ fn refused_indices(
         push_refused(&mut refused, i, table, values)?;
     }
     Ok(refused)
+}
+
+/// Adds the index, if the table has another value there.
+fn push_other(indices: &mut Vec<Span>, i: u32, table: &[Option<u32>]) -> Result<(), OutOfMemory>
+    requires { AreOthers table.now indices.old.items }
+    ensures { OnOk result (AreOthers table.now indices.new.items) }
+{
+    match table.get(i as usize) {
+        Some(Some(value)) => {
+            if *value == i {
+                return Ok(());
+            }
+            indices.push((i, i))?;
+            Ok(())
+        }
+        Some(None) => Ok(()),
+        None => Ok(()),
+    }
+}
+
+/// The indices at which the table has a value other than the index.
+fn other_indices(alloc: Global, table: &[Option<u32>]) -> Result<Vec<Span>, OutOfMemory>
+    ensures { IfOk result (λ r. AreOthers table.now r.items) }
+{
+    let mut others = Vec::new(alloc);
+    for i in 0..end_of(table) {
+        push_other(&mut others, i, table)?;
+    }
+    Ok(others)
 }
 
 /// Adds the index and the value that the table has there, if it has one.
@@ -128,6 +159,20 @@ impl Domains {
         self.cut(alloc, value, &values)
     }
 
+    /// Takes the indices away at which the table has a value that is not the index itself.
+    fn narrow_own(
+        &mut self,
+        alloc: Global,
+        index: Slot,
+        table: &[Option<u32>],
+    ) -> Result<(), OutOfMemory>
+        ensures { OnOk result (Leaves (λ x. IsTrue (is_held x index index table.now)) self.old self.new) }
+    {
+        let others = other_indices(alloc, table)?;
+        let indices = words_of(alloc, &others)?;
+        self.take(alloc, index, &indices)
+    }
+
     /// Where the table has a value at the index, the variable has that value.
     pub(crate) fn narrow_held(
         &mut self,
@@ -138,6 +183,9 @@ impl Domains {
     ) -> Result<(), OutOfMemory>
         ensures { OnOk result (Leaves (λ x. IsTrue (is_held x index value table.now)) self.old self.new) }
     {
+        if index == value {
+            return self.narrow_own(alloc, index, table);
+        }
         self.narrow_index(alloc, index, value, table)?;
         self.narrow_entry(alloc, index, value, table)
     }

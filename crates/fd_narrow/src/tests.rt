@@ -4,6 +4,8 @@ ghost use Rattle.std.specs.Prelude.{◌≡◌, IfOk, length};
 ghost use Rattle.fd_prob.specs.Fitting.{IsCase};
 
 mod large;
+mod sums;
+mod writes;
 
 use crate::Domains;
 use crate::ranges::Span;
@@ -201,11 +203,9 @@ fn compare_all(rt: &impl Abort, alloc: Global, rows: &[Small]) -> Result<(), Fai
 
 const VALUES: [Slot; 3] = [Slot::A, Slot::B, Slot::Vector];
 
-const ADDED: [Slot; 3] = [Slot::A, Slot::Imm, Slot::Ea];
-
 const REGISTERS: [Slot; 3] = [Slot::Rs1, Slot::Rs2, Slot::A];
 
-const EQUALITIES: [Small; 12] = [
+const EQUALITIES: [Small; 15] = [
     (
         Op::Add,
         &[(Slot::A, &[(1, 5), (9, 9)]), (Slot::B, &[(4, 10)])],
@@ -298,6 +298,39 @@ const EQUALITIES: [Small; 12] = [
         REGISTERS,
         Kind::Linked,
     ),
+    (
+        Op::Add,
+        &[
+            (Slot::Rs1, &[(3, 5)]),
+            (Slot::Rs2, &[(4, 4)]),
+            (Slot::A, &[(1, 1)]),
+            (Slot::B, &[(2, 2)]),
+        ],
+        REGISTERS,
+        Kind::Linked,
+    ),
+    (
+        Op::Add,
+        &[
+            (Slot::Rs1, &[(4, 4)]),
+            (Slot::Rs2, &[(3, 5)]),
+            (Slot::A, &[(1, 1)]),
+            (Slot::B, &[(2, 2)]),
+        ],
+        REGISTERS,
+        Kind::Linked,
+    ),
+    (
+        Op::Add,
+        &[
+            (Slot::Rs1, &[(3, 5)]),
+            (Slot::Rs2, &[(4, 4)]),
+            (Slot::A, &[(2, 2)]),
+            (Slot::B, &[(2, 2)]),
+        ],
+        REGISTERS,
+        Kind::Linked,
+    ),
 ];
 
 #[test]
@@ -306,106 +339,6 @@ fn equal_and_unequal_variables_keep_what_fits(rt: HostRuntime) -> Result<(), Fai
 }
 
 const SUM: Kind = Kind::Sum(Slot::A, Slot::Imm, Slot::Ea);
-
-const SUMS: [Small; 10] = [
-    (
-        Op::Lw,
-        &[
-            (Slot::A, &[(5, 5)]),
-            (Slot::Imm, &[(0, 3), (0xffff_fffe, u32::MAX)]),
-            (Slot::Ea, &[(0, 10)]),
-        ],
-        ADDED,
-        SUM,
-    ),
-    (
-        Op::Lw,
-        &[
-            (Slot::A, &[(0, 9)]),
-            (Slot::Imm, &[(0xffff_fffe, 0xffff_fffe)]),
-            (Slot::Ea, &[(0, 4), (0xffff_fff0, u32::MAX)]),
-        ],
-        ADDED,
-        SUM,
-    ),
-    (
-        Op::Lw,
-        &[
-            (Slot::A, &[(1, 3)]),
-            (Slot::Imm, &[(10, 12)]),
-            (Slot::Ea, &[(0, 20)]),
-        ],
-        ADDED,
-        SUM,
-    ),
-    (
-        Op::Lw,
-        &[
-            (Slot::A, &[(0, 5)]),
-            (Slot::Imm, &[(0, 5)]),
-            (Slot::Ea, &[(7, 7)]),
-        ],
-        ADDED,
-        SUM,
-    ),
-    (
-        Op::Lw,
-        &[
-            (Slot::A, &[(0, 9)]),
-            (Slot::Imm, &[(4, 4)]),
-            (Slot::Ea, &[(7, 7), (30, 31)]),
-        ],
-        ADDED,
-        SUM,
-    ),
-    (
-        Op::Lw,
-        &[
-            (Slot::A, &[(u32::MAX, u32::MAX)]),
-            (Slot::Imm, &[(0, 3)]),
-            (Slot::Ea, &[(0, 5)]),
-        ],
-        ADDED,
-        SUM,
-    ),
-    (
-        Op::Lw,
-        &[
-            (Slot::A, &[(0xffff_fffa, u32::MAX)]),
-            (Slot::Imm, &[(4, 8)]),
-            (Slot::Ea, &[(0, 3)]),
-        ],
-        ADDED,
-        SUM,
-    ),
-    (
-        Op::Lw,
-        &[
-            (Slot::A, &[(1, 3)]),
-            (Slot::Imm, &[(1, 3)]),
-            (Slot::Ea, &[(20, 30)]),
-        ],
-        ADDED,
-        SUM,
-    ),
-    (
-        Op::Lw,
-        &[(Slot::A, &[(7, 7)]), (Slot::Ea, &[(0, 20)])],
-        ADDED,
-        Kind::Sum(Slot::A, Slot::A, Slot::Ea),
-    ),
-    (
-        Op::Lw,
-        &[(Slot::A, &[(0, 3)]), (Slot::Imm, &[(5, 6), (0, 0)])],
-        ADDED,
-        Kind::Sum(Slot::A, Slot::Imm, Slot::A),
-    ),
-];
-
-#[test]
-fn sums_keep_what_fits(rt: HostRuntime) -> Result<(), Fail> {
-    compare_all(&rt, rt.alloc(), &SUMS)
-}
 
 const NEAR: &[Domain] = &[
     (Slot::A, &[(3, 6), (0xffff_fffe, u32::MAX)]),
@@ -467,7 +400,10 @@ const HELD: [Slot; 3] = [Slot::Rs1, Slot::A, Slot::Vector];
 
 const REGISTER: Kind = Kind::Holds(Slot::Rs1, Slot::A, TABLE);
 
-const TABLES: [Small; 6] = [
+/// A table of which some entries are their own indices.
+const OWN: &[Option<u32>] = &[Some(5), Some(1), None, Some(3), Some(0)];
+
+const TABLES: [Small; 9] = [
     (
         Op::Add,
         &[(Slot::Rs1, &[(0, 5)]), (Slot::A, &[(5, 6)])],
@@ -503,6 +439,24 @@ const TABLES: [Small; 6] = [
         &[(Slot::Rs1, &[(0, 0), (2, 3)]), (Slot::A, &[(0, 4)])],
         HELD,
         REGISTER,
+    ),
+    (
+        Op::Add,
+        &[(Slot::Rs1, &[(0, 9)])],
+        HELD,
+        Kind::Holds(Slot::Rs1, Slot::Rs1, OWN),
+    ),
+    (
+        Op::Add,
+        &[(Slot::Rs1, &[(0, 0), (4, 4)])],
+        HELD,
+        Kind::Holds(Slot::Rs1, Slot::Rs1, OWN),
+    ),
+    (
+        Op::Add,
+        &[(Slot::Rs1, &[(3, 3)])],
+        HELD,
+        Kind::Holds(Slot::Rs1, Slot::Rs1, OWN),
     ),
 ];
 
@@ -702,7 +656,16 @@ const TWO_ROWS: Kind = Kind::Rows(&[
     [&[(4, 4)], &[(6, 6)], &[(7, 8)], &[(0, 9)]],
 ]);
 
-const ROWS: [Small; 5] = [
+/// The data word in place of the root's entry.
+const DATA: [Slot; 3] = [Slot::Ea, Slot::SecondPte, Slot::DataWord];
+
+const WORDS_IN_ROWS: Kind = Kind::Rows(&[
+    [&[(1, 2)], &[(0, 0)], &[(7, 7)], &[(3, 5)]],
+    [&[(4, 4)], &[(0, 0)], &[(7, 8)], &[(5, 9)]],
+    [&[(4, 4)], &[(6, 6)], &[(7, 8)], &[(0, 2)]],
+]);
+
+const ROWS: [Small; 9] = [
     (
         Op::Lw,
         &[
@@ -744,6 +707,46 @@ const ROWS: [Small; 5] = [
         TWO_ROWS,
     ),
     (Op::Lw, &[(Slot::Ea, &[(3, 3)])], MEMORY, Kind::Rows(&[])),
+    (
+        Op::Lw,
+        &[
+            (Slot::Ea, &[(4, 4)]),
+            (Slot::SecondPte, &[(8, 8)]),
+            (Slot::DataWord, &[(0, 20)]),
+        ],
+        DATA,
+        WORDS_IN_ROWS,
+    ),
+    (
+        Op::Lw,
+        &[
+            (Slot::Ea, &[(1, 4)]),
+            (Slot::SecondPte, &[(7, 7)]),
+            (Slot::DataWord, &[(0, 20)]),
+        ],
+        DATA,
+        WORDS_IN_ROWS,
+    ),
+    (
+        Op::Lw,
+        &[
+            (Slot::Ea, &[(0, 9)]),
+            (Slot::SecondPte, &[(7, 9)]),
+            (Slot::DataWord, &[(3, 3)]),
+        ],
+        DATA,
+        WORDS_IN_ROWS,
+    ),
+    (
+        Op::Lw,
+        &[
+            (Slot::Ea, &[(4, 4)]),
+            (Slot::SecondPte, &[(7, 7)]),
+            (Slot::DataWord, &[(0, 4)]),
+        ],
+        DATA,
+        WORDS_IN_ROWS,
+    ),
 ];
 
 #[test]

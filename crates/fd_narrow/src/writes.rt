@@ -1,24 +1,22 @@
 // What instructions write to control and status registers.
-ghost use Rattle.std.specs.Prelude.{ℕ, ◌%◌, ◌≡◌, ◌^◌, ◌<◌, false, nat_eq, IfOk, IsTrue, OnOk, Some, None, if◌then◌else◌};
-ghost use Rattle.dom_set.specs.Elements.{is_in};
+ghost use Rattle.std.specs.Prelude.{ℕ, ◌≡◌, ◌^◌, ◌<◌, ◌&&◌, false, nat_eq, IfSome, IsTrue, OnOk, Some};
 ghost use Rattle.rv_csr.specs.Table.{is_legal_at};
+ghost use Rattle.fd_prob.specs.declared.problem.Assignment.{Assignment};
 ghost use Rattle.fd_prob.specs.Relations.{is_none_or_legal, value_of, writes_legal, written_by};
 ghost use Rattle.fd_prob.specs.declared.slot.Slot.TheVariants as slots;
+ghost use Rattle.fd_narrow.specs.Narrowing.{IsInside};
+ghost use Rattle.fd_narrow.specs.Sources.{CanBe, made};
 ghost use Rattle.fd_narrow.specs.Steps.{Leaves};
-ghost use Rattle.fd_narrow.specs.declared.writes.Change.TheVariants as changes;
-ghost use Rattle.fd_narrow.specs.Writes.{AreIllegal, IsLegalOperand, IsLegalWith, changed, completed};
+ghost use Rattle.fd_narrow.specs.Writes.{IsLegalFrom, IsLegalOperand, by_register, changed, written};
 
+use crate::addresses::addresses;
 use crate::domains::Domains;
-use crate::legal::{has_legal, legal_at, settable_at};
-use crate::ranges::{Span, words_of};
-use dom_set::{OutOfMemory, Set};
+use crate::ranges::words_of;
+use crate::sources::{Made, legal_sources};
+use dom_set::OutOfMemory;
 use fd_prob::Slot;
-use rv_csr::legal;
 use rv_isa::Op;
 use std::alloc::Global;
-
-/// How many values a variable may have that are tried one by one.
-const VALUES: u64 = 4096;
 
 /// What becomes of the bits that an operand has (Unprivileged, Zicsr).
 #[derive(Clone, Copy, Debug, PartialEq, Eq)]
@@ -28,157 +26,80 @@ pub enum Change {
 }
 
 impl Change {
-    /// The old value, changed.
-    fn of(self, old: u32, operand: u32) -> u32
-        ensures { result ≡ changed self old operand }
+    /// How what is written comes of an open operand and the old value.
+    #[tactic(auto, using(std::proofs::lemmas::Nat::or_comm))]
+    fn by_operand(self) -> Made
+        ensures { (old operand : ℕ) → made result operand old ≡ changed self old operand }
     {
         match self {
-            Change::Sets => old | operand,
-            Change::Clears => old & !operand,
+            Change::Sets => Made::With,
+            Change::Clears => Made::From,
         }
     }
-}
 
-/// Whether the value is legal for the register at the address, which may be too large for one.
-#[tactic(auto, using(crate::proofs::Operands::no_register))]
-fn is_legal(csr: u32, value: u32) -> bool
-    ensures { result ≡ is_legal_at csr value }
-{
-    match u16::try_from(csr) {
-        Ok(csr) => legal(csr, value),
-        Err(_) => false,
-    }
-}
-
-/// The part of a write that is known.
-#[derive(Clone, Copy, Debug, PartialEq, Eq)]
-pub enum Known {
-    Old(u32),
-    Operand(u32),
-}
-
-/// A write to the register at an address, of which one part is open: the operand, or the old value.
-#[derive(Clone, Copy, Debug, PartialEq, Eq)]
-pub struct Write {
-    pub csr: u32,
-    pub change: Change,
-    /// An operand of 0 writes nothing.
-    pub zero: bool,
-    pub known: Known,
-}
-
-impl Write {
-    /// Whether what is written is legal with this value for the open part, if anything is.
-    fn is_legal_with(self, value: u32) -> bool
-        ensures { result ≡ is_none_or_legal self.csr (completed self value) }
+    /// How it comes of an open old value and the operand.
+    fn by_old(self) -> Made
+        ensures { (old operand : ℕ) → made result old operand ≡ changed self old operand }
     {
-        let (old, operand) = match self.known {
-            Known::Old(old) => (old, value),
-            Known::Operand(operand) => (value, operand),
-        };
-        if self.zero && operand == 0 {
-            true
-        } else {
-            is_legal(self.csr, self.change.of(old, operand))
+        match self {
+            Change::Sets => Made::With,
+            Change::Clears => Made::Without,
         }
     }
-}
-
-/// Adds the value, if with it what is written is not legal.
-fn push_illegal(made: &mut Vec<Span>, value: u32, write: Write) -> Result<(), OutOfMemory>
-    requires { AreIllegal write made.old.items }
-    ensures { OnOk result (AreIllegal write made.new.items) }
-{
-    if write.is_legal_with(value) {
-        return Ok(());
-    }
-    made.push((value, value))?;
-    Ok(())
-}
-
-/// The elements with which what is written is not legal.
-fn illegal_values(alloc: Global, values: &Set, write: Write) -> Result<Vec<Span>, OutOfMemory>
-    ensures { IfOk result (λ made. AreIllegal write made.items) }
-{
-    let mut made = Vec::new(alloc);
-    let mut next = values.first_from(0);
-    for _ in 0..values.size() {
-        let Some(value) = next else {
-            break;
-        };
-        push_illegal(&mut made, value, write)?;
-        next = values.first_from(value.wrapping_add(1));
-    }
-    Ok(made)
 }
 
 impl Domains {
-    /// The value of a variable is legal for the register, by the set of the legal words.
-    fn cut_legal(&mut self, alloc: Global, slot: Slot, csr: u32) -> Result<(), OutOfMemory>
-        ensures { OnOk result (Leaves (λ x. IsTrue (is_legal_at csr (value_of x slot))) self.old self.new) }
+    /// The value of a variable, if it is known. Its values are words.
+    fn known(&self, slot: Slot) -> Option<u32>
+        ensures value { (x : Assignment) → IsInside self.now x → CanBe result (value_of x slot) }
+        ensures word { (x : Assignment) → IsInside self.now x → value_of x slot < 2 ^ 32 }
     {
-        let legal = legal_at(alloc, csr)?;
-        self.cut(alloc, slot, &legal)
+        // `size` also says that the elements are words.
+        self.domain(slot).size();
+        self.single(slot)
+    }
+
+    /// Whether 0 is a value of the variable.
+    fn may_be_zero(&self, slot: Slot) -> bool
+        ensures { result ≡ false → (x : Assignment) → IsInside self.now x → nat_eq (value_of x slot) 0 ≡ false }
+    {
+        self.domain(slot).has(0)
+    }
+
+    /// Whether the operand may be 0 and that writes nothing.
+    fn may_write_nothing(&self, slot: Slot, zero: bool) -> bool
+        ensures { result ≡ false → (x : Assignment) → IsInside self.now x → (zero && nat_eq (value_of x slot) 0) ≡ false }
+    {
+        zero && self.may_be_zero(slot)
     }
 
     /// The value of a variable is legal for the register.
     fn narrow_legal(&mut self, alloc: Global, slot: Slot, csr: u32) -> Result<(), OutOfMemory>
         ensures { OnOk result (Leaves (λ x. IsTrue (is_legal_at csr (value_of x slot))) self.old self.new) }
     {
-        match self.single(slot) {
-            Some(value) => {
-                if is_legal(csr, value) {
-                    return Ok(());
-                }
-                self.empty(alloc, slot);
-                Ok(())
-            }
-            None => self.cut_legal(alloc, slot, csr),
-        }
+        let set = legal_sources(alloc, csr, Made::Itself, None, false)?;
+        self.cut(alloc, slot, &set)
     }
 
-    /// With the value of a variable for its open part the write is legal; where few values are left.
-    fn narrow_open(&mut self, alloc: Global, slot: Slot, write: Write) -> Result<(), OutOfMemory>
-        ensures { OnOk result (Leaves (IsLegalWith write slot) self.old self.new) }
-    {
-        if self.domain(slot).size() > VALUES {
-            return Ok(());
-        }
-        let illegal = illegal_values(alloc, self.domain(slot), write)?;
-        let set = words_of(alloc, &illegal)?;
-        self.take(alloc, slot, &set)
-    }
-
-    /// What an operand makes of the register's one old value is legal.
-    fn narrow_by_old(
+    /// What comes of the value of a variable and that of another is legal for the register, or the first
+    /// is 0 and that writes nothing.
+    fn cut_sources(
         &mut self,
         alloc: Global,
-        slot: Slot,
         csr: u32,
-        change: Change,
+        how: Made,
+        slot: Slot,
+        other: Slot,
         zero: bool,
     ) -> Result<(), OutOfMemory>
-        ensures { OnOk result (Leaves (IsLegalOperand csr change zero slot) self.old self.new) }
+        ensures { OnOk result (Leaves (IsLegalFrom csr how zero slot other) self.old self.new) }
     {
-        match self.single(Slot::OldCsr) {
-            Some(old) => {
-                let known = Known::Old(old);
-                self.narrow_open(
-                    alloc,
-                    slot,
-                    Write {
-                        csr,
-                        change,
-                        zero,
-                        known,
-                    },
-                )
-            }
-            None => Ok(()),
-        }
+        let known = self.known(other);
+        let set = legal_sources(alloc, csr, how, known, zero)?;
+        self.cut(alloc, slot, &set)
     }
 
-    /// What the one operand makes of the register's old value is legal.
+    /// The register's old value is one of which the operand makes a legal one, unless it may write nothing.
     fn narrow_old(
         &mut self,
         alloc: Global,
@@ -189,76 +110,10 @@ impl Domains {
     ) -> Result<(), OutOfMemory>
         ensures { OnOk result (Leaves (IsLegalOperand csr change zero slot) self.old self.new) }
     {
-        match self.single(slot) {
-            Some(operand) => {
-                let known = Known::Operand(operand);
-                self.narrow_open(
-                    alloc,
-                    Slot::OldCsr,
-                    Write {
-                        csr,
-                        change,
-                        zero,
-                        known,
-                    },
-                )
-            }
-            None => Ok(()),
+        if self.may_write_nothing(slot, zero) {
+            return Ok(());
         }
-    }
-
-    /// The operand whose bits are set in the register is one that can be.
-    fn cut_settable(
-        &mut self,
-        alloc: Global,
-        slot: Slot,
-        csr: u32,
-        zero: bool,
-    ) -> Result<(), OutOfMemory>
-        ensures { OnOk result (Leaves (IsLegalOperand csr changes.Sets zero slot) self.old self.new) }
-    {
-        let set = settable_at(alloc, csr)?;
-        self.cut(alloc, slot, &set)
-    }
-
-    /// No word is legal for the register: the operand is one with which nothing is written, if there is one.
-    fn narrow_unwritable(
-        &mut self,
-        alloc: Global,
-        slot: Slot,
-        csr: u32,
-        change: Change,
-        zero: bool,
-    ) -> Result<(), OutOfMemory>
-        requires { (n : ℕ) → is_legal_at csr n ≡ false }
-        ensures { OnOk result (Leaves (IsLegalOperand csr change zero slot) self.old self.new) }
-    {
-        if zero {
-            let set = words_of(alloc, &[(0, 0)])?;
-            return self.cut(alloc, slot, &set);
-        }
-        self.empty(alloc, slot);
-        Ok(())
-    }
-
-    /// What an operand makes of the register is legal, by the bits that it may have.
-    fn narrow_bits(
-        &mut self,
-        alloc: Global,
-        slot: Slot,
-        csr: u32,
-        change: Change,
-        zero: bool,
-    ) -> Result<(), OutOfMemory>
-        ensures { OnOk result (Leaves (IsLegalOperand csr change zero slot) self.old self.new) }
-    {
-        if !has_legal(csr) {
-            return self.narrow_unwritable(alloc, slot, csr, change, zero);
-        }
-        match change {
-            Change::Sets => self.cut_settable(alloc, slot, csr, zero),
-            Change::Clears => Ok(()),
-        }
+        self.cut_sources(alloc, csr, change.by_old(), Slot::OldCsr, slot, false)
     }
 
     /// What an operand makes of the register is legal.
@@ -272,24 +127,41 @@ impl Domains {
     ) -> Result<(), OutOfMemory>
         ensures { OnOk result (Leaves (IsLegalOperand csr change zero slot) self.old self.new) }
     {
-        self.narrow_bits(alloc, slot, csr, change, zero)?;
-        self.narrow_by_old(alloc, slot, csr, change, zero)?;
+        self.cut_sources(alloc, csr, change.by_operand(), slot, Slot::OldCsr, zero)?;
         self.narrow_old(alloc, slot, csr, change, zero)
     }
 
-    /// What the value of rs1 makes of the register is legal, where rs1 is one register and not x0.
-    fn narrow_source(&mut self, alloc: Global, csr: u32, change: Change) -> Result<(), OutOfMemory>
-        ensures { OnOk result (Leaves (λ x. IsTrue (is_none_or_legal csr (if nat_eq (value_of x slots.Rs1) 0 then None else Some (changed change (value_of x slots.OldCsr) (value_of x slots.A))))) self.old self.new) }
+    /// Where no value of rs1 makes something legal of the register, rs1 is x0.
+    fn narrow_rs1(&mut self, alloc: Global, csr: u32, change: Change) -> Result<(), OutOfMemory>
+        ensures { OnOk result (Leaves (λ x. IsTrue (is_none_or_legal csr (by_register change x))) self.old self.new) }
     {
-        match self.single(Slot::Rs1) {
-            Some(rs1) => {
-                if rs1 == 0 {
-                    return Ok(());
-                }
-                self.narrow_operand(alloc, Slot::A, csr, change, false)
-            }
-            None => Ok(()),
+        let old = self.known(Slot::OldCsr);
+        let set = legal_sources(alloc, csr, change.by_operand(), old, false)?;
+        let operands = self.domain(Slot::A);
+        if operands.size() == 0 {
+            return Ok(());
         }
+        let left = operands.and(alloc, &set)?;
+        if left.size() > 0 {
+            return Ok(());
+        }
+        let x0 = words_of(alloc, &[(0, 0)])?;
+        self.cut(alloc, Slot::Rs1, &x0)
+    }
+
+    /// What the value of rs1 makes of the register is legal, unless rs1 is x0.
+    fn narrow_register(
+        &mut self,
+        alloc: Global,
+        csr: u32,
+        change: Change,
+    ) -> Result<(), OutOfMemory>
+        ensures { OnOk result (Leaves (λ x. IsTrue (is_none_or_legal csr (by_register change x))) self.old self.new) }
+    {
+        if self.may_be_zero(Slot::Rs1) {
+            return self.narrow_rs1(alloc, csr, change);
+        }
+        self.narrow_operand(alloc, Slot::A, csr, change, false)
     }
 
     /// What an operation writes to the register at the address is legal.
@@ -298,8 +170,8 @@ impl Domains {
     {
         match op {
             Op::Csrrw => self.narrow_legal(alloc, Slot::A, csr),
-            Op::Csrrs => self.narrow_source(alloc, csr, Change::Sets),
-            Op::Csrrc => self.narrow_source(alloc, csr, Change::Clears),
+            Op::Csrrs => self.narrow_register(alloc, csr, Change::Sets),
+            Op::Csrrc => self.narrow_register(alloc, csr, Change::Clears),
             Op::Csrrwi => self.narrow_legal(alloc, Slot::Imm, csr),
             Op::Csrrsi => self.narrow_operand(alloc, Slot::Imm, csr, Change::Sets, true),
             Op::Csrrci => self.narrow_operand(alloc, Slot::Imm, csr, Change::Clears, true),
@@ -307,13 +179,63 @@ impl Domains {
         }
     }
 
-    /// What the operation writes is legal, where there is one register that it can be written to.
+    /// The word that an operand makes of the old value, if it is known and written in any case.
+    fn word_by_operand(&self, slot: Slot, change: Change, zero: bool) -> Option<u32>
+        ensures { IfSome result (λ w. (x : Assignment) → IsInside self.now x → written change zero (value_of x slots.OldCsr) (value_of x slot) ≡ Some w) }
+    {
+        if self.may_write_nothing(slot, zero) {
+            return None;
+        }
+        let operand = self.single(slot)?;
+        let old = self.single(Slot::OldCsr)?;
+        Some(change.by_operand().of(operand, old))
+    }
+
+    /// The word that the value of rs1 makes of the old value, if it is known and rs1 is not x0.
+    fn word_by_register(&self, change: Change) -> Option<u32>
+        ensures { IfSome result (λ w. (x : Assignment) → IsInside self.now x → by_register change x ≡ Some w) }
+    {
+        if self.may_be_zero(Slot::Rs1) {
+            return None;
+        }
+        self.word_by_operand(Slot::A, change, false)
+    }
+
+    /// The word that an operation writes, if it is known and written in any case.
+    fn word_written(&self, op: Op) -> Option<u32>
+        ensures { IfSome result (λ w. (x : Assignment) → IsInside self.now x → written_by op x ≡ Some w) }
+    {
+        match op {
+            Op::Csrrw => self.single(Slot::A),
+            Op::Csrrs => self.word_by_register(Change::Sets),
+            Op::Csrrc => self.word_by_register(Change::Clears),
+            Op::Csrrwi => self.single(Slot::Imm),
+            Op::Csrrsi => self.word_by_operand(Slot::Imm, Change::Sets, true),
+            Op::Csrrci => self.word_by_operand(Slot::Imm, Change::Clears, true),
+            _ => None,
+        }
+    }
+
+    /// The register's address is one at which the word that is written is legal.
+    fn narrow_address(&mut self, alloc: Global, op: Op) -> Result<(), OutOfMemory>
+        ensures { OnOk result (Leaves (λ x. IsTrue (writes_legal op x)) self.old self.new) }
+    {
+        match self.word_written(op) {
+            Some(word) => {
+                let set = addresses(alloc, word)?;
+                self.cut(alloc, Slot::Csr, &set)
+            }
+            None => Ok(()),
+        }
+    }
+
+    /// What the operation writes is legal.
     pub(crate) fn narrow_writes(&mut self, alloc: Global, op: Op) -> Result<(), OutOfMemory>
         ensures { OnOk result (Leaves (λ x. IsTrue (writes_legal op x)) self.old self.new) }
     {
         match self.single(Slot::Csr) {
             Some(csr) => self.narrow_written(alloc, op, csr),
-            None => Ok(()),
+            None => self.narrow_address(alloc, op),
         }
     }
 }

@@ -6,7 +6,7 @@ ghost use Rattle.fd_prob.specs.Fitting.{IsCase, IsProblem, domain_of, fits, fits
 ghost use Rattle.fd_prob.specs.Relations.{holds, value_of};
 
 use crate::problem::{Assignment, Case, Problem};
-use crate::relation::{Rel, holds, is_in};
+use crate::relation::{Rel, holds};
 use crate::slot::{SLOTS, Slot};
 use rv_isa::Op;
 
@@ -16,7 +16,7 @@ fn are_within(case: &Case, x: &Assignment, slots: &[Slot]) -> bool
     ensures { result ≡ list_all (λ s. is_in (domain_of case.now s) (value_of x.now s)) slots.now }
 {
     for slot in slots {
-        if !is_in(case.domain(*slot), x.value(*slot)) {
+        if !case.domain(*slot).has(x.value(*slot)) {
             return false;
         }
     }
@@ -33,7 +33,7 @@ fn is_within(case: &Case, x: &Assignment) -> bool
 }
 
 /// Whether all relations hold, in a case of the operation.
-fn all_hold(op: Op, x: &Assignment, rels: &[Rel]) -> bool
+pub fn all_hold(op: Op, x: &Assignment, rels: &[Rel]) -> bool
     ensures { result ≡ list_all (holds op x.now) rels.now }
 {
     for rel in rels {

@@ -3,6 +3,7 @@
 //! problem's cases and meets that case's relations. A problem's space is what a budget is compared with.
 #![tactic(auto)]
 
+mod copies;
 mod fitting;
 mod items;
 mod laws;
@@ -14,10 +15,12 @@ mod spaces;
 #[cfg(test)]
 mod tests;
 
-pub use fitting::fits;
+pub use copies::copy_sets;
+pub use dom_set::OutOfMemory;
+pub use fitting::{all_hold, fits};
 pub use items::Items;
 pub use laws::fitting_laws;
 pub use problem::{Assignment, Case, Extra, Problem};
 pub use relation::{Quad, Rel, holds};
 pub use slot::{SLOTS, Slot};
-pub use spaces::space;
+pub use spaces::{allowed_case, first_case, space};

@@ -1,7 +1,6 @@
 // Relations between the variables of a step.
 ghost use Rattle.std.specs.Prelude.{◌≡◌, IsTrue, Some, None, nat_eq, if◌then◌else◌};
 ghost use Rattle.std.specs.List.{list_any};
-ghost use Rattle.dom_set.specs.Elements.{is_in};
 ghost use Rattle.rv_csr.specs.Table.{is_legal_at};
 ghost use Rattle.rv_isa.specs.Arithmetic.{is_branch};
 ghost use Rattle.fd_prob.specs.Relations.{goes_to_target, has_condition, has_target, holds, is_held, is_in_row, is_linked, is_same, is_sum, target_of, writes_legal, written_by};
@@ -9,7 +8,7 @@ ghost use Rattle.fd_prob.specs.Relations.{goes_to_target, has_condition, has_tar
 use crate::Items;
 use crate::problem::Assignment;
 use crate::slot::Slot;
-use dom_set::{Set, set_laws};
+use dom_set::Set;
 use rv_csr::legal;
 use rv_isa::{Op, taken};
 
@@ -52,15 +51,6 @@ pub enum Rel {
     Writes,
     /// One of the rows has the address of the load or store, the page table entries and the data word.
     Rows(Items<Quad>),
-}
-
-/// Whether the number is in the set.
-#[tactic(auto, using(crate::proofs::Bools::same))]
-pub fn is_in(set: &Set, x: u32) -> bool
-    ensures { result ≡ is_in set.now x }
-{
-    set_laws();
-    set.has(x)
 }
 
 fn is_same(x: &Assignment, s: Slot, t: Slot) -> bool
@@ -143,7 +133,7 @@ fn has_target(op: Op, x: &Assignment, pc: u32, set: &Set) -> bool
     ensures { result ≡ has_target op x.now pc set.now }
 {
     match target_of(op, pc, x) {
-        Some(target) => is_in(set, target),
+        Some(target) => set.has(target),
         None => false,
     }
 }
@@ -196,10 +186,10 @@ fn writes_legal(op: Op, x: &Assignment) -> bool
 fn is_in_row(x: &Assignment, row: &Quad) -> bool
     ensures { result ≡ is_in_row x.now row.now }
 {
-    is_in(&row.ea, x.value(Slot::Ea))
-        && is_in(&row.root, x.value(Slot::FirstPte))
-        && is_in(&row.leaf, x.value(Slot::SecondPte))
-        && is_in(&row.word, x.value(Slot::DataWord))
+    row.ea.has(x.value(Slot::Ea))
+        && row.root.has(x.value(Slot::FirstPte))
+        && row.leaf.has(x.value(Slot::SecondPte))
+        && row.word.has(x.value(Slot::DataWord))
 }
 
 fn is_in_any_row(x: &Assignment, rows: &[Quad]) -> bool

@@ -6,7 +6,6 @@ ghost use Rattle.fd_prob.specs.Spaces.{access_space, allowed_case, counted_field
 
 use crate::pages::pages_of;
 use crate::problem::{Case, Problem};
-use crate::relation::is_in;
 use crate::slot::Slot;
 use rv_isa::Op;
 
@@ -69,7 +68,7 @@ fn operation_space(case: &Case) -> u64
 }
 
 /// The first case of an operation.
-fn first_case(cases: &[Case], op: u8) -> Option<&Case>
+pub fn first_case(cases: &[Case], op: u8) -> Option<&Case>
     requires { All IsCase cases.now }
     ensures first { option_map (λ c. c.now) result ≡ find (λ c. c.op == op) cases.now }
     ensures whole { IfSome result (λ c. IsCase c.now) }
@@ -84,14 +83,14 @@ fn first_case(cases: &[Case], op: u8) -> Option<&Case>
 
 /// The first case of an operation, where that has the operation in its domain.
 #[tactic(auto, unfolding(crate::specs::Spaces::allowed_case))]
-fn allowed_case(cases: &[Case], op: u8) -> Option<&Case>
+pub fn allowed_case(cases: &[Case], op: u8) -> Option<&Case>
     requires { All IsCase cases.now }
     ensures allowed { option_map (λ c. c.now) result ≡ allowed_case cases.now op }
     ensures whole { IfSome result (λ c. IsCase c.now) }
 {
     match first_case(cases, op) {
         Some(case) => {
-            if is_in(case.domain(Slot::Op), u32::from(case.op)) {
+            if case.domain(Slot::Op).has(u32::from(case.op)) {
                 Some(case)
             } else {
                 None

@@ -1,5 +1,5 @@
 -- Operations, upwards from their pivot and round to it again.
-use Rattle.std.proofs.Common.{◌≡◌, ℕ, zero, suc, ◌+◌, ◌^◌, ◌<◌, ◌≤◌, Bool, true, false, cond, ◌==◌, List, [], ◌∷◌, length, get_or, slice_index, MatchOption, find, Option, Some, None, ◌⊎◌, inl, inr, refl, sym, ap, ◌∙◌, subst, arith}
+use Rattle.std.proofs.Common.{◌≡◌, ℕ, zero, suc, ◌+◌, ◌^◌, ◌<◌, Bool, true, false, cond, ◌==◌, List, [], ◌∷◌, length, get_or, MatchOption, find, Option, Some, None, ◌⊎◌, inl, inr, refl, sym, subst, arith}
 use Rattle.std.proofs.lemmas.Bool.{cases_lt}
 use Rattle.std.proofs.lemmas.Bool.Decides.{nat_tests}
 use Rattle.fd_prob.specs.declared.problem.Assignment.{Assignment}
@@ -13,7 +13,7 @@ use Rattle.fd_prob.specs.Order.{ComesBefore, pivot_of, rank}
 use Rattle.fd_prob.specs.Relations.{value_of}
 use Rattle.fd_prob.specs.Slots.{slot_number}
 use Rattle.fd_solve.specs.Answers.{IsLeast, NothingFits}
-use Rattle.fd_solve.specs.Search.{ArePivots, Before, IsFitting, IsLeastFrom, IsLeastOf, IsMadeOfAny, NoneBetween}
+use Rattle.fd_solve.specs.Search.{IsFitting, IsLeastFrom, IsMadeOfAny, NoneBetween}
 use Rattle.fd_solve.proofs.Ranks.{rank_round, rank_up}
 use Rattle.fd_solve.proofs.Searching.{value_word}
 
@@ -48,9 +48,6 @@ module _ (p : Problem) (law : FittingIsOfACase) where
   of_any : (op : ℕ) (y : Assignment) → IsFitting p y → value_of y slots.Op ≡ op → IsMadeOfAny op p.cases y
   of_any op y fitting is = (fitting.0, is, (law p y).0 fitting.1)
 
-  fits_any : (op : ℕ) (y : Assignment) → IsMadeOfAny op p.cases y → IsFitting p y
-  fits_any op y made = (made.0, (law p y).1 made.2)
-
   pub operation_below : IsProblem p → (y : Assignment) → IsFitting p y → value_of y slots.Op < 58
   operation_below problem y fitting =
       let any = (law p y).0 fitting.1 in
@@ -78,24 +75,6 @@ module _ (p : Problem) (law : FittingIsOfACase) where
     | inl less ↦ none y fitting above less
     | inr from_op ↦ nothing y (of_any op y fitting (omega (arith, below, from_op)))
   ]
-
-  -- the order of the problem is that of the pivots
-  order_is : (op : ℕ) (pivots : List ℕ) → ArePivots p op pivots → (y x : Assignment) → value_of y slots.Op ≡ op → ComesBefore p y x → Before pivots y x
-  order_is op pivots are y x is before =
-      let e : slice_index pivots (slot_number before.0) ≡ pivot_of p (value_of y slots.Op) before.0 = are before.0 ∙ ap (λ (o : ℕ). pivot_of p o before.0) (sym is) in
-      let P : ℕ → Type 0 = λ pivot. rank pivot (value_of y before.0) < rank pivot (value_of x before.0) in
-      (before.0, before.1, subst P (sym e) before.2)
-
-  -- the first operation of which anything fits
-  pub first_fit : (from op : ℕ) → from ≤ op → NoneBetween p from op → (pivots : List ℕ) → ArePivots p op pivots → (x : Assignment) → IsLeastOf pivots (IsMadeOfAny op p.cases) x → IsLeastFrom p from x
-  first_fit from op above none pivots are x best = record {
-    fitting = fits_any op x best.meets;
-    above = omega (arith, above, best.meets.1);
-    lower = λ y fitting low high. none y fitting low (omega (arith, high, best.meets.1));
-    least = λ y fitting same before.
-        let is : value_of y slots.Op ≡ op = same ∙ best.meets.1 in
-        best.least y (of_any op y fitting is) (order_is op pivots are y x is before);
-  }
 
   module _ (problem : IsProblem p) (pivot : ℕ) (pivot_is : (op : ℕ) → pivot ≡ pivot_of p op slots.Op) where
     -- what comes before x has a lower rank of its operation, or the same operation

@@ -1,9 +1,7 @@
 -- A problem has one answer.
-use Rattle.std.proofs.Common.{◌≡◌, ℕ, ⊎_elim, refl, ap, arith}
+use Rattle.std.proofs.Common.{ℕ, ⊎_elim, refl, ap, arith}
 use Rattle.fd_prob.specs.declared.problem.Problem.{Problem}
-use Rattle.fd_solve.specs.declared.answers.Solved.{Solved}
 use Rattle.fd_solve.specs.declared.answers.Solved.TheVariants as answers
-use Rattle.fd_solve.specs.Answers.{IsAnswer, IsLeast}
 use Rattle.fd_solve.specs.Laws.{ArePivotsWords, HasOneAnswer}
 use Rattle.fd_solve.proofs.StrictOrder.{strict_and_total}
 

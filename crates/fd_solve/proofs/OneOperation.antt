@@ -1,5 +1,5 @@
 -- Cases of one operation.
-use Rattle.std.proofs.Common.{◌≡◌, ◌≢◌, ℕ, ◌+◌, ◌<◌, ◌≤◌, true, List, length, get_or, Option, ◌⊎◌, inl, inr, refl, sym, ◌∙◌, subst, arith}
+use Rattle.std.proofs.Common.{◌≡◌, ◌≢◌, ℕ, ◌+◌, ◌<◌, true, List, length, get_or, Option, ◌⊎◌, inl, inr, refl, sym, ◌∙◌, subst, arith}
 use Rattle.std.proofs.lemmas.Bool.{cases_lt}
 use Rattle.dom_set.specs.Elements.{is_in}
 use Rattle.fd_narrow.specs.Narrowing.{IsInside, domain_in}
@@ -11,7 +11,7 @@ use Rattle.fd_prob.specs.Fitting.{domain_of}
 use Rattle.fd_prob.specs.Laws.{IsOfCase}
 use Rattle.fd_prob.specs.Order.{IsAssignment}
 use Rattle.fd_prob.specs.Relations.{value_of}
-use Rattle.fd_solve.specs.Search.{IsCut, IsLesser, IsMadeOf, IsMadeOfAny, IsMet, LeastOrNone}
+use Rattle.fd_solve.specs.Search.{IsCut, IsLesser, IsMadeOf, IsMet, LeastOrNone}
 use Rattle.fd_solve.proofs.Lists.{any_default}
 use Rattle.fd_solve.proofs.Orders.{as_well, lesser_of_both}
 
@@ -51,15 +51,6 @@ module _ (c : Case) (start : List (List ℕ)) (start_is : start ≡ c.doms) (op 
 -- the assignment has the operation and is of one of the first n cases
 abbrev pub IsMadeBefore : ℕ → List Case → ℕ → Assignment → Type 0
 IsMadeBefore op cases n x = IsAssignment x × (value_of x slots.Op ≡ op) × ((k : ℕ) × (c : Case) × (k < n) × (k < length cases) × (get_or cases k c ≡ c) × IsOfCase x c)
-
-pub none_before : (op : ℕ) (cases : List Case) (x : Assignment) → IsMadeBefore op cases 0 x → ⊥
-none_before op cases x is = omega (arith, is.2.2)
-
-pub made_of_any : (op : ℕ) (cases : List Case) (n : ℕ) → length cases ≤ n → (ps : List ℕ) (o : Option Assignment) → LeastOrNone ps (IsMadeBefore op cases n) o → LeastOrNone ps (IsMadeOfAny op cases) o
-made_of_any op cases n all ps o least = as_well ps (IsMadeBefore op cases n) (IsMadeOfAny op cases)
-    (λ y is. (is.0, is.1, (is.2.0, is.2.1, is.2.3, is.2.4, is.2.5)))
-    (λ y is. (is.0, is.1, (is.2.0, is.2.1, omega (arith, is.2.2, all), is.2.2, is.2.3, is.2.4)))
-    o least
 
 module _ (op : ℕ) (cases : List Case) (n : ℕ) (c : Case) (lt : n < length cases) (here : c ≡ get_or cases n c) where
   wider : (x : Assignment) → IsMadeBefore op cases n x → IsMadeBefore op cases (n + 1) x

@@ -41,9 +41,6 @@ before_same ps x y z before same =
     let e = rank_same ps y z before.0 (same before.0) in
     (before.0, λ t lt. before.1 t lt ∙ same t, omega (arith, before.2, e))
 
-pub not_before_itself : (ps : List ℕ) (x y : Assignment) → AreSame x y → Before ps x y → ⊥
-not_before_itself ps x y same before = let e = rank_same ps x y before.0 (same before.0) in omega (arith, before.2, e)
-
 -- the least by one condition is the least by another that says the same
 pub as_well : (ps : List ℕ) (P Q : Assignment → Type 0) → ((y : Assignment) → P y → Q y) → ((y : Assignment) → Q y → P y) → (o : Option Assignment) → LeastOrNone ps P o → LeastOrNone ps Q o
 as_well ps P Q there back None none = λ y q. none y (back y q)

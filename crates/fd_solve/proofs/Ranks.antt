@@ -1,5 +1,5 @@
 -- Ranks from a pivot, and the element of a set with the least.
-use Rattle.std.proofs.Common.{◌≡◌, ℕ, zero, suc, ◌+◌, ◌-◌, ◌%◌, ◌^◌, ◌<◌, ◌≤◌, Bool, true, false, cond, ◌||◌, eqb, eqb-true, leb, List, [], ◌∷◌, length, get_or, find, Some, None, All, slice_index, ◌⊎◌, inl, inr, ⊎_elim, refl, sym, ap, ◌∙◌, subst, arith}
+use Rattle.std.proofs.Common.{◌≡◌, ℕ, zero, suc, ◌+◌, ◌-◌, ◌%◌, ◌^◌, ◌<◌, ◌≤◌, Bool, true, false, cond, ◌||◌, eqb, eqb-true, leb, List, [], ◌∷◌, length, get_or, find, Some, None, All, slice_index, ◌⊎◌, inl, inr, ⊎_elim, refl, ap, ◌∙◌, subst, arith}
 use Rattle.std.specs.Prelude.{slice_get}
 use Rattle.std.specs.List.Sorted.{IsStrictlyIncreasing}
 use Rattle.std.specs.Option.{option_or}
@@ -31,10 +31,6 @@ rank_injective p v w lp lv lw e = elim (rank_is p v lp lv) [
   | inl a ↦ elim (rank_is p w lp lw) [ inl b ↦ omega (arith, a.1, b.1, e) | inr b ↦ absurd (omega (arith, a.0, a.1, b.0, b.1, e, lv, lw)) ]
   | inr a ↦ elim (rank_is p w lp lw) [ inl b ↦ absurd (omega (arith, a.0, a.1, b.0, b.1, e, lv, lw)) | inr b ↦ omega (arith, a.1, b.1, e) ]
 ]
-
--- the code's subtraction
-pub rank_wraps : (p v : ℕ) → p < 2 ^ 32 → v < 2 ^ 32 → (v + (2 ^ 32 - p)) % 2 ^ 32 ≡ rank p v
-rank_wraps p v lp lv = elim (rank_is p v lp lv) [ inl a ↦ omega (arith, a.0, a.1, lp, lv) | inr a ↦ omega (arith, a.0, a.1, lp, lv) ]
 
 -- ranks from a pivot that is k higher
 pub rank_shifted : (p k v : ℕ) → p < 2 ^ 32 → k < 2 ^ 32 → v < 2 ^ 32 → ((k ≤ rank p v) × (rank ((p + k) % 2 ^ 32) v + k ≡ rank p v)) ⊎ ((rank p v < k) × (rank ((p + k) % 2 ^ 32) v + k ≡ rank p v + 2 ^ 32))
@@ -208,9 +204,6 @@ module _ (xs : List ℕ) (p k : ℕ) (up : IsStrictlyIncreasing xs) (words : All
 -- no element has a rank of 2 ^ 32
 pub next_none : (xs : List ℕ) (p k : ℕ) → All (λ x. x < 2 ^ 32) xs → p < 2 ^ 32 → 2 ^ 32 ≤ k → IsNext xs p k None
 next_none xs p k words lp high w h = omega (arith, rank_word p w lp (member_word xs words w h), high)
-
-pub next_empty : (xs : List ℕ) (p k : ℕ) → xs ≡ [] → IsNext xs p k None
-next_empty xs p k empty w h = let clash : false ≡ true = ap (λ (ys : List ℕ). is_in ys w) (sym empty) ∙ h in absurd (cc clash)
 
 pub first_is_in : (xs : List ℕ) (p v : ℕ) → first_cyclic xs p ≡ Some v → is_in xs v ≡ true
 first_is_in xs p v is =

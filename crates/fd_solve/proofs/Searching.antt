@@ -1,5 +1,5 @@
 -- The search in the domains of a case.
-use Rattle.std.proofs.Common.{◌≡◌, ℕ, ◌+◌, ◌^◌, ◌<◌, true, false, List, [], ◌∷◌, length, Some, None, slice_index, inl, inr, ⊎_elim, sym, ap, ◌∙◌, subst, arith, get_or}
+use Rattle.std.proofs.Common.{◌≡◌, ℕ, ◌+◌, ◌^◌, ◌<◌, true, false, List, [], ◌∷◌, length, Some, slice_index, inl, inr, ⊎_elim, sym, ap, ◌∙◌, subst, arith, get_or}
 use Rattle.std.specs.List.{list_all}
 use Rattle.std.proofs.lemmas.Bool.{cases_lt, false≢true}
 use Rattle.std.proofs.lemmas.List.{ext_get_or}
@@ -26,9 +26,6 @@ value_word x s is = is.words (slot_number s) 0 (omega (arith, is.length, place_b
 -- whatever meets the case and has a value of rank below k for the variable was looked for in vain
 abbrev pub Tried : Case → List (List ℕ) → Slot → ℕ → ℕ → Type 0
 Tried c doms s pivot k = (y : Assignment) → IsMet c doms y → rank pivot (value_of y s) < k → ⊥
-
-pub none_tried : (c : Case) (doms : List (List ℕ)) (s : Slot) (pivot : ℕ) → Tried c doms s pivot 0
-none_tried c doms s pivot y met below = omega (arith, below)
 
 -- at one place both have one value
 same_at : (x y : Assignment) (s t : Slot) → slot_number t ≡ slot_number s → value_of x s ≡ value_of y s → value_of x t ≡ value_of y t
@@ -104,10 +101,6 @@ module _ (c : Case) (doms : List (List ℕ)) (s : Slot) (v : ℕ) (cut : List (L
               none y (inward y met (rank_injective p (value_of y s) v lp (value_word y s met.words) lv same))
         ]
 
--- no value is left
-pub all_tried : (c : Case) (doms : List (List ℕ)) (s : Slot) (pivot k : ℕ) → Tried c doms s pivot k → IsNext (domain_in doms s) pivot k None → (y : Assignment) → IsMet c doms y → ⊥
-all_tried c doms s pivot k tried none y met = tried y met (none (value_of y s) (met.inside s))
-
 -- where all variables are fixed, one assignment is all there is
 module _ (c : Case) (doms : List (List ℕ)) (fixed : FixedBelow doms 14) (x : Assignment) (words : IsAssignment x) (inside : IsInside doms x) where
   pub last_found : AllHold (op_numbered c.op) c.rels x → (ps : List ℕ) → IsLeastOf ps (IsMet c doms) x
@@ -158,9 +151,6 @@ module _ (c : Case) (doms start : List (List ℕ)) (start_is : start ≡ doms) (
     one_tried_at lp lv none =
         let word : slice_index ps (slot_number s) < 2 ^ 32 = subst (λ (m : ℕ). slice_index ps m < 2 ^ 32) (sym place) lp in
         subst (λ (m : ℕ). Tried c doms s (slice_index ps m) (rank (slice_index ps m) v + 1)) place (one_tried c doms s v cut cuts_here ps k tried_here next_here word lv none)
-
-pub all_tried_at : (c : Case) (doms : List (List ℕ)) (s : Slot) (pivot k : ℕ) (domain : List ℕ) → domain ≡ domain_in doms s → Tried c doms s pivot k → IsNext domain pivot k None → (y : Assignment) → IsMet c doms y → ⊥
-all_tried_at c doms s pivot k domain is tried none = all_tried c doms s pivot k tried (subst (λ (xs : List ℕ). IsNext xs pivot k None) is none)
 
 -- all relations hold where the test of the code says so
 module _ (c : Case) (op : Op) (rels : List Rel) (x : Assignment) (op_is : op ≡ op_numbered c.op) (rels_is : rels ≡ c.rels) where

@@ -17,7 +17,7 @@ use Rattle.fd_prob.specs.Slots.{slot_number}
 abbrev pub is_slot : Slot → Slot → Bool
 is_slot s t = slot_number s == slot_number t
 
--- the relation looks at the value of the variable
+-- the relation may look at the value of the variable, by what the operation is
 abbrev pub mentions : Rel → Slot → Bool
 mentions (Same s t) v = is_slot s v || is_slot t v
 mentions (Differ s t) v = is_slot s v || is_slot t v

@@ -1,20 +1,9 @@
-// Copies of what a problem has.
+// Copies of relations.
 ghost use Rattle.std.specs.Prelude.{◌≡◌, ◌++◌, IfOk, OnOk};
 
-use dom_set::{OutOfMemory, Set};
+use dom_set::OutOfMemory;
 use fd_prob::{Items, Quad, Rel};
 use std::alloc::Global;
-
-/// The same sets, in memory of their own.
-pub fn copy_sets(alloc: Global, sets: &[Set]) -> Result<Vec<Set>, OutOfMemory>
-    ensures { IfOk result (λ made. made.items ≡ sets.now) }
-{
-    let mut made = Vec::new(alloc);
-    for set in sets {
-        made.push(set.copy(alloc)?)?;
-    }
-    Ok(made)
-}
 
 fn copy_row(alloc: Global, row: &Quad) -> Result<Quad, OutOfMemory>
     ensures { IfOk result (λ made. made ≡ row.now) }

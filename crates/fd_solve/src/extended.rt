@@ -3,9 +3,9 @@ ghost use Rattle.std.specs.Prelude.{◌≡◌, ◌++◌, All, IfOk, OnOk, length
 ghost use Rattle.fd_prob.specs.Extras.{closed_by, cut_by_all, extended, extended_case, extended_cases};
 ghost use Rattle.fd_prob.specs.Fitting.{IsCase, IsProblem};
 
-use crate::copies::{copy_sets, push_rels};
+use crate::copies::push_rels;
 use dom_set::{OutOfMemory, Set};
-use fd_prob::{Case, Extra, Items, Problem, Rel, Slot};
+use fd_prob::{Case, Extra, Items, Problem, Rel, Slot, copy_sets};
 use std::alloc::Global;
 
 /// Cuts domains of variables to what is in sets.

@@ -15,7 +15,7 @@ fn is_slot(s: Slot, t: Slot) -> bool
     s.number() == t.number()
 }
 
-/// Whether the relation looks at the value of the variable.
+/// Whether the relation may look at the value of the variable, by what the operation is.
 fn mentions(rel: &Rel, v: Slot) -> bool
     ensures { result ≡ mentions rel.now v }
 {

@@ -1,10 +1,9 @@
 // The pivots of a problem.
-ghost use Rattle.std.specs.Prelude.{◌≡◌, ◌<◌, ◌==◌, ℕ, All, IfOk, IfSome, MatchOption, None, find, length, option_map, slice_index};
+ghost use Rattle.std.specs.Prelude.{◌≡◌, ◌<◌, ◌==◌, ℕ, All, IfOk, MatchOption, None, find, length, slice_index};
 ghost use Rattle.fd_prob.specs.declared.slot.Slot.{Slot};
 ghost use Rattle.fd_prob.specs.Fitting.{IsCase, IsProblem, domain_of};
 ghost use Rattle.fd_prob.specs.declared.slot.Slot.TheVariants as slots;
 ghost use Rattle.fd_prob.specs.Order.{allowed_ops, draw_of, picked, pivot_of};
-ghost use Rattle.fd_prob.specs.Spaces.{allowed_case};
 ghost use Rattle.fd_prob.specs.Slots.{slot_number};
 ghost use Rattle.fd_solve.specs.Laws.{ArePivotsWords, HasWordPicks};
 ghost use Rattle.fd_solve.specs.Search.{ArePivots};
@@ -12,40 +11,8 @@ ghost use Rattle.fd_solve.specs.Search.{ArePivots};
 use crate::place::slot_at;
 use crate::search::words;
 use dom_set::{OutOfMemory, Set};
-use fd_prob::{Case, Problem, Slot};
+use fd_prob::{Case, Problem, allowed_case, first_case};
 use std::alloc::Global;
-
-/// The first case of an operation.
-pub fn first_case(cases: &[Case], op: u8) -> Option<&Case>
-    requires { All IsCase cases.now }
-    ensures first { option_map (λ c. c.now) result ≡ find (λ c. c.op == op) cases.now }
-    ensures whole { IfSome result (λ c. IsCase c.now) }
-{
-    for case in cases {
-        if case.op == op {
-            return Some(case);
-        }
-    }
-    None
-}
-
-/// The operation, where its first case has it in its domain.
-#[tactic(auto, unfolding(fd_prob::specs::Spaces::allowed_case))]
-fn allowed(cases: &[Case], op: u8) -> Option<u8>
-    requires { All IsCase cases.now }
-    ensures { result ≡ option_map (λ c. c.op) (allowed_case cases.now op) }
-{
-    match first_case(cases, op) {
-        Some(case) => {
-            if case.domain(Slot::Op).has(u32::from(case.op)) {
-                Some(case.op)
-            } else {
-                None
-            }
-        }
-        None => None,
-    }
-}
 
 /// The numbers of the allowed operations.
 fn allowed_ops(alloc: Global, p: &Problem) -> Result<Vec<u8>, OutOfMemory>
@@ -54,8 +21,8 @@ fn allowed_ops(alloc: Global, p: &Problem) -> Result<Vec<u8>, OutOfMemory>
 {
     let mut ops = Vec::new(alloc);
     for op in 0..58 {
-        if let Some(op) = allowed(p.cases.as_slice(), op) {
-            ops.push(op)?;
+        if let Some(case) = allowed_case(p.cases.as_slice(), op) {
+            ops.push(case.op)?;
         }
     }
     Ok(ops)

@@ -4,20 +4,8 @@ ghost use Rattle.fd_prob.specs.Fitting.{IsCase, IsProblem};
 
 use crate::extended::extended;
 use dom_set::{OutOfMemory, Set};
-use fd_prob::{Assignment, Case, Extra, Problem, SLOTS, Slot, fits};
+use fd_prob::{Assignment, Case, Extra, Problem, SLOTS, Slot, first_case, fits};
 use std::alloc::Global;
-
-fn first_of(p: &Problem, op: u8) -> Option<&Case>
-    requires { IsProblem p.now }
-    ensures { IfSome result (λ c. IsCase c.now) }
-{
-    for case in p.cases.as_slice() {
-        if case.op == op {
-            return Some(case);
-        }
-    }
-    None
-}
 
 fn picked(draw: u32, domain: &Set) -> u32 {
     let size = domain.size();
@@ -31,7 +19,7 @@ fn picked(draw: u32, domain: &Set) -> u32 {
 fn is_allowed(p: &Problem, op: u8) -> bool
     requires { IsProblem p.now }
 {
-    match first_of(p, op) {
+    match first_case(p.cases.as_slice(), op) {
         Some(case) => case.domain(Slot::Op).has(u32::from(op)),
         None => false,
     }
@@ -79,7 +67,7 @@ fn pivot(p: &Problem, op: u8, place: usize) -> u32
             nth_allowed(p, draw % count)
         };
     }
-    match first_of(p, op) {
+    match first_case(p.cases.as_slice(), op) {
         Some(case) => picked(draw, case.domain(SLOTS[place])),
         None => 0,
     }

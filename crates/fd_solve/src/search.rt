@@ -1,13 +1,10 @@
 // The search in the domains of one case.
 ghost use Rattle.std.specs.Prelude.{◌≡◌, ◌<◌, ◌≤◌, ◌↔◌, ◌^◌, ℕ, All, IfOk, IsTrue, List, MatchOption};
-ghost use Rattle.std.specs.List.{list_all};
 ghost use Rattle.dom_set.specs.Elements.{is_in};
 ghost use Rattle.fd_narrow.specs.Narrowing.{IsInside, domain_in};
 ghost use Rattle.fd_prob.specs.declared.problem.Assignment.{Assignment};
 ghost use Rattle.fd_prob.specs.Fitting.{IsCase};
 ghost use Rattle.fd_prob.specs.Order.{IsAssignment};
-ghost use Rattle.fd_prob.specs.Relations.{holds};
-ghost use Rattle.fd_prob.specs.Slots.{slot_number};
 ghost use Rattle.fd_solve.specs.Search.{FixedBelow, IsCut, IsMet, LeastOrNone};
 
 use crate::free::{first_passing, is_free};
@@ -15,8 +12,7 @@ use crate::order::{next_from, rank};
 use crate::place::slot_at;
 use dom_set::{OutOfMemory, Set, set_laws};
 use fd_narrow::Domains;
-use fd_prob::{Assignment, Case, Rel, Slot, holds};
-use rv_isa::Op;
+use fd_prob::{Assignment, Case, Slot, all_hold};
 use std::alloc::Global;
 
 /// The set of one number.
@@ -41,6 +37,7 @@ pub fn with_value(
     ensures { IfOk result (IsCut case.now doms slot value) }
 {
     let mut cut = doms;
+    // `count` says that there is a domain at the variable's place.
     let _count = cut.count();
     cut.set(slot, only(alloc, value)?);
     let narrowed = cut.narrowed(alloc, case.operation(), case.rels.as_slice())?;
@@ -64,18 +61,6 @@ fn lowest(doms: &Domains) -> Option<Assignment>
     }
     words(&values);
     Some(Assignment { values })
-}
-
-/// Whether all relations hold.
-fn all_hold(op: Op, x: &Assignment, rels: &[Rel]) -> bool
-    ensures { result ≡ list_all (holds op x.now) rels.now }
-{
-    for rel in rels {
-        if !holds(op, x, rel) {
-            return false;
-        }
-    }
-    true
 }
 
 /// The only assignment that is in the domains, if it meets the relations of the case.

@@ -172,6 +172,18 @@ fn a_register_with_a_fitting_value_is_found(rt: HostRuntime) -> Result<(), Fail>
     Ok(())
 }
 
+#[test]
+fn a_fetch_has_the_budget_of_its_pairs(rt: HostRuntime) -> Result<(), Fail> {
+    let alloc = rt.alloc();
+    let mut p = problem_of(alloc, &FITTING, [0; 14])?;
+    p.fetch = true;
+    p.pairs = 5;
+    let x = assigned(18, &[(Slot::Rs1, 2), (Slot::A, 6), (Slot::Imm, 1)]);
+    assert_eq!(rt; solve(alloc, &p, 5)?, Solved::Found(x));
+    assert_eq!(rt; solve(alloc, &p, 4)?, Solved::Spent);
+    Ok(())
+}
+
 const REGISTERS: &[Option<u32>] = &[Some(0), Some(7), None, Some(2), Some(7)];
 
 const ADDED: Row = (

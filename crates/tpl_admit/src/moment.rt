@@ -148,11 +148,10 @@ fn touches(p: u32, access: &Access) -> bool
     is_data(access.role) && first < block + 64 && block < first + u64::from(access.size)
 }
 
-fn record_touches(p: u32, record: &Record) -> bool
-    ensures { result ≡ record_touches p record.now }
+fn record_touches(p: u32, step: &Record) -> bool
+    ensures { result ≡ record_touches p step.now }
 {
-    record
-        .accesses
+    step.accesses
         .as_slice()
         .iter()
         .any(|access| touches(p, access))

@@ -60,10 +60,10 @@ fn is_any_weighted(ways: &[(u32, Vec<Item>)]) -> bool
     false
 }
 
-fn is_any_repeat(open: &[OpenBlock]) -> bool
-    ensures { result ≡ list_any (λ b. is_repeat (open_of b)) open.now }
+fn is_any_repeat(blocks: &[OpenBlock]) -> bool
+    ensures { result ≡ list_any (λ b. is_repeat (open_of b)) blocks.now }
 {
-    for one in open {
+    for one in blocks {
         if one.block.is_repeat() {
             return true;
         }

@@ -1,8 +1,9 @@
 //! Problems with domains of all words, and the words that are legal for each register.
 
 use super::{
-    ALL, Domain, Kind, REGISTER, Ranges, SIGNED, SUM, TWO_ROWS, domains_of, narrowed, set_of,
+    ALL, Domain, Kind, OWN, REGISTER, Ranges, SIGNED, SUM, TWO_ROWS, domains_of, narrowed, set_of,
 };
+use dom_set::Set;
 use fd_prob::{Items, Rel, Slot};
 use rv_isa::Op;
 use std::alloc::Global;
@@ -10,11 +11,11 @@ use std::process::Abort;
 use std::test::Fail;
 
 /// An operation, domains, relations, and a variable with its domain after them.
-type Large = (Op, &'static [Domain], &'static [Kind], Slot, Ranges);
+pub(super) type Large = (Op, &'static [Domain], &'static [Kind], Slot, Ranges);
 
 const ANY: Domain = (Slot::A, ALL);
 
-const LARGE: [Large; 31] = [
+const LARGE: [Large; 37] = [
     (
         Op::Add,
         &[ANY, (Slot::B, &[(5, 9)])],
@@ -283,9 +284,58 @@ const LARGE: [Large; 31] = [
         Slot::B,
         &[(100, 103)],
     ),
+    (
+        Op::Lw,
+        &[
+            (Slot::Ea, &[(4, 4)]),
+            (Slot::FirstPte, &[(6, 6)]),
+            (Slot::SecondPte, &[(8, 8)]),
+            (Slot::DataWord, ALL),
+        ],
+        &[TWO_ROWS],
+        Slot::DataWord,
+        &[(0, 9)],
+    ),
+    // A sum that names a variable twice.
+    (
+        Op::Lw,
+        &[ANY, (Slot::Ea, &[(0x8000_0002, 0x8000_0002)])],
+        &[Kind::Sum(Slot::A, Slot::A, Slot::Ea)],
+        Slot::A,
+        &[(0x4000_0001, 0x4000_0001), (0xc000_0001, 0xc000_0001)],
+    ),
+    (
+        Op::Lw,
+        &[ANY, (Slot::Ea, &[(u32::MAX, u32::MAX)])],
+        &[Kind::Sum(Slot::A, Slot::A, Slot::Ea)],
+        Slot::A,
+        &[],
+    ),
+    (
+        Op::Lw,
+        &[ANY, (Slot::Ea, ALL)],
+        &[Kind::Sum(Slot::A, Slot::Ea, Slot::A)],
+        Slot::Ea,
+        &[(0, 0)],
+    ),
+    (
+        Op::Lw,
+        &[ANY],
+        &[Kind::Sum(Slot::A, Slot::A, Slot::A)],
+        Slot::A,
+        &[(0, 0)],
+    ),
+    // An index that is its own value.
+    (
+        Op::Add,
+        &[ANY],
+        &[Kind::Holds(Slot::A, Slot::A, OWN)],
+        Slot::A,
+        &[(1, 3), (5, u32::MAX)],
+    ),
 ];
 
-fn is_left(alloc: Global, row: Large) -> Result<bool, Fail> {
+pub(super) fn is_left(alloc: Global, row: Large) -> Result<bool, Fail> {
     let after = narrowed(alloc, row.0, row.1, row.2)?;
     let wanted = set_of(alloc, row.4)?;
     Ok(*after.domain(row.3) == wanted)
@@ -340,6 +390,30 @@ fn each_register_of_s_has_its_legal_words(rt: HostRuntime) -> Result<(), Fail> {
 fn each_register_of_m_has_its_legal_words(rt: HostRuntime) -> Result<(), Fail> {
     for (csr, count) in LEGAL_IN_M {
         assert_eq!(rt; legal_count(rt.alloc(), csr)?, count);
+    }
+    Ok(())
+}
+
+/// Whether multiples of 4 in a page and immediates that leave a remainder add up to multiples of 4.
+fn may_add_up(alloc: Global, remainder: u32) -> Result<bool, Fail> {
+    let page: Domain = (Slot::A, &[(0x8000_0000, 0x8000_0fff)]);
+    let mut domains = domains_of(alloc, &[page, (Slot::Imm, SIGNED)])?;
+    let fourths = Set::from_patterns(alloc, &[(3, 0)])?;
+    let bases = domains.domain(Slot::A).and(alloc, &fourths)?;
+    let left = Set::from_patterns(alloc, &[(3, remainder)])?;
+    let immediates = domains.domain(Slot::Imm).and(alloc, &left)?;
+    domains.set(Slot::A, bases);
+    domains.set(Slot::Imm, immediates);
+    domains.set(Slot::Ea, fourths);
+    let rels: [Rel; 1] = [Rel::Sum(Slot::A, Slot::Imm, Slot::Ea)];
+    domains.narrow(alloc, Op::Sw, &rels)?;
+    Ok(!domains.has_empty())
+}
+
+#[test]
+fn sums_leave_what_their_parts_do(rt: HostRuntime) -> Result<(), Fail> {
+    for remainder in 0..4 {
+        assert_eq!(rt; may_add_up(rt.alloc(), remainder)?, remainder == 0);
     }
     Ok(())
 }

@@ -164,22 +164,27 @@ fn rows(alloc: Global, fitting: bool) -> Result<Vec<Row>, Fail> {
     Ok(rows)
 }
 
-/// Whether an assignment is found, and it fits.
-fn is_found(alloc: Global, p: &Problem) -> Result<bool, Fail>
+/// Whether an assignment of the operation is found, and it fits.
+fn is_found(alloc: Global, p: &Problem, op: u32) -> Result<bool, Fail>
     requires { IsProblem p.now }
 {
     match solve(alloc, p, u64::MAX)? {
-        Solved::Found(x) => Ok(fits(p, &x)),
+        Solved::Found(x) => Ok(x.value(Slot::Op) == op && fits(p, &x)),
         Solved::NoneFits | Solved::Spent => Ok(false),
     }
 }
 
+/// What an operation's number is multiplied by for a draw: one more than a multiple of the number of operations,
+/// so that each operation is the pivot of its draw.
+const SPREAD: u32 = 58 * 1_250_000 + 1;
+
 #[test]
 fn every_operation_is_searched(rt: HostRuntime) -> Result<(), Fail> {
     let alloc = rt.alloc();
-    for draw in [0, 17, 0x1234_5678, u32::MAX] {
-        let p = problem_of(alloc, &rows(alloc, true)?, [draw; 14])?;
-        assert!(rt; is_found(alloc, &p)?, "with {}", draw);
+    let rows = rows(alloc, true)?;
+    for op in 0..58u32 {
+        let p = problem_of(alloc, &rows, [op.wrapping_mul(SPREAD); 14])?;
+        assert!(rt; is_found(alloc, &p, op)?, "operation {}", op);
     }
     Ok(())
 }

@@ -1,8 +1,13 @@
 // Domains of all numbers.
 
-use super::{ALL, Domain, Link, Ranges, Row, assigned, problem_of};
+ghost use Rattle.std.specs.Prelude.{IfOk};
+ghost use Rattle.fd_prob.specs.Fitting.{IsCase, IsProblem};
+
+use super::{ALL, Domain, Link, Ranges, Row, assigned, case_of, problem_of, set_of};
 use crate::{Solved, solve};
-use fd_prob::Slot;
+use dom_set::Set;
+use fd_prob::{Case, Items, Problem, Slot};
+use std::alloc::Global;
 use std::process::Abort;
 use std::test::Fail;
 
@@ -214,6 +219,102 @@ const TO_BOTH: &[Domain] = &[
     (Slot::OldCsr, ALL),
 ];
 
+/// A known operand, and any old value.
+const FROM_SATP: &[Domain] = &[
+    (Slot::Rs1, &[(5, 5)]),
+    (Slot::Csr, &[(0x180, 0x180)]),
+    (Slot::A, &[(0x8000_0000, 0x8000_0000)]),
+    (Slot::OldCsr, ALL),
+];
+
+const FROM_SCAUSE: &[Domain] = &[
+    (Slot::Rs1, &[(5, 5)]),
+    (Slot::Csr, &[(0x142, 0x142)]),
+    (Slot::A, &[(16, 16)]),
+    (Slot::OldCsr, ALL),
+];
+
+const FROM_MSTATUS: &[Domain] = &[
+    (Slot::Rs1, &[(5, 5)]),
+    (Slot::Csr, &[(0x300, 0x300)]),
+    (Slot::A, &[(0x1000, 0x1000)]),
+    (Slot::OldCsr, ALL),
+];
+
+/// Operands of the upper half that leave bits of a root table where there is no mode.
+const NO_MODE: &[Domain] = &[
+    (Slot::Rs1, &[(5, 5)]),
+    (Slot::Csr, &[(0x180, 0x180)]),
+    (
+        Slot::A,
+        &[
+            (0x8000_0000, 0x8007_ffff),
+            (0x8010_0000, 0x8017_ffff),
+            (0xffe0_0000, 0xffe7_ffff),
+        ],
+    ),
+    (Slot::OldCsr, &[(0x8008_0000, 0x8008_0000)]),
+];
+
+/// A known word, to any address.
+const TO_ANY: &[Domain] = &[
+    (Slot::Rs1, &[(5, 5)]),
+    (Slot::Csr, ALL),
+    (Slot::A, &[(7, 7)]),
+];
+
+/// A known operand of any register, to one that nothing is written to.
+const FROM_ANY: &[Domain] = &[
+    (Slot::Rs1, EACH),
+    (Slot::Csr, &[(0xf14, 0xf14)]),
+    (Slot::A, &[(7, 7)]),
+];
+
+/// Variables that are equal in a row, of which the last is known, each relation before the one that it waits for.
+const CHAIN: Row = (
+    18,
+    &[
+        (Slot::Imm, &[(5, 5)]),
+        (Slot::Rd, ALL),
+        (Slot::Csr, ALL),
+        (Slot::Ea, ALL),
+        (Slot::A, ALL),
+        (Slot::B, ALL),
+        (Slot::FirstPte, ALL),
+        (Slot::SecondPte, ALL),
+        (Slot::DataWord, ALL),
+        (Slot::OldCsr, ALL),
+        (Slot::Vector, ALL),
+    ],
+    &[
+        Link::Same(Slot::OldCsr, Slot::Vector),
+        Link::Same(Slot::DataWord, Slot::OldCsr),
+        Link::Same(Slot::SecondPte, Slot::DataWord),
+        Link::Same(Slot::FirstPte, Slot::SecondPte),
+        Link::Same(Slot::B, Slot::FirstPte),
+        SAME,
+        Link::Same(Slot::Ea, Slot::A),
+        Link::Same(Slot::Csr, Slot::Ea),
+        Link::Same(Slot::Rd, Slot::Csr),
+        Link::Same(Slot::Imm, Slot::Rd),
+    ],
+);
+
+/// A store through any register.
+const ANY_STORE: Row = (
+    17,
+    &[
+        (Slot::Rs1, EACH),
+        (Slot::Rs2, EACH),
+        (Slot::Imm, SIGNED),
+        (Slot::A, PAGE),
+        (Slot::B, ALL),
+        (Slot::Ea, ALL),
+        (Slot::DataWord, ALL),
+    ],
+    &[SUM, LINKED],
+);
+
 /// A store between the two pages that its base reaches.
 const STORE_BETWEEN: Row = (
     17,
@@ -231,7 +332,7 @@ const STORE_BETWEEN: Row = (
 /// Cases, one draw for all variables, and the values of the operation that is found.
 type Wide = (&'static [Row], u32, Option<(u8, &'static [(Slot, u32)])>);
 
-const WIDE: [Wide; 29] = [
+const WIDE: [Wide; 37] = [
     (
         &[LOAD],
         0,
@@ -369,9 +470,118 @@ const WIDE: [Wide; 29] = [
             ],
         )),
     ),
+    // Old values, addresses and registers of what is known besides.
+    (
+        &[(50, FROM_SATP, &[Link::Writes])],
+        0x0001_2345,
+        Some((
+            50,
+            &[
+                (Slot::Rs1, 5),
+                (Slot::Csr, 0x180),
+                (Slot::A, 0x8000_0000),
+                (Slot::OldCsr, 0x8000_0000),
+            ],
+        )),
+    ),
+    (&[(49, FROM_SCAUSE, &[Link::Writes])], 3, None),
+    (
+        &[(49, FROM_MSTATUS, &[Link::Writes])],
+        0x1234_5678,
+        Some((
+            49,
+            &[
+                (Slot::Rs1, 5),
+                (Slot::Csr, 0x300),
+                (Slot::A, 0x1000),
+                (Slot::OldCsr, 0x800),
+            ],
+        )),
+    ),
+    (&[(50, NO_MODE, &[Link::Writes])], 0, None),
+    (
+        &[(48, TO_ANY, &[Link::Writes])],
+        0x141,
+        Some((48, &[(Slot::Rs1, 5), (Slot::Csr, 0x142), (Slot::A, 7)])),
+    ),
+    (
+        &[(48, TO_ANY, &[Link::Writes])],
+        0x344,
+        Some((48, &[(Slot::Rs1, 5), (Slot::Csr, 0x140), (Slot::A, 7)])),
+    ),
+    (
+        &[(50, FROM_ANY, &[Link::Writes])],
+        1,
+        Some((50, &[(Slot::Csr, 0xf14), (Slot::A, 7)])),
+    ),
+    (
+        &[CHAIN],
+        6,
+        Some((
+            18,
+            &[
+                (Slot::Imm, 5),
+                (Slot::Rd, 5),
+                (Slot::Csr, 5),
+                (Slot::Ea, 5),
+                (Slot::A, 5),
+                (Slot::B, 5),
+                (Slot::FirstPte, 5),
+                (Slot::SecondPte, 5),
+                (Slot::DataWord, 5),
+                (Slot::OldCsr, 5),
+                (Slot::Vector, 5),
+            ],
+        )),
+    ),
     // Sums of few numbers are just those.
     (&[STORE_BETWEEN], 0, None),
 ];
+
+/// The case with another domain for a variable.
+fn replaced(case: Case, slot: Slot, set: Set) -> Case
+    requires { IsCase case }
+    ensures { IsCase result }
+{
+    let Case { op, doms, rels } = case;
+    let mut sets = doms.into_vec();
+    sets[slot.number()] = set;
+    Case {
+        op,
+        doms: Items::from_vec(sets),
+        rels,
+    }
+}
+
+/// The store through any register, with an aligned base and address and an immediate that is not.
+fn misaligned(alloc: Global) -> Result<Problem, Fail>
+    ensures { IfOk result IsProblem }
+{
+    let fourths = Set::from_patterns(alloc, &[(3, 0)])?;
+    let odd = Set::from_patterns(alloc, &[(1, 1)])?;
+    let page = set_of(alloc, PAGE)?.and(alloc, &fourths)?;
+    let immediates = set_of(alloc, SIGNED)?.and(alloc, &odd)?;
+    let case = case_of(alloc, ANY_STORE)?;
+    let case = replaced(case, Slot::A, page);
+    let case = replaced(case, Slot::Imm, immediates);
+    let case = replaced(case, Slot::Ea, fourths);
+    let mut cases = Vec::new(alloc);
+    cases.push(case)?;
+    Ok(Problem {
+        cases: Items::from_vec(cases),
+        pivots: [17; 14],
+        pairs: 1,
+        fetch: false,
+    })
+}
+
+#[test]
+fn an_immediate_that_is_not_aligned_is_left_at_once(rt: HostRuntime) -> Result<(), Fail> {
+    let alloc = rt.alloc();
+    let p = misaligned(alloc)?;
+    assert_eq!(rt; solve(alloc, &p, u64::MAX)?, Solved::NoneFits);
+    Ok(())
+}
 
 #[test]
 fn domains_of_all_numbers_are_searched(rt: HostRuntime) -> Result<(), Fail> {

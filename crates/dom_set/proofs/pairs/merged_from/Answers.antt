@@ -1,8 +1,9 @@
 use Rattle.std.proofs.Common.{◌≡◌, ℕ, ◌+◌, ◌<◌, ◌≤◌, ◌∷◌, inl, inr, List, Bool, ◌||◌, suc, length, get_or, drop, sym, ap, ◌∙◌, subst, arith}
 use Rattle.std.proofs.lemmas.Bool.{cases_lt, false≢true}
 use Rattle.std.proofs.lemmas.List.{drop_all, get_or-drop, get_or_read, length-drop}
-use Rattle.dom_set.specs.declared.progression.Progression.{Progression}
-use Rattle.dom_set.specs.Progressions.{in_progression, one, times, holds, IsMultiples}
+use Rattle.dom_set.specs.declared.piece.Piece.{Piece}
+use Rattle.dom_set.specs.Counting.{one}
+use Rattle.dom_set.specs.Pieces.{in_piece, times, holds, IsMultiples}
 use Rattle.dom_set.proofs.Times.{rest_is, times_push}
 use Rattle.dom_set.proofs.Merging.{apart_from_rest, or_regroup, no_more}
 use Rattle.dom_set.proofs.pairs.merged_from.Goals as goal
@@ -22,8 +23,8 @@ loop-p-preserved c =
     let p = c.p-item.result in
     let lt : i < length rest = c.loop-p-test.true in
     let opened : drop i rest ≡ p ∷ drop (i + 1) rest = rest_is rest i p lt c.p-item.is in
-    let first_is : (d : Progression) → p.first ≡ (get_or rest i d).first = λ d. ap (λ (q : Progression). q.first) (get_or_read rest i p lt c.p-item.is d) in
-    let later : (k : ℕ) (d : Progression) → i ≤ k → k < length rest → p.first ≤ (get_or rest k d).first =
+    let first_is : (d : Piece) → p.low ≡ (get_or rest i d).low = λ d. ap (λ (q : Piece). q.low) (get_or_read rest i p lt c.p-item.is d) in
+    let later : (k : ℕ) (d : Piece) → i ≤ k → k < length rest → p.low ≤ (get_or rest k d).low =
     λ k d from within. omega (arith, first_is d, c.requires.sorted (suc i) (suc k) d (omega arith) (omega arith)) in
     elim c.if-touches.branch [
       | then-touches w ↦ rw (w.open-is, w.out-is) (record {
@@ -32,26 +33,26 @@ loop-p-preserved c =
         held = λ x.
             ap (λ (b : Bool). times c.loop-p.out.items x + one b)
             (ap (λ (b : Bool). b || holds (drop (i + 1) rest) x) (w.joined-open.ensures.held x)
-            ∙ or_regroup (in_progression c.loop-p.open x) (in_progression p x) (holds (drop (i + 1) rest) x)
-            ∙ ap (λ (qs : List Progression). in_progression c.loop-p.open x || holds qs x) (sym opened))
+            ∙ or_regroup (in_piece c.loop-p.open x) (in_piece p x) (holds (drop (i + 1) rest) x)
+            ∙ ap (λ (qs : List Piece). in_piece c.loop-p.open x || holds qs x) (sym opened))
             ∙ c.loop-p.invariant.held x;
       })
       | else-touches+in_ok-push w ↦ rw (w.open-is, w.out-is) (record {
         multiples = subst (IsMultiples c.args.shift) (sym c.p-item.is) (c.requires.rest i p lt);
         ordered = λ k d from within. later k d (omega arith) within;
         held = λ x.
-            let before : c.loop-p.open.last < p.first = elim (cases_lt c.loop-p.open.last p.first) [
+            let before : c.loop-p.open.high < p.low = elim (cases_lt c.loop-p.open.high p.low) [
               | inl apart ↦ apart
               | inr over ↦ absurd (false≢true (sym w.if-touches.false ∙ c.touches.ensures.1 (omega arith)))
             ] in
-            let follows : (k : ℕ) (d : Progression) → k < length (drop (i + 1) rest) → p.first ≤ (get_or (drop (i + 1) rest) k d).first =
-            λ k d within. omega (arith, ap (λ (q : Progression). q.first) (get_or-drop (i + 1) rest k d), later (i + 1 + k) d (omega arith) (omega (arith, length-drop (i + 1) rest))) in
+            let follows : (k : ℕ) (d : Piece) → k < length (drop (i + 1) rest) → p.low ≤ (get_or (drop (i + 1) rest) k d).low =
+            λ k d within. omega (arith, ap (λ (q : Piece). q.low) (get_or-drop (i + 1) rest k d), later (i + 1 + k) d (omega arith) (omega (arith, length-drop (i + 1) rest))) in
             omega (
               arith,
-              ap (λ (qs : List Progression). times qs x) w.in_ok-push.ensures.items,
+              ap (λ (qs : List Piece). times qs x) w.in_ok-push.ensures.items,
               times_push c.loop-p.out.items c.loop-p.open x,
               apart_from_rest c.loop-p.open p (drop (i + 1) rest) x before follows,
-              ap (λ (qs : List Progression). one (in_progression c.loop-p.open x || holds qs x)) opened,
+              ap (λ (qs : List Piece). one (in_piece c.loop-p.open x || holds qs x)) opened,
               c.loop-p.invariant.held x,
             );
       })
@@ -60,6 +61,6 @@ loop-p-preserved c =
 pub returns : goal.returns
 returns c = λ x. rw c.in_ok-push-2.ensures.items (times_push c.loop-p.out.items c.loop-p.open x
     ∙ ap (λ (b : Bool). times c.loop-p.out.items x + one b)
-    (sym (no_more (in_progression c.loop-p.open x))
-    ∙ ap (λ (qs : List Progression). in_progression c.loop-p.open x || holds qs x) (sym (drop_all c.loop-p.p-index c.args.rest.now c.loop-p-test.false)))
+    (sym (no_more (in_piece c.loop-p.open x))
+    ∙ ap (λ (qs : List Piece). in_piece c.loop-p.open x || holds qs x) (sym (drop_all c.loop-p.p-index c.args.rest.now c.loop-p-test.false)))
     ∙ c.loop-p.invariant.held x)

@@ -5,4 +5,4 @@ use Rattle.tpl_parse.specs.Growing.{open_of}
 use Rattle.tpl_parse.proofs.body.is_any_repeat.Given as goal
 
 abbrev pub invariant-loop-one : goal.invariant-loop-one
-invariant-loop-one l = list_any (λ b. is_repeat (open_of b)) (drop l.one-index l.open) ≡ list_any (λ b. is_repeat (open_of b)) l.open
+invariant-loop-one l = list_any (λ b. is_repeat (open_of b)) (drop l.one-index l.blocks) ≡ list_any (λ b. is_repeat (open_of b)) l.blocks

@@ -1,24 +1,24 @@
 use Rattle.std.proofs.Common.{◌≡◌, ◌↔◌, List, IsTrue, sym, ap, ◌∙◌}
 use Rattle.std.proofs.lemmas.Bool.Decides.{same_from_decides}
 use Rattle.std.proofs.lemmas.Slice.Eq.{bytes_eq-Decides}
-use Rattle.dom_set.specs.declared.progression.Progression.{Progression}
-use Rattle.dom_set.specs.Progressions.{times}
+use Rattle.dom_set.specs.declared.piece.Piece.{Piece}
+use Rattle.dom_set.specs.Pieces.{times}
 use Rattle.dom_set.proofs.Sameness.{same_elements, same_times}
 use Rattle.dom_set.proofs.set.SetPartialEq.eq.Goals as goal
 
 same : (c : goal.After-are_same) → IsTrue c.are_same.result ↔ (c.args.self.now ≡ c.args.other.now)
 same c = (
   λ h. sym c.self.view_is
-      ∙ same_elements c.self.inside.ranges.items c.other.inside.ranges.items (λ x lt.
-      ap (λ (ps : List Progression). times ps x) (sym c.deref.ensures.value)
+      ∙ same_elements c.self.inside.pieces.items c.other.inside.pieces.items (λ x lt.
+      ap (λ (ps : List Piece). times ps x) (sym c.deref.ensures.value)
       ∙ c.are_same.ensures.0 h x lt
-      ∙ ap (λ (ps : List Progression). times ps x) c.deref-2.ensures.value)
+      ∙ ap (λ (ps : List Piece). times ps x) c.deref-2.ensures.value)
       ∙ c.other.view_is,
   λ e. c.are_same.ensures.1 (λ x lt.
-      ap (λ (ps : List Progression). times ps x) c.deref.ensures.value
-      ∙ same_times c.self.inside.ranges.items c.other.inside.ranges.items c.self.invariant c.other.invariant
+      ap (λ (ps : List Piece). times ps x) c.deref.ensures.value
+      ∙ same_times c.self.inside.pieces.items c.other.inside.pieces.items c.self.invariant c.other.invariant
       (c.self.view_is ∙ e ∙ sym c.other.view_is) x lt
-      ∙ ap (λ (ps : List Progression). times ps x) (sym c.deref-2.ensures.value)),
+      ∙ ap (λ (ps : List Piece). times ps x) (sym c.deref-2.ensures.value)),
 )
 
 pub returns-clause-value : goal.returns-clause-value

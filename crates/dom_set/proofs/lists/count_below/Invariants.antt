@@ -1,0 +1,7 @@
+use Rattle.std.proofs.Common.{◌≡◌, ◌+◌, drop}
+use Rattle.dom_set.specs.Counting.{total}
+use Rattle.dom_set.specs.Pieces.{times}
+use Rattle.dom_set.proofs.lists.count_below.Given as goal
+
+abbrev pub invariant-loop-p : goal.invariant-loop-p
+invariant-loop-p l = l.count + total (times (drop l.p-index l.pieces)) l.x ≡ total (times l.pieces) l.x

@@ -1,0 +1,10 @@
+use Rattle.std.proofs.Common.{◌≡◌, ℕ, ◌<◌, ◌^◌, take}
+use Rattle.dom_set.specs.Elements.{is_matching}
+use Rattle.dom_set.specs.Pieces.{holds, IsApart}
+use Rattle.dom_set.proofs.lists.matching.Given as goal
+
+abbrev pub invariant-loop-pattern : goal.invariant-loop-pattern
+invariant-loop-pattern l = record {
+  apart : IsApart l.out.items;
+  held : (x : ℕ) → x < 2 ^ 32 → holds l.out.items x ≡ is_matching (take l.pattern-index l.patterns) x;
+}

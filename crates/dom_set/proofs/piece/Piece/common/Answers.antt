@@ -1,0 +1,14 @@
+use Rattle.std.proofs.Common.{◌∙◌}
+use Rattle.dom_set.specs.Patterns.{matches}
+use Rattle.dom_set.specs.Pieces.{in_span, in_piece}
+use Rattle.dom_set.proofs.Pieces.{both_are, both_none}
+use Rattle.dom_set.proofs.piece.Piece.common.Goals as goal
+
+pub returns-in-Some-clause-held : goal.returns-in-Some-clause-held
+unfolding in_piece
+returns-in-Some-clause-held c = λ x. c.clipped.ensures.held x ∙ rw (c.from.ensures, c.from-in-Some.ensures, c.with_pattern-both.ensures.held x, c.in-Some.ensures x)
+    (both_are (in_span c.args.self x) (matches c.args.self.pattern x) (matches c.args.other.pattern x) c.args.other.low c.args.other.high x)
+
+pub returns-in-None-clause-held : goal.returns-in-None-clause-held
+unfolding in_piece
+returns-in-None-clause-held c = λ x. both_none (in_span c.args.self x) (matches c.args.self.pattern x) (in_span c.args.other x) (matches c.args.other.pattern x) (c.in-None.ensures x)

@@ -1,7 +1,0 @@
-use Rattle.std.proofs.Common.{◌≡◌, ℕ, ◌+◌, ◌*◌, drop}
-use Rattle.dom_set.specs.Progressions.{times}
-use Rattle.dom_set.proofs.ranges.common.Given as goal
-
-abbrev pub invariant-loop-p : goal.invariant-loop-p
-invariant-loop-p l = (x : ℕ) →
-    times l.out.items x + times (drop l.p-index l.ranges) x * times l.others x ≡ times l.ranges x * times l.others x

@@ -1,8 +1,0 @@
-use Rattle.std.proofs.Common.{◌≡◌, ◌+◌, ◌*◌, ◌^◌, drop}
-use Rattle.dom_set.specs.Progressions.{in_progression, one, times, total}
-use Rattle.dom_set.proofs.ranges.count_shared.Given as goal
-
-abbrev pub invariant-loop-q : goal.invariant-loop-q
-invariant-loop-q l =
-    l.count + total (λ x. one (in_progression l.p x) * times (drop l.q-index l.others) x) (2 ^ 32)
-    ≡ total (λ x. one (in_progression l.p x) * times l.others x) (2 ^ 32)

@@ -1,6 +1,0 @@
-use Rattle.std.proofs.Common.{take}
-use Rattle.dom_set.specs.Progressions.{holds, IsFirstFrom}
-use Rattle.dom_set.proofs.ranges.first_from.Given as goal
-
-abbrev pub invariant-loop-p : goal.invariant-loop-p
-invariant-loop-p l = IsFirstFrom (holds (take l.p-index l.ranges)) l.from l.nearest

@@ -1,8 +1,0 @@
-use Rattle.std.proofs.Common.{◌≡◌, ℕ, ◌+◌, ◌*◌, drop}
-use Rattle.dom_set.specs.Progressions.{in_progression, one, times}
-use Rattle.dom_set.proofs.ranges.push_common.Given as goal
-
-abbrev pub invariant-loop-q : goal.invariant-loop-q
-invariant-loop-q l = (x : ℕ) →
-    times l.out.items x + one (in_progression l.p x) * times (drop l.q-index l.others) x
-    ≡ times l.initial.out.items x + one (in_progression l.p x) * times l.others x

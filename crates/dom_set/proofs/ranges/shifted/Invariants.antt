@@ -1,8 +1,0 @@
-use Rattle.std.proofs.Common.{◌≡◌, ℕ, ◌+◌, ◌-◌, ◌%◌, ◌^◌, ◌<◌, drop}
-use Rattle.dom_set.specs.Progressions.{times}
-use Rattle.dom_set.proofs.ranges.shifted.Given as goal
-
-abbrev pub invariant-loop-p : goal.invariant-loop-p
-invariant-loop-p l = (y : ℕ) → y < 2 ^ 32 →
-    times l.out.items y + times (drop l.p-index l.ranges) ((y + (2 ^ 32 - l.distance)) % 2 ^ 32)
-    ≡ times l.ranges ((y + (2 ^ 32 - l.distance)) % 2 ^ 32)

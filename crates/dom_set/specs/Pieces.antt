@@ -1,0 +1,53 @@
+-- Ranges of numbers of which those count that match a pattern, and lists of such pieces.
+use Rattle.std.specs.Prelude.{◌≡◌, ℕ, ◌+◌, ◌-◌, ◌%◌, ◌^◌, ◌<◌, ◌≤◌, Bool, true, false, ◌&&◌, nat_le, min, List, [], ◌∷◌, Option, Some, None, MatchOption}
+use Rattle.std.specs.List.{list_any}
+use Rattle.dom_set.specs.Counting.{one}
+use Rattle.dom_set.specs.Patterns.{matches}
+use Rattle.dom_set.specs.declared.piece.Piece.{Piece}
+
+-- whether the number is between the ends of the piece
+abbrev pub in_span : Piece → ℕ → Bool
+in_span p x = nat_le p.low x && nat_le x p.high
+
+unfoldable pub in_piece : Piece → ℕ → Bool
+in_piece p x = in_span p x && matches p.pattern x
+
+abbrev pub is_held : Option Piece → ℕ → Bool
+is_held None x = false
+is_held (Some p) x = in_piece p x
+
+-- some number is in the piece
+abbrev pub HoldsSome : Piece → Type 0
+HoldsSome p = (x : ℕ) × (in_piece p x ≡ true)
+
+-- whether some piece holds the number
+abbrev pub holds : List Piece → ℕ → Bool
+holds ps x = list_any (λ p. in_piece p x) ps
+
+-- how many of the pieces hold the number
+abbrev pub times : List Piece → ℕ → ℕ
+times [] x = 0
+times (p ∷ ps) x = one (in_piece p x) + times ps x
+
+-- no number is in two of them
+abbrev pub IsApart : List Piece → Type 0
+IsApart ps = (x : ℕ) → times ps x ≤ 1
+
+-- the first number from the given one up that passes the test, if any does
+abbrev pub IsFirstFrom : (ℕ → Bool) → ℕ → Option ℕ → Type 0
+IsFirstFrom test from o =
+    MatchOption o ((x : ℕ) → from ≤ x → test x ≡ false)
+    (λ v. (test v ≡ true) × (from ≤ v) × ((x : ℕ) → from ≤ x → x < v → test x ≡ false))
+
+-- the lesser of two numbers that may be missing
+abbrev pub lesser : Option ℕ → Option ℕ → Option ℕ
+lesser None b = b
+lesser (Some x) None = Some x
+lesser (Some x) (Some y) = Some (min x y)
+
+-- the piece holds the multiples of 2 ^ shift between its ends, which are such too
+pub record IsMultiples (shift : ℕ) (p : Piece) : Type 0 where
+  pub mask : p.pattern.mask ≡ 2 ^ shift - 1
+  pub bits : p.pattern.bits ≡ 0
+  pub low : p.low % 2 ^ shift ≡ 0
+  pub high : p.high % 2 ^ shift ≡ 0

@@ -1,0 +1,187 @@
+// Numbers that have given bits under a mask.
+ghost use Rattle.std.specs.Prelude.{◌≡◌, bit_and};
+
+use crate::steps::low_bits;
+
+/// The numbers whose bits under the mask are `bits`.
+#[derive(Clone, Copy, PartialEq, Eq)]
+pub struct Pattern {
+    pub mask: u32,
+    pub bits: u32,
+    ghost within: { bit_and bits mask ≡ bits },
+}
+
+impl Pattern {
+    ghost use Rattle.std.specs.Prelude.{◌≡◌, ℕ, ◌+◌, ◌-◌, ◌*◌, ◌/◌, ◌^◌, ◌<◌, ◌≤◌, ◌↔◌, ◌&&◌, true, false, not, IfSome, IsNone};
+    ghost use Rattle.dom_set.specs.Counting.{one, total};
+    ghost use Rattle.dom_set.specs.Patterns.{is_matched, matches, matches_below, IsStep};
+
+    /// Whether the number matches.
+    pub fn matches(self, x: u32) -> bool
+        ensures { result ≡ matches self x }
+    {
+        x & self.mask == self.bits
+    }
+
+    /// The pattern of the halves of the numbers that match.
+    fn half(self) -> Pattern
+        ensures mask { result.mask ≡ self.mask / 2 }
+        ensures bits { result.bits ≡ self.bits / 2 }
+    {
+        Pattern {
+            mask: self.mask / 2,
+            bits: self.bits / 2,
+        }
+    }
+
+    /// How many numbers below the given one match.
+    pub fn count_below(self, x: u64) -> u64
+        requires { x ≤ 2 ^ 32 }
+        ensures { result ≡ total (λ y. one (matches self y)) x }
+    {
+        if self.mask == 0 {
+            return x;
+        }
+        let half = self.half();
+        let pairs = half.count_below(x / 2);
+        let last = u64::from(x % 2 == 1 && half.matches((x / 2) as u32));
+        if self.mask % 2 == 0 {
+            pairs + pairs + last
+        } else if self.bits % 2 == 0 {
+            pairs + last
+        } else {
+            pairs
+        }
+    }
+
+    /// The first number from the given one up that matches.
+    pub fn next_from(self, from: u64) -> u64
+        requires { from ≤ 2 ^ 32 }
+        ensures matching { matches self result ≡ true }
+        ensures reached { from ≤ result }
+        ensures first { (x : ℕ) → from ≤ x → x < result → matches self x ≡ false }
+        ensures near { result ≤ from + 4 * self.mask }
+    {
+        if self.mask == 0 {
+            return from;
+        }
+        let half = self.half();
+        if self.mask % 2 == 0 {
+            let next = half.next_from(from / 2);
+            if next == from / 2 { from } else { 2 * next }
+        } else if self.bits % 2 == 0 {
+            2 * half.next_from((from + 1) / 2)
+        } else {
+            2 * half.next_from(from / 2) + 1
+        }
+    }
+
+    /// The pattern of the numbers that match both.
+    pub fn both(self, other: Pattern) -> Option<Pattern>
+        ensures { (x : ℕ) → is_matched result x ≡ (matches self x && matches other x) }
+    {
+        if self.bits & other.mask != other.bits & self.mask {
+            return None;
+        }
+        Some(Pattern {
+            mask: self.mask | other.mask,
+            bits: self.bits | other.bits,
+        })
+    }
+
+    /// The pattern of the numbers that have its bits below this one, and not this one.
+    fn turned(self, bit: u32) -> Option<Pattern>
+        requires { bit < 32 }
+        ensures { (x : ℕ) → is_matched result x ≡ (matches_below self bit x && not (matches_below self (bit + 1) x)) }
+    {
+        let one = 1u32 << bit;
+        if self.mask & one == 0 {
+            return None;
+        }
+        let low = one | (one - 1);
+        Some(Pattern {
+            mask: self.mask & low,
+            bits: (self.bits & low) ^ one,
+        })
+    }
+
+    /// The pattern of the numbers that match, and that have the other's bits below this one, and not this one.
+    pub fn missed(self, other: Pattern, bit: u32) -> Option<Pattern>
+        requires { bit < 32 }
+        ensures { (x : ℕ) → is_matched result x ≡ (matches self x && (matches_below other bit x && not (matches_below other (bit + 1) x))) }
+    {
+        match other.turned(bit) {
+            Some(turned) => self.both(turned),
+            None => None,
+        }
+    }
+
+    /// Changes nothing. Its contract says that a number has all bits of a pattern where it has those below
+    /// bit 32, and that each number has those below bit 0.
+    pub fn ends(self)
+        ensures all { (x : ℕ) → matches_below self 32 x ≡ matches self x }
+        ensures none { (x : ℕ) → matches_below self 0 x ≡ true }
+    {}
+
+    /// The two patterns of the numbers that match, by the lowest bit that the mask lacks below another one
+    /// that it has; none where there is no such bit.
+    pub fn halves(self) -> Option<(Pattern, Pattern)>
+        ensures step { IsNone result ↔ IsStep self }
+        ensures apart { IfSome result (λ h. (x : ℕ) → one (matches self x) ≡ one (matches h.0 x) + one (matches h.1 x)) }
+        ensures finer { IfSome result (λ h. (self.mask < h.0.mask) × (self.mask < h.1.mask)) }
+    {
+        let bit = self.mask.trailing_ones();
+        if bit == 32 {
+            return None;
+        }
+        let free = 1u32 << bit;
+        if self.mask < free {
+            return None;
+        }
+        let mask = self.mask | free;
+        Some((
+            Pattern {
+                mask,
+                bits: self.bits,
+            },
+            Pattern {
+                mask,
+                bits: self.bits | free,
+            },
+        ))
+    }
+
+    /// The pattern of the numbers that match, plus the distance.
+    pub fn raised(self, distance: u32) -> Pattern
+        requires { IsStep self }
+        ensures { (y : ℕ) → distance ≤ y → matches result y ≡ matches self (y - distance) }
+    {
+        Pattern {
+            mask: self.mask,
+            bits: self.bits.wrapping_add(distance) & self.mask,
+        }
+    }
+
+    /// The pattern of the numbers that match, less the distance.
+    pub fn lowered(self, distance: u32) -> Pattern
+        requires { IsStep self }
+        ensures { (y : ℕ) → matches result y ≡ matches self (y + distance) }
+    {
+        Pattern {
+            mask: self.mask,
+            bits: self.bits.wrapping_sub(distance) & self.mask,
+        }
+    }
+
+    /// The pattern of the multiples of 2^shift.
+    pub fn multiples(shift: u32) -> Pattern
+        requires { shift < 32 }
+        ensures step { result.mask ≡ 2 ^ shift - 1 }
+        ensures bits { result.bits ≡ 0 }
+    {
+        Pattern {
+            mask: low_bits(u64::MAX, shift) as u32,
+            bits: 0,
+        }
+    }
+}

@@ -1,0 +1,194 @@
+// Ranges of numbers of which those count that match a pattern.
+ghost use Rattle.std.specs.Prelude.{◌≤◌, ◌<◌, ◌^◌};
+
+use crate::pattern::Pattern;
+use crate::steps::END;
+
+/// The numbers from `low` to `high` that match the pattern.
+#[derive(Clone, Copy, PartialEq, Eq)]
+pub struct Piece {
+    pub low: u32,
+    pub high: u32,
+    pub pattern: Pattern,
+    ghost ordered: { low ≤ high },
+    ghost fits: { high < 2 ^ 32 },
+}
+
+impl Piece {
+    ghost use Rattle.std.specs.Prelude.{◌≡◌, ℕ, ◌+◌, ◌-◌, ◌^◌, ◌<◌, ◌≤◌, ◌&&◌, ◌==◌, not, nat_lt, nat_le, bit_and, IfSome};
+    ghost use Rattle.dom_set.specs.Counting.{one, total};
+    ghost use Rattle.dom_set.specs.Patterns.{matches, matches_below, IsStep};
+    ghost use Rattle.dom_set.specs.Pieces.{in_span, in_piece, is_held, HoldsSome, IsFirstFrom};
+
+    /// The numbers whose bits under the mask are these, if it has them all. Where the highest bits are among
+    /// them, the ends tell these, and the pattern those below the highest bit that the mask lacks.
+    pub fn matching(mask: u32, bits: u32) -> Option<Piece>
+        ensures held { (x : ℕ) → x < 2 ^ 32 → is_held result x ≡ (bit_and x mask == bits) }
+        ensures some { IfSome result HoldsSome }
+    {
+        if bits & mask != bits {
+            return None;
+        }
+        let lacks = !mask;
+        let below = ((u64::from(lacks) + 1).next_power_of_two() - 1) as u32;
+        Some(Piece {
+            low: bits,
+            high: bits | lacks,
+            pattern: Pattern {
+                mask: mask & below,
+                bits: bits & below,
+            },
+        })
+    }
+
+    /// Whether it holds the number.
+    pub fn has(self, x: u32) -> bool
+        ensures { result ≡ in_piece self x }
+    {
+        self.low <= x && x <= self.high && self.pattern.matches(x)
+    }
+
+    /// Its numbers from one number on and below another.
+    pub fn clipped(self, from: u64, end: u64) -> Option<Piece>
+        requires { from ≤ 2 ^ 32 }
+        ensures held { (x : ℕ) →
+            is_held result x ≡ (in_piece self x && (nat_le from x && nat_lt x end)) }
+        ensures pattern { IfSome result (λ r. r.pattern ≡ self.pattern) }
+        ensures from { IfSome result (λ r. from ≤ r.low) }
+        ensures end { IfSome result (λ r. r.high < end) }
+        ensures some { IfSome result HoldsSome }
+    {
+        let low = from.max(u64::from(self.low));
+        let end = end.min(u64::from(self.high) + 1);
+        if end <= self.pattern.next_from(low) {
+            return None;
+        }
+        Some(Piece {
+            low: low as u32,
+            high: (end - 1) as u32,
+            pattern: self.pattern,
+        })
+    }
+
+    /// The numbers between its ends that match another pattern.
+    pub fn with_pattern(self, pattern: Pattern) -> Piece
+        ensures held { (x : ℕ) → in_piece result x ≡ (in_span self x && matches pattern x) }
+        ensures pattern { result.pattern ≡ pattern }
+    {
+        Piece {
+            low: self.low,
+            high: self.high,
+            pattern,
+        }
+    }
+
+    /// Its first number from the given one up.
+    pub fn first_from(self, from: u32) -> Option<u32>
+        ensures { IsFirstFrom (in_piece self) from result }
+    {
+        let first = self.pattern.next_from(u64::from(from.max(self.low)));
+        if first <= u64::from(self.high) {
+            Some(first as u32)
+        } else {
+            None
+        }
+    }
+
+    /// How many of its numbers are below the given one.
+    pub fn count_below(self, x: u64) -> u64
+        ensures { result ≡ total (λ y. one (in_piece self y)) x }
+    {
+        let end = x.min(u64::from(self.high) + 1);
+        let low = u64::from(self.low);
+        if end <= low {
+            0
+        } else {
+            self.pattern.count_below(end) - self.pattern.count_below(low)
+        }
+    }
+
+    /// The numbers that both pieces hold.
+    pub fn common(self, other: Self) -> Option<Piece>
+        ensures held { (x : ℕ) → is_held result x ≡ (in_piece self x && in_piece other x) }
+        ensures some { IfSome result HoldsSome }
+    {
+        match self.pattern.both(other.pattern) {
+            Some(pattern) => {
+                let both = self.with_pattern(pattern);
+                both.clipped(u64::from(other.low), u64::from(other.high) + 1)
+            }
+            None => None,
+        }
+    }
+
+    /// Its numbers between the ends of the other that have the other's bits below this one, and not
+    /// this one.
+    pub fn missed(self, other: Self, bit: u32) -> Option<Piece>
+        requires { bit < 32 }
+        ensures held { (x : ℕ) → is_held result x ≡ ((in_piece self x && in_span other x) &&
+            (matches_below other.pattern bit x && not (matches_below other.pattern (bit + 1) x))) }
+        ensures some { IfSome result HoldsSome }
+    {
+        match self.pattern.missed(other.pattern, bit) {
+            Some(pattern) => {
+                let part = self.with_pattern(pattern);
+                part.clipped(u64::from(other.low), u64::from(other.high) + 1)
+            }
+            None => None,
+        }
+    }
+
+    /// Each number plus the distance.
+    fn raised(self, distance: u32) -> Piece
+        requires step { IsStep self.pattern }
+        requires fits { self.high + distance < 2 ^ 32 }
+        ensures { (y : ℕ) → in_piece result y ≡
+            (nat_le distance y && in_piece self (y - distance)) }
+    {
+        Piece {
+            low: self.low + distance,
+            high: self.high + distance,
+            pattern: self.pattern.raised(distance),
+        }
+    }
+
+    /// Each number less the distance.
+    fn lowered(self, distance: u32) -> Piece
+        requires step { IsStep self.pattern }
+        requires above { distance ≤ self.low }
+        ensures { (y : ℕ) → in_piece result y ≡ in_piece self (y + distance) }
+    {
+        Piece {
+            low: self.low - distance,
+            high: self.high - distance,
+            pattern: self.pattern.lowered(distance),
+        }
+    }
+
+    /// Each number plus the distance, where that is below 2^32.
+    pub fn shifted_within(self, distance: u32) -> Option<Piece>
+        requires { IsStep self.pattern }
+        ensures held { (y : ℕ) → y < 2 ^ 32 → is_held result y ≡
+            (nat_le distance y && in_piece self (y - distance)) }
+        ensures some { IfSome result HoldsSome }
+    {
+        match self.clipped(0, END - u64::from(distance)) {
+            Some(low) => Some(low.raised(distance)),
+            None => None,
+        }
+    }
+
+    /// Each number plus the distance less 2^32, where that is no less than 0.
+    pub fn shifted_past(self, distance: u32) -> Option<Piece>
+        requires { IsStep self.pattern }
+        ensures held { (y : ℕ) → y < 2 ^ 32 → is_held result y ≡
+            (nat_lt y distance && in_piece self (y + (2 ^ 32 - distance))) }
+        ensures some { IfSome result HoldsSome }
+    {
+        let cut = END - u64::from(distance);
+        match self.clipped(cut, END) {
+            Some(high) => Some(high.lowered(cut as u32)),
+            None => None,
+        }
+    }
+}
