@@ -403,10 +403,28 @@ const REGISTER: Kind = Kind::Holds(Slot::Rs1, Slot::A, TABLE);
 /// A table of which some entries are their own indices.
 const OWN: &[Option<u32>] = &[Some(5), Some(1), None, Some(3), Some(0)];
 
-const TABLES: [Small; 9] = [
+const TABLES: [Small; 12] = [
     (
         Op::Add,
         &[(Slot::Rs1, &[(0, 5)]), (Slot::A, &[(5, 6)])],
+        HELD,
+        REGISTER,
+    ),
+    (
+        Op::Add,
+        &[(Slot::Rs1, &[(0, 5)]), (Slot::A, &[(7, 7)])],
+        HELD,
+        REGISTER,
+    ),
+    (
+        Op::Add,
+        &[(Slot::Rs1, &[(0, 0)]), (Slot::A, &[(0, 9)])],
+        HELD,
+        REGISTER,
+    ),
+    (
+        Op::Add,
+        &[(Slot::Rs1, &[(3, 3)]), (Slot::A, &[(0, 9)])],
         HELD,
         REGISTER,
     ),
@@ -467,13 +485,7 @@ fn tables_keep_what_fits(rt: HostRuntime) -> Result<(), Fail> {
 
 const JUMP: [Slot; 3] = [Slot::A, Slot::Imm, Slot::Vector];
 
-const TARGETS: [Small; 6] = [
-    (
-        Op::Beq,
-        &[(Slot::Imm, &[(0, 20)])],
-        JUMP,
-        Kind::Target(0x1000, &[(0x1008, 0x100f)]),
-    ),
+const TARGETS: [Small; 5] = [
     (
         Op::Jal,
         &[(Slot::Imm, &[(0, 4), (0xffff_fff0, u32::MAX)])],
@@ -512,6 +524,23 @@ const TARGETS: [Small; 6] = [
 #[test]
 fn targets_keep_what_fits(rt: HostRuntime) -> Result<(), Fail> {
     compare_all(&rt, rt.alloc(), &TARGETS)
+}
+
+const NEAR_TARGET: Kind = Kind::Target(0x1000, &[(0x1008, 0x100f)]);
+
+#[test]
+fn targets_of_all_branches_keep_what_fits(rt: HostRuntime) -> Result<(), Fail> {
+    for op in [Op::Beq, Op::Bne, Op::Blt, Op::Bge, Op::Bltu, Op::Bgeu] {
+        compare(
+            &rt,
+            rt.alloc(),
+            op,
+            &[(Slot::Imm, &[(0, 20)])],
+            JUMP,
+            NEAR_TARGET,
+        )?;
+    }
+    Ok(())
 }
 
 const WRITTEN: [Slot; 3] = [Slot::A, Slot::Imm, Slot::Vector];
@@ -665,7 +694,7 @@ const WORDS_IN_ROWS: Kind = Kind::Rows(&[
     [&[(4, 4)], &[(6, 6)], &[(7, 8)], &[(0, 2)]],
 ]);
 
-const ROWS: [Small; 9] = [
+const ROWS: [Small; 10] = [
     (
         Op::Lw,
         &[
@@ -700,6 +729,16 @@ const ROWS: [Small; 9] = [
         Op::Lw,
         &[
             (Slot::Ea, &[(3, 3)]),
+            (Slot::FirstPte, &[(5, 6)]),
+            (Slot::SecondPte, &[(7, 7)]),
+        ],
+        MEMORY,
+        TWO_ROWS,
+    ),
+    (
+        Op::Lw,
+        &[
+            (Slot::Ea, &[(4, 4)]),
             (Slot::FirstPte, &[(5, 6)]),
             (Slot::SecondPte, &[(7, 7)]),
         ],

@@ -15,7 +15,9 @@ pub(super) type Large = (Op, &'static [Domain], &'static [Kind], Slot, Ranges);
 
 const ANY: Domain = (Slot::A, ALL);
 
-const LARGE: [Large; 37] = [
+const TWO: &[Domain] = &[ANY, (Slot::B, ALL)];
+
+const LARGE: [Large; 43] = [
     (
         Op::Add,
         &[ANY, (Slot::B, &[(5, 9)])],
@@ -324,6 +326,89 @@ const LARGE: [Large; 37] = [
         &[Kind::Sum(Slot::A, Slot::A, Slot::A)],
         Slot::A,
         &[(0, 0)],
+    ),
+    // A chain of equal variables, of which each pass makes one more known.
+    (
+        Op::Add,
+        &[
+            (Slot::Op, ALL),
+            (Slot::Rd, ALL),
+            (Slot::Rs1, ALL),
+            (Slot::Rs2, ALL),
+            (Slot::Imm, ALL),
+            (Slot::Csr, ALL),
+            ANY,
+            (Slot::B, ALL),
+            (Slot::OldCsr, ALL),
+            (Slot::Ea, ALL),
+            (Slot::FirstPte, ALL),
+            (Slot::SecondPte, ALL),
+            (Slot::DataWord, ALL),
+            (Slot::Vector, &[(7, 7)]),
+        ],
+        &[
+            Kind::Same(Slot::Op, Slot::Rd),
+            Kind::Same(Slot::Rd, Slot::Rs1),
+            Kind::Same(Slot::Rs1, Slot::Rs2),
+            Kind::Same(Slot::Rs2, Slot::Imm),
+            Kind::Same(Slot::Imm, Slot::Csr),
+            Kind::Same(Slot::Csr, Slot::A),
+            Kind::Same(Slot::A, Slot::B),
+            Kind::Same(Slot::B, Slot::OldCsr),
+            Kind::Same(Slot::OldCsr, Slot::Ea),
+            Kind::Same(Slot::Ea, Slot::FirstPte),
+            Kind::Same(Slot::FirstPte, Slot::SecondPte),
+            Kind::Same(Slot::SecondPte, Slot::DataWord),
+            Kind::Same(Slot::DataWord, Slot::Vector),
+        ],
+        Slot::Op,
+        &[(7, 7)],
+    ),
+    // What two relations together say of the values of rs1 and rs2.
+    (
+        Op::Bne,
+        TWO,
+        &[Kind::Taken(true), Kind::Same(Slot::A, Slot::B)],
+        Slot::A,
+        &[],
+    ),
+    (
+        Op::Add,
+        TWO,
+        &[Kind::Differ(Slot::B, Slot::A), Kind::Same(Slot::A, Slot::B)],
+        Slot::A,
+        &[],
+    ),
+    (
+        Op::Blt,
+        TWO,
+        &[Kind::Taken(true), Kind::Taken(false)],
+        Slot::A,
+        &[],
+    ),
+    (
+        Op::Bltu,
+        &[
+            (Slot::Rs1, &[(4, 4)]),
+            (Slot::Rs2, &[(4, 4)]),
+            ANY,
+            (Slot::B, ALL),
+        ],
+        &[Kind::Linked, Kind::Taken(true)],
+        Slot::A,
+        &[],
+    ),
+    (
+        Op::Bltu,
+        &[
+            (Slot::Rs1, &[(4, 4)]),
+            (Slot::Rs2, &[(5, 5)]),
+            ANY,
+            (Slot::B, ALL),
+        ],
+        &[Kind::Linked, Kind::Taken(true)],
+        Slot::B,
+        &[(1, u32::MAX)],
     ),
     // An index that is its own value.
     (
