@@ -6,8 +6,6 @@
 
 mod error;
 mod reading;
-#[cfg(test)]
-mod tests;
 mod writing;
 
 pub use error::PieceError;

@@ -30,8 +30,6 @@ mod pattern;
 mod piece;
 mod set;
 mod steps;
-#[cfg(test)]
-mod tests;
 
 pub use error::OutOfMemory;
 pub use laws::set_laws;

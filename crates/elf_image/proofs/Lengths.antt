@@ -13,14 +13,15 @@ use Rattle.tpl_ast.specs.declared.template.HartState.{HartState}
 use Rattle.tpl_admit.specs.Sizes.{runs_behind, run_count, state_bytes, record_bytes, trace_bytes, note_bytes, notes_bytes, file_size}
 use Rattle.tpl_admit.specs.WellFormed.{IsWellFormed}
 use Rattle.byte_format.specs.Numbers.{byte, half, word, padding, counted}
-use Rattle.elf_image.specs.declared.elf.TheConstants.{NT_START, NT_TRACES, NT_FINAL, NT_TEMPLATE, NT_REST}
-use Rattle.elf_image.specs.declared.runs.Run.{Run}
-use Rattle.elf_image.specs.declared.writing.headers.Segment.{Segment}
-use Rattle.elf_image.specs.Runs.{address_of, runs_from, runs_of}
-use Rattle.elf_image.specs.Headers.{e_ident, elf_kind, elf_places, elf_counts, elf_header, segment_place, segment_size, program_header, note_segment, load_segment, load_headers, headers_end, program_headers, all_headers}
-use Rattle.elf_image.specs.Spelling.{pair_spelling, fixed_spelling, state_spelling, access_spelling, record_place, record_marks, record_values, record_spelling, trace_spelling, drop_spelling}
+use Rattle.elf_headers.specs.declared.elf.TheConstants.{NT_START, NT_TRACES, NT_FINAL, NT_TEMPLATE, NT_REST}
+use Rattle.elf_headers.specs.declared.runs.Run.{Run}
+use Rattle.elf_headers.specs.declared.writing.Segment.{Segment}
+use Rattle.elf_headers.specs.Runs.{address_of, runs_from, runs_of}
+use Rattle.elf_headers.specs.Headers.{e_ident, elf_kind, elf_places, elf_counts, elf_header, segment_place, segment_size, program_header, note_segment, load_segment, load_headers, headers_end, program_headers, all_headers}
+use Rattle.note_items.specs.Spelling.{pair_spelling, fixed_spelling, state_spelling, access_spelling, record_place, record_marks, record_values, record_spelling, trace_spelling, drop_spelling}
 use Rattle.elf_image.specs.Notes.{start_desc, traces_desc, final_desc, rest_desc, note_name, note, Notes, list_notes, notes_of, notes_in, notes_spelling}
 use Rattle.elf_image.specs.File.{entry_of, runs_in, load_spelling, file_bytes}
+use Rattle.elf_headers.proofs.Sizes.{length-elf_header, length-program_header}
 
 abbrev run : ℕ → ℕ → Run
 run addr words = record { addr = addr; words = words }
@@ -146,20 +147,12 @@ pub length-runs : (words : List (ℕ × ℕ)) → length (runs_of (map address_o
 length-runs [] = refl
 length-runs (w ∷ ws) = length-runs_from ws w.0 1 ∙ ap (λ (n : ℕ). 1 + runs_behind n ws) (omega arith)
 
-pub length-program_header : (s : Segment) → length (program_header s) ≡ 32
-unfolding program_header segment_place segment_size word
-length-program_header s = refl
-
 length-load_headers : (runs : List Run) (offset : ℕ) → length (load_headers offset runs) ≡ 32 * length runs
 unfolding load_headers
 length-load_headers [] offset = refl
 length-load_headers (r ∷ rs) offset =
     length-append (program_header (load_segment offset r)) (load_headers (offset + 4 * r.words) rs)
     ∙ (let h = length-program_header (load_segment offset r) in let k = length-load_headers rs (offset + 4 * r.words) in omega arith)
-
-pub length-elf_header : (entry phnum : ℕ) → length (elf_header entry phnum) ≡ 52
-unfolding elf_header e_ident elf_kind elf_places elf_counts half word
-length-elf_header entry phnum = refl
 
 length-headers : (entry notes : ℕ) (runs : List Run) → length (all_headers entry runs notes) ≡ 52 + 32 * (1 + length runs)
 unfolding all_headers program_headers

@@ -9,11 +9,11 @@ use Rattle.tpl_admit.specs.declared.certificate.Cert.{Cert}
 use Rattle.tpl_ast.specs.declared.template.HartState.{HartState}
 use Rattle.tpl_admit.specs.Sizes.{runs_behind, run_count, file_size}
 use Rattle.tpl_admit.specs.WellFormed.{IsState, IsWellFormed}
-use Rattle.elf_image.specs.declared.runs.Run.{Run}
-use Rattle.elf_image.specs.declared.reading.headers.Head.{Head}
-use Rattle.elf_image.specs.declared.reading.headers.Table.{Table}
-use Rattle.elf_image.specs.Runs.{address_of, runs_of, total_words}
-use Rattle.elf_image.specs.Headers.{elf_header, headers_end, program_headers, all_headers}
+use Rattle.elf_headers.specs.declared.runs.Run.{Run}
+use Rattle.elf_headers.specs.declared.reading.Head.{Head}
+use Rattle.elf_headers.specs.declared.reading.Table.{Table}
+use Rattle.elf_headers.specs.Runs.{address_of, runs_of, total_words}
+use Rattle.elf_headers.specs.Headers.{elf_header, headers_end, program_headers, all_headers}
 use Rattle.elf_image.specs.Notes.{traces_desc, notes_spelling, Notes, list_notes, notes_of, notes_in}
 use Rattle.elf_image.specs.File.{entry_of, runs_in, load_spelling, file_bytes}
 use Rattle.elf_image.specs.Parts.{IsHead, IsTable, AreNotes, UpToHead, UpToTable, UpToNotes, UpToRecords, UpToTemplate, cert_of, IsFile}

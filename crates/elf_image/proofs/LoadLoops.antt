@@ -6,10 +6,10 @@ use Rattle.std.specs.declared.option.Option.{Option}
 use Rattle.byte_format.specs.declared.error.PieceError.{PieceError}
 use Rattle.byte_format.specs.declared.error.PieceError.TheVariants.{Malformed, OutOfMemory}
 use Rattle.byte_format.specs.Readers.{◌>>=◌, Fails, chain_at, with_front}
-use Rattle.elf_image.specs.declared.runs.Run.{Run}
-use Rattle.elf_image.specs.Checks.{are_runs}
+use Rattle.elf_headers.specs.declared.runs.Run.{Run}
+use Rattle.elf_headers.specs.Checks.{are_runs}
 use Rattle.elf_image.specs.PartReaders.{placed_at, next_address, words_at}
-use Rattle.elf_image.proofs.Booleans.{at_most, no_then, yes_then}
+use Rattle.note_items.proofs.Booleans.{at_most, no_then, yes_then}
 
 -- no run ends behind 2 ^ 32
 pub run_end : (runs : List Run) (low i : ℕ) (d : Run) → are_runs low runs ≡ true → i < length runs → (get_or runs i d).addr + 4 * (get_or runs i d).words ≤ 2 ^ 32

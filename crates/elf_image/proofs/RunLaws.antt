@@ -9,13 +9,14 @@ use Rattle.tpl_ast.specs.declared.template.Region.{Region}
 use Rattle.tpl_ast.specs.Laws.{IsFramed}
 use Rattle.tpl_admit.specs.Starts.{is_in, AreStartWords}
 use Rattle.byte_format.proofs.Groups.{FitChain}
-use Rattle.elf_image.specs.declared.runs.Run.{Run}
-use Rattle.elf_image.specs.Runs.{address_of, runs_from, runs_of, addresses, addresses_of, total_words}
+use Rattle.elf_headers.specs.declared.runs.Run.{Run}
+use Rattle.elf_headers.specs.Runs.{address_of, runs_from, runs_of, addresses, addresses_of, total_words}
 use Rattle.elf_image.specs.Parts.{AreRuns, AreOffsets}
-use Rattle.elf_image.specs.Checks.{are_runs, are_in}
-use Rattle.elf_image.specs.PartReaders.{next_offset}
-use Rattle.elf_image.proofs.Booleans.{equal, apart, at_most, is_at_most, and_true, both_true, or_true, no_then, yes_then}
-use Rattle.elf_image.proofs.HeaderLaws.{FitsRun}
+use Rattle.elf_headers.specs.Checks.{are_runs}
+use Rattle.elf_image.specs.Checks.{are_in}
+use Rattle.elf_headers.specs.Readers.{next_offset}
+use Rattle.note_items.proofs.Booleans.{equal, apart, at_most, is_at_most, and_true, both_true, or_true, no_then, yes_then}
+use Rattle.elf_headers.proofs.HeaderLaws.{FitsRun}
 
 abbrev run : ℕ → ℕ → Run
 run addr words = record { addr = addr; words = words }

@@ -14,34 +14,11 @@ use Rattle.tpl_ast.specs.Parsing.{Said}
 use Rattle.tpl_admit.specs.declared.dropped.Dropped.{Dropped}
 use Rattle.tpl_admit.specs.Starts.{is_key, is_in}
 use Rattle.tpl_admit.specs.WellFormed.{is_legal_place, drop_place}
-use Rattle.elf_image.specs.declared.runs.Run.{Run}
-use Rattle.elf_image.specs.declared.reading.headers.Head.{Head}
-use Rattle.elf_image.specs.declared.reading.headers.Table.{Table}
-use Rattle.elf_image.specs.Runs.{total_words}
+use Rattle.elf_headers.specs.declared.runs.Run.{Run}
+use Rattle.elf_headers.specs.declared.reading.Head.{Head}
+use Rattle.elf_headers.specs.declared.reading.Table.{Table}
+use Rattle.elf_headers.specs.Runs.{total_words}
 use Rattle.elf_image.specs.Notes.{Notes}
-
-abbrev pub is_lazy : Register → Bool
-is_lazy (Lazy register) = true
-is_lazy _ = false
-
--- a size of 1, 2 or 4 bytes, and a value that fits it
-unfoldable pub is_access : Access → Bool
-is_access a = if a.size == 1 then nat_lt a.value 256 else (if a.size == 2 then nat_lt a.value 65536 else a.size == 4)
-
--- the key of a lazy place, and a value that is legal for it
-unfoldable pub is_place : ℕ × ℕ → Bool
-is_place p = is_key p.0 && is_legal_place p
-
--- places with keys that ascend from a number on
-abbrev pub are_places : ℕ → List (ℕ × ℕ) → Bool
-are_places low [] = true
-are_places low (p ∷ ps) = if nat_lt p.0 low then false else (if is_place p then are_places (p.0 + 1) ps else false)
-
-unfoldable pub is_fixed : HartState → Bool
-is_fixed s = if s.pc % 4 == 0 then (if is_legal_at 0x300 s.mstatus then (if is_legal_at 0x302 s.medeleg then is_legal_at 0x180 s.satp else false) else false) else false
-
-unfoldable pub is_state : HartState → Bool
-is_state s = if is_fixed s then are_places 0 s.places else false
 
 -- one to four harts
 abbrev pub are_harts : List HartState → Bool
@@ -64,19 +41,6 @@ are_dropped harts low (d ∷ ds) = if nat_lt (drop_place d) low then false else 
 -- choices, values of names and dropped biases
 unfoldable pub is_rest : ℕ → List ℕ × (List (ℕ × ℕ) × List Dropped) → Bool
 is_rest harts t = nat_le (length t.0) 8192 && (are_values 0 t.1.0 && (nat_le (length t.1.1) 262144 && are_dropped harts 0 t.1.1))
-
-abbrev pub is_head : Head → Bool
-is_head h = if nat_lt h.phnum 1 then false else nat_le h.phnum 65000
-
--- runs that ascend from an address on, with a word between them, and end by 2 ^ 32
-abbrev pub are_runs : ℕ → List Run → Bool
-are_runs low [] = true
-are_runs low (r ∷ rs) =
-    if nat_lt r.addr low then false
-    else (if r.addr % 4 == 0 then (if nat_lt 0 r.words then (if nat_le (r.addr + 4 * r.words) (2 ^ 32) then are_runs (r.addr + 4 * r.words + 1) rs else false) else false) else false)
-
-unfoldable pub is_table : Table → Bool
-is_table t = if are_runs 0 t.runs then nat_le (total_words t.runs) 60000 else false
 
 unfoldable pub are_traces : List (List Record) → Bool
 are_traces traces = nat_le (sum_by (λ t. length t) traces) 8192

@@ -4,9 +4,9 @@ use Rattle.std.specs.List.{flat_map}
 use Rattle.tpl_admit.specs.declared.certificate.Cert.{Cert}
 use Rattle.tpl_ast.specs.declared.template.HartState.{HartState}
 use Rattle.byte_format.specs.Numbers.{word, pieces}
-use Rattle.elf_image.specs.declared.runs.Run.{Run}
-use Rattle.elf_image.specs.Runs.{address_of, runs_of}
-use Rattle.elf_image.specs.Headers.{all_headers}
+use Rattle.elf_headers.specs.declared.runs.Run.{Run}
+use Rattle.elf_headers.specs.Runs.{address_of, runs_of}
+use Rattle.elf_headers.specs.Headers.{all_headers}
 use Rattle.elf_image.specs.Notes.{notes_in, notes_spelling}
 
 -- where hart 0 starts

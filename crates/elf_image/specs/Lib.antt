@@ -1,12 +1,7 @@
-pub mod Runs
-pub mod Headers
-pub mod Numbers
-pub mod Spelling
 pub mod Notes
 pub mod File
 pub mod Parts
 pub mod Checks
-pub mod ItemReaders
 pub mod PartReaders
 pub mod Views
 pub mod Whole

@@ -6,9 +6,9 @@ use Rattle.tpl_admit.specs.declared.certificate.Cert.{Cert}
 use Rattle.tpl_admit.specs.declared.dropped.Dropped.{Dropped}
 use Rattle.tpl_ast.specs.declared.template.HartState.{HartState}
 use Rattle.byte_format.specs.Numbers.{word, pieces, counted, padding}
-use Rattle.elf_image.specs.declared.elf.TheConstants.{NAME_SIZE, NT_START, NT_TRACES, NT_FINAL, NT_TEMPLATE, NT_REST, VERSION}
+use Rattle.elf_headers.specs.declared.elf.TheConstants.{NAME_SIZE, NT_START, NT_TRACES, NT_FINAL, NT_TEMPLATE, NT_REST, VERSION}
 use Rattle.elf_image.specs.declared.writing.notes.Note.{Note}
-use Rattle.elf_image.specs.Spelling.{pair_spelling, state_spelling, trace_spelling, drop_spelling}
+use Rattle.note_items.specs.Spelling.{pair_spelling, state_spelling, trace_spelling, drop_spelling}
 
 -- version, harts
 unfoldable pub start_desc : List HartState → List ℕ

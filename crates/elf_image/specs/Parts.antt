@@ -9,11 +9,11 @@ use Rattle.tpl_admit.specs.declared.certificate.Cert.{Cert}
 use Rattle.tpl_ast.specs.declared.template.HartState.{HartState}
 use Rattle.tpl_admit.specs.Starts.{AreStartWords}
 use Rattle.tpl_admit.specs.WellFormed.{IsWord, IsState, IsRecord, AreNamed, AreDropped}
-use Rattle.elf_image.specs.declared.runs.Run.{Run}
-use Rattle.elf_image.specs.declared.reading.headers.Head.{Head}
-use Rattle.elf_image.specs.declared.reading.headers.Table.{Table}
-use Rattle.elf_image.specs.Runs.{address_of, addresses_of, total_words}
-use Rattle.elf_image.specs.Headers.{elf_header, program_headers, headers_end}
+use Rattle.elf_headers.specs.declared.runs.Run.{Run}
+use Rattle.elf_headers.specs.declared.reading.Head.{Head}
+use Rattle.elf_headers.specs.declared.reading.Table.{Table}
+use Rattle.elf_headers.specs.Runs.{address_of, addresses_of, total_words}
+use Rattle.elf_headers.specs.Headers.{elf_header, program_headers, headers_end}
 use Rattle.elf_image.specs.Notes.{traces_desc, notes_spelling, Notes, list_notes}
 use Rattle.elf_image.specs.File.{entry_of, load_spelling}
 

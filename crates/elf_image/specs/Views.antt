@@ -1,7 +1,7 @@
 -- What was read of a file, as contracts see it.
 use Rattle.std.specs.Prelude.{ℕ, List}
 use Rattle.rv_hart.specs.declared.record.Record.{Record}
-use Rattle.elf_image.specs.declared.runs.Run.{Run}
+use Rattle.elf_headers.specs.declared.runs.Run.{Run}
 use Rattle.elf_image.specs.declared.reading.notes.NoteDescs.{NoteDescs}
 use Rattle.elf_image.specs.declared.reading.Front.{Front}
 use Rattle.elf_image.specs.Notes.{Notes}

@@ -9,12 +9,13 @@ use Rattle.tpl_parse.specs.declared.error.ParseError.TheVariants as templates
 use Rattle.tpl_admit.specs.declared.certificate.Cert.{Cert}
 use Rattle.elf_image.specs.declared.error.ReadError.{ReadError}
 use Rattle.elf_image.specs.declared.error.ReadError.TheVariants.{Malformed, OutOfMemory}
-use Rattle.elf_image.specs.declared.reading.headers.Head.{Head}
-use Rattle.elf_image.specs.declared.reading.headers.Table.{Table}
-use Rattle.elf_image.specs.Runs.{total_words}
+use Rattle.elf_headers.specs.declared.reading.Head.{Head}
+use Rattle.elf_headers.specs.declared.reading.Table.{Table}
+use Rattle.elf_headers.specs.Runs.{total_words}
 use Rattle.elf_image.specs.Notes.{Notes}
 use Rattle.elf_image.specs.Parts.{IsFile, IsFirstWrong}
-use Rattle.elf_image.specs.PartReaders.{sized_header_at, table_at, segment_notes_at, traces_at}
+use Rattle.elf_headers.specs.Readers.{sized_header_at, table_at}
+use Rattle.elf_image.specs.PartReaders.{segment_notes_at, traces_at}
 use Rattle.elf_image.specs.Views.{FrontParts}
 
 -- a part that is wrong where there is nothing

@@ -4,26 +4,15 @@ ghost use Rattle.std.specs.List.{AllByRecursion};
 ghost use Rattle.tpl_admit.specs.declared.certificate.Cert.{Cert};
 ghost use Rattle.tpl_admit.specs.Sizes.{file_size};
 ghost use Rattle.tpl_admit.specs.WellFormed.{IsWellFormed};
-ghost use Rattle.elf_image.specs.declared.elf.TheConstants.{EHDR_SIZE, PHDR_SIZE};
-ghost use Rattle.elf_image.specs.declared.writing.headers.Segment.{Segment};
-ghost use Rattle.elf_image.specs.Headers.{elf_header, program_header};
+ghost use Rattle.elf_headers.specs.declared.elf.TheConstants.{EHDR_SIZE, PHDR_SIZE};
+ghost use Rattle.elf_headers.specs.declared.writing.Segment.{Segment};
+ghost use Rattle.elf_headers.specs.Headers.{elf_header, program_header};
 ghost use Rattle.elf_image.specs.File.{file_bytes};
-ghost use Rattle.elf_image.specs.Numbers.{NamesHaveTheirNumbers};
+ghost use Rattle.elf_headers.specs.Numbers.{NamesHaveTheirNumbers};
 ghost use Rattle.elf_image.specs.Parts.{IsFirstWrong};
 ghost use Rattle.elf_image.specs.Told.{told};
 
 use tpl_ast::template_law;
-
-/// The names of the ELF specification, and those of the notes, have their numbers.
-pub fn elf_numbers()
-    ensures { NamesHaveTheirNumbers }
-{}
-
-/// The ELF header and each program header have as many bytes as the header says, e_ehsize and e_phentsize.
-pub fn header_sizes()
-    ensures header { (entry phnum : ℕ) → length (elf_header entry phnum) ≡ EHDR_SIZE }
-    ensures segment { (s : Segment) → length (program_header s) ≡ PHDR_SIZE }
-{}
 
 /// How many bytes the file of a certificate has.
 pub fn file_lengths()

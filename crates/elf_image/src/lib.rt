@@ -4,16 +4,13 @@
 //! parts of the file that is wrong.
 #![tactic(auto)]
 
-mod elf;
 mod error;
 mod laws;
 mod reading;
-mod runs;
-#[cfg(test)]
-mod tests;
 mod writing;
 
+pub use elf_headers::{elf_numbers, header_sizes};
 pub use error::{OutOfMemory, ReadError};
-pub use laws::{elf_numbers, file_lengths, header_sizes, one_first_wrong, one_spelling};
+pub use laws::{file_lengths, one_first_wrong, one_spelling};
 pub use reading::read;
 pub use writing::write;

@@ -6,23 +6,21 @@ ghost use Rattle.byte_format.specs.Readers.{Gives};
 ghost use Rattle.tpl_ast.specs.Parsing.{parses, said_by};
 ghost use Rattle.elf_image.specs.File.{file_bytes};
 ghost use Rattle.elf_image.specs.Parts.{IsFirstWrong, LacksHead};
-ghost use Rattle.elf_image.specs.Checks.{are_runs};
-ghost use Rattle.elf_image.specs.PartReaders.{sized_header_at, said_in, template_at};
+ghost use Rattle.elf_headers.specs.Checks.{are_runs};
+ghost use Rattle.elf_headers.specs.Readers.{sized_header_at};
+ghost use Rattle.elf_image.specs.PartReaders.{said_in, template_at};
 ghost use Rattle.elf_image.specs.Views.{front_view, notes_view};
 ghost use Rattle.elf_image.specs.Whole.{GivesPart, IsRead, at_part, no_template, front_at};
 ghost use Rattle.elf_image.specs.Told.{told};
 
 mod checks;
-mod headers;
-mod items;
 mod loads;
 mod notes;
 
 use crate::error::ReadError;
-use crate::runs::Run;
 use byte_format::PieceError;
 use checks::is_fit;
-use headers::{sized_header_of, table_of};
+use elf_headers::{Run, sized_header_of, table_of};
 use loads::loaded_of;
 use notes::{NoteDescs, segment_notes_of, traces_of};
 use rv_hart::Record;

@@ -3,14 +3,11 @@ ghost use Rattle.std.specs.Prelude.{◌≡◌, ◌++◌, OnOk, IfOk};
 ghost use Rattle.tpl_admit.specs.WellFormed.{IsWellFormed};
 ghost use Rattle.elf_image.specs.File.{entry_of, load_spelling, file_bytes};
 
-pub mod headers;
-mod items;
 pub mod notes;
 
 use crate::error::OutOfMemory;
-use crate::runs::list_runs;
 use byte_format::put_word;
-use headers::put_headers;
+use elf_headers::{list_runs, put_headers};
 use notes::notes_of;
 use std::alloc::{AllocError, Global};
 use tpl_admit::{Cert, HartState};

@@ -16,8 +16,6 @@ mod standings;
 mod sums;
 mod tables;
 mod targets;
-#[cfg(test)]
-mod tests;
 mod writes;
 
 pub use dom_set::OutOfMemory;

@@ -12,8 +12,6 @@ mod problem;
 mod relation;
 mod slot;
 mod spaces;
-#[cfg(test)]
-mod tests;
 
 pub use copies::copy_sets;
 pub use dom_set::OutOfMemory;

@@ -16,11 +16,7 @@ mod operations;
 mod order;
 mod pivots;
 mod place;
-#[cfg(test)]
-mod plain;
 mod search;
-#[cfg(test)]
-mod tests;
 
 pub use answers::{LeafAnswer, Solved};
 pub use dom_set::OutOfMemory;

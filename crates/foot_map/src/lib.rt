@@ -9,8 +9,6 @@ mod clash;
 mod error;
 mod laws;
 mod map;
-#[cfg(test)]
-mod tests;
 mod touch;
 mod touches;
 

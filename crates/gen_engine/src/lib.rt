@@ -6,8 +6,6 @@ mod assembling;
 mod code;
 mod error;
 mod generating;
-#[cfg(test)]
-mod tests;
 
 pub use error::OutOfMemory;
 pub use generating::generate;

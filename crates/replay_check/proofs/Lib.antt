@@ -8,5 +8,4 @@ pub mod Traces
 pub mod Ends
 pub mod Verdicts
 pub mod Behind
-pub mod OneStep
 mod Regions

@@ -5,20 +5,12 @@
 
 mod checking;
 mod error;
-#[cfg(test)]
-mod fixtures;
 mod lookup;
 mod memory;
 mod places;
 mod racing;
 mod start;
 mod stepping;
-#[cfg(test)]
-mod store_tests;
-#[cfg(test)]
-mod tests;
-#[cfg(test)]
-mod trap_tests;
 mod verdict;
 
 pub use checking::{check, one_verdict};

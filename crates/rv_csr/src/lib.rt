@@ -10,8 +10,6 @@ mod laws;
 mod privilege;
 mod status;
 mod table;
-#[cfg(test)]
-mod tests;
 mod traps;
 
 pub use access::{CsrAccess, Got, Wrote};

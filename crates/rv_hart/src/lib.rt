@@ -2,11 +2,7 @@
 //! `step` plays it on what is known, and its contract says what that tells of every whole hart and memory.
 #![tactic(auto)]
 
-#[cfg(test)]
-mod csr_tests;
 mod data;
-#[cfg(test)]
-mod fixtures;
 mod hart;
 mod laws;
 mod looked;
@@ -15,17 +11,9 @@ mod reaching;
 mod record;
 mod rows;
 mod seeing;
-#[cfg(test)]
-mod sighted_tests;
 mod sights;
 mod stepping;
 mod storing;
-#[cfg(test)]
-mod tests;
-#[cfg(test)]
-mod translated_tests;
-#[cfg(test)]
-mod trap_tests;
 
 pub use hart::Hart;
 pub use laws::{branch_law, no_sights_law, step_law};

@@ -15,8 +15,6 @@ mod names;
 mod operation;
 mod parts;
 mod table;
-#[cfg(test)]
-mod tests;
 
 pub use arithmetic::{alu, taken};
 pub use decoding::decode;

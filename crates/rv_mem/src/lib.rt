@@ -7,8 +7,6 @@ mod error;
 mod full;
 mod part;
 mod ram;
-#[cfg(test)]
-mod tests;
 mod words;
 
 pub use error::OutOfMemory;

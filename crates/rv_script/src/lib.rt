@@ -6,8 +6,6 @@
 mod access;
 mod laws;
 mod place;
-#[cfg(test)]
-mod tests;
 
 pub use access::{Access, Accesses, Role};
 pub use laws::{

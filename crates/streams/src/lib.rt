@@ -10,8 +10,6 @@ mod memory;
 mod sink;
 mod source;
 mod storage;
-#[cfg(test)]
-mod tests;
 
 pub use adapters::{ReadSource, WriteSink};
 pub use error::{Failed, OutOfMemory, ReadStop};

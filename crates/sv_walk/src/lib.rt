@@ -5,8 +5,6 @@
 mod ending;
 mod entries;
 mod entry;
-#[cfg(test)]
-mod tests;
 mod walking;
 
 pub use ending::{Walk, WalkEnd};

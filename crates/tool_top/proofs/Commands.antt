@@ -20,9 +20,10 @@ use Rattle.elf_image.specs.File.{file_bytes}
 use Rattle.elf_image.specs.Parts.{IsFirstWrong}
 use Rattle.elf_image.specs.Told.{Told, told}
 use Rattle.elf_image.proofs.Lengths.{length-file}
-use Rattle.tool_top.specs.declared.words.Command.{Command}
-use Rattle.tool_top.specs.declared.words.Command.TheVariants.{Gen, List as Listing, Replay}
-use Rattle.tool_top.specs.Promise.{AreTexts, IsBuilt, IsFileOf, IsInput, IsTemplateLine, IsUnfit, IsNoFile, IsNoTemplate, IsWrongFile, IsMalformed, LacksTemplate, limit_of, takes_template, writes_out_alone}
+use Rattle.tool_texts.specs.declared.command.Command.{Command}
+use Rattle.tool_texts.specs.declared.command.Command.TheVariants.{Gen, List as Listing, Replay}
+use Rattle.tool_texts.specs.Texts.{AreTexts, IsBuilt, IsFileOf, IsTemplateLine, IsNoFile, IsNoTemplate, IsWrongFile, takes_template, writes_out_alone}
+use Rattle.tool_top.specs.Promise.{IsInput, IsUnfit, IsMalformed, LacksTemplate, limit_of}
 
 -- some bytes, up to a limit, were read, and all that there was where they are fewer
 pub record Reads (old new : Option (List ℕ)) (bytes : List ℕ) (limit : ℕ) : Type 0 where
@@ -88,9 +89,6 @@ read_all old new bytes text limit reads is =
 
 -- ---- how long inputs are
 
-pub file_small : (c : Cert) → IsWellFormed c → length (file_bytes c) < 16777216
-file_small c is = omega (arith, length-file c, is.size)
-
 file_short : (bytes : List ℕ) (c : Cert) → IsFileOf bytes c → length bytes < 8388609
 file_short bytes c is = omega (arith, ap length is.is_file, length-file c, is.well_formed.size)
 
@@ -142,24 +140,7 @@ same_valid one decides bytes a b f g v =
     let same : told a ≡ told b = one a b f.well_formed g.well_formed (sym f.is_file ∙ g.is_file) in
     subst IsValid (told_same a b same) (decides a b.template (ap (λ (x : Told). x.said) same) v)
 
--- this build generates from all templates of a text, or from none
-said_same : (bytes : List ℕ) (t u : Template) → Parses bytes t → Parses bytes u → said_by t ≡ said_by u
-said_same bytes t u p q = same_ok _ _ (sym p.says ∙ q.says)
-  where
-    same_ok : (x y : Said) → ◌≡◌ {A = Result Said Fault} (Ok x) (Ok y) → x ≡ y
-    same_ok x y e = cc
-
-pub built_same : (bytes : List ℕ) (t u : Template) → Parses bytes t → Parses bytes u → IsBuilt t → IsBuilt u
-built_same bytes t u p q built = (built.0, subst (λ (s : Said). IsFormOf s built.0) (said_same bytes t u p q) built.1)
-
 -- bytes with a fault are no template
-pub fault_is_none : (bytes : List ℕ) (f : Fault) → parses bytes ≡ Err f → IsNoTemplate bytes
-fault_is_none bytes f wrong t says built = let never : ◌≡◌ {A = Result Said Fault} (Err f) (Ok (said_by t)) = sym wrong ∙ says.says in absurd (cc never)
-
-pub unbuilt_is_none : (bytes : List ℕ) (t : Template) → Parses bytes t → (IsBuilt t → ⊥) → IsNoTemplate bytes
-unbuilt_is_none bytes t says none u says' built = none (built_same bytes u t says' says built)
-
--- what something was made of is not unfit
 pub made_is_fit : OneSpelling → SaidDecides → (command : Command) (bytes out beside : List ℕ) (why : ℕ) → AreTexts command bytes out beside → IsUnfit command bytes why → ⊥
 made_is_fit one decides (Gen seed) bytes out beside why made unfit = unfit.1 made.certificate.template made.is_made.parses made.is_made.built
 made_is_fit one decides (Listing seed) bytes out beside why made unfit = unfit.1 made.certificate.template made.is_made.parses made.is_made.built

@@ -3,8 +3,8 @@ use Rattle.std.proofs.Common.{◌≡◌, ◌∙◌, ℕ, List, [], ◌∷◌, le
 use Rattle.std.specs.Prelude.{IfSome}
 use Rattle.std.specs.declared.option.Option.{Option}
 use Rattle.std.specs.Str.Parse.{digits_value}
-use Rattle.tool_top.specs.declared.words.Command.{Command}
-use Rattle.tool_top.specs.declared.words.Command.TheVariants.{Gen, List as Listing, Replay}
+use Rattle.tool_texts.specs.declared.command.Command.{Command}
+use Rattle.tool_texts.specs.declared.command.Command.TheVariants.{Gen, List as Listing, Replay}
 use Rattle.tool_top.specs.Words.{IsSeed, IsSeeded, IsCommand}
 
 pub three : {A B : Type 0} (f : A → B) (items : List A) (x y z : A) → length items ≡ 3 → x ≡ get_or items 0 x → y ≡ get_or items 1 y → z ≡ get_or items 2 z → map f items ≡ f x ∷ f y ∷ f z ∷ []

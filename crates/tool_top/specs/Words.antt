@@ -4,8 +4,8 @@ use Rattle.std.specs.Global.{Global}
 use Rattle.std.specs.Vec.Iter.{into_iter_items}
 use Rattle.std.specs.declared.vec.IntoIter.{IntoIter}
 use Rattle.std.specs.Str.Parse.{IsNumeral, digits_value}
-use Rattle.tool_top.specs.declared.words.Command.{Command}
-use Rattle.tool_top.specs.declared.words.Command.TheVariants.{Gen, List as Listing, Replay}
+use Rattle.tool_texts.specs.declared.command.Command.{Command}
+use Rattle.tool_texts.specs.declared.command.Command.TheVariants.{Gen, List as Listing, Replay}
 
 -- one to twenty decimal digits of a number below 2 ^ 64
 pub record IsSeed (word : List ℕ) : Type 0 where

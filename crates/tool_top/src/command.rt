@@ -5,18 +5,19 @@ ghost use Rattle.streams.specs.Source.{TakesAtMost};
 ghost use Rattle.streams.specs.Sink.{HasRoom, Tells};
 ghost use Rattle.replay_check.specs.declared.verdict.Verdict.TheVariants.{No};
 ghost use Rattle.trace_text.specs.Verdicts.{verdict_text, malformed_text};
-ghost use Rattle.tool_top.specs.declared.words.Command.{Command as ACommand};
-ghost use Rattle.tool_top.specs.declared.words.Command.TheVariants.{Replay};
+ghost use Rattle.tool_texts.specs.declared.command.Command.{Command as ACommand};
+ghost use Rattle.tool_texts.specs.declared.command.Command.TheVariants.{Replay};
 ghost use Rattle.tool_top.specs.Words.{IsCommand};
-ghost use Rattle.tool_top.specs.Promise.{IsDone, IsCutShort, LacksTemplate, IsMalformed, IsWrongFile, IsAllRead, IsComplete, IsRefused, is_status, limit_of, takes_template, told_line, tells, writes, writes_out_alone};
+ghost use Rattle.tool_texts.specs.Texts.{IsWrongFile, takes_template, writes_out_alone};
+ghost use Rattle.tool_top.specs.Promise.{IsDone, IsCutShort, LacksTemplate, IsMalformed, IsAllRead, IsComplete, IsRefused, is_status, limit_of, told_line, tells, writes};
 
-use crate::making::{Refusal, texts_for};
-use crate::words::{ArgList, Command};
+use crate::words::ArgList;
 use crate::writing::write_texts;
 use elf_image::one_spelling;
 use replay_check::one_verdict;
 use std::alloc::Global;
 use streams::{ReadStop, Sink, Source, read_up_to, write_whole};
+use tool_texts::{Command, Refusal, texts_for};
 use tpl_admit::said_law;
 use tpl_ast::template_law;
 

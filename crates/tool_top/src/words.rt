@@ -3,7 +3,7 @@ ghost use Rattle.std.specs.Prelude.{◌≡◌, ◌≢◌, ℕ, Some, [], ◌∷�
 ghost use Rattle.std.specs.Vec.Iter.{into_iter_items};
 ghost use Rattle.std.specs.IoError.{error_kind};
 ghost use Rattle.std.specs.Str.Parse.{digits_value};
-ghost use Rattle.tool_top.specs.declared.words.Command.{Command as ACommand};
+ghost use Rattle.tool_texts.specs.declared.command.Command.{Command as ACommand};
 ghost use Rattle.tool_top.specs.Words.{IsSeed, IsCommand, IsSeeded, AreBehindName};
 
 use std::alloc::{AllocError, Global};
@@ -11,17 +11,7 @@ use std::env::Args;
 use std::io;
 use std::io::ErrorKind;
 use std::marker::Model;
-
-/// What the program can be asked to do.
-#[derive(Clone, Copy, Debug, PartialEq, Eq)]
-pub enum Command {
-    /// `gen`: the file of a template's test, and its report.
-    Gen { seed: u64 },
-    /// `list`: the report of a template's test alone.
-    List { seed: u64 },
-    /// `replay`: whether the certificate of a file is valid.
-    Replay,
-}
+use tool_texts::Command;
 
 /// The words after the program's name, which a contract sees as the list of their bytes.
 #[derive(Drop)]

@@ -4,8 +4,8 @@ ghost use Rattle.std.specs.Io.KnownBytes.{Appends};
 ghost use Rattle.streams.specs.Causes.{Rose, EndsAtFault};
 ghost use Rattle.streams.specs.Sink.{HasRoom, GrowsByPrefix};
 
-use crate::making::Texts;
 use streams::{Failed, Sink, write_whole};
+use tool_texts::Texts;
 
 /// Writes one text whole to `out`, and then the other one to `report`. It stops at the first write that fails.
 pub fn write_texts<K: Sink, R: Sink>(

@@ -9,8 +9,6 @@ mod harts;
 mod judging;
 mod laws;
 mod moment;
-#[cfg(test)]
-mod tests;
 mod walking;
 
 pub use admission::{Unmet, admits, least_failures_are_unique};

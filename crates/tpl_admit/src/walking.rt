@@ -72,7 +72,7 @@ fn is_drop(hart: u8, step: u32, atom: u32, dropped: &Dropped) -> bool
 }
 
 /// Whether a dropped bias stands before an atom of a step.
-pub fn stands_before(hart: u32, step: u32, atom: u32, dropped: &Dropped) -> bool
+fn stands_before(hart: u32, step: u32, atom: u32, dropped: &Dropped) -> bool
     ensures { result ≡ stands_before hart step atom dropped.now }
 {
     dropped.hart < hart

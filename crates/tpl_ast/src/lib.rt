@@ -8,8 +8,6 @@ mod lengths;
 mod mark;
 mod phrase;
 mod template;
-#[cfg(test)]
-mod tests;
 mod words;
 
 pub use fault::{Fault, Kind};

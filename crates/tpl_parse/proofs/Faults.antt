@@ -1,5 +1,6 @@
 -- What a statement without a fault has not.
 use Rattle.std.proofs.Common.{◌≡◌, Bool, true, false, not, ◌&&◌, ◌||◌, Option, Some, None, if◌then◌else◌, refl}
+use Rattle.std.proofs.lemmas.Bool.{not-false, or_parts}
 use Rattle.tpl_ast.specs.declared.fault.Kind.{Kind}
 use Rattle.tpl_ast.specs.declared.fault.Kind.TheVariants as kinds
 use Rattle.tpl_ast.specs.Judging.{is_name_twice, is_phrase_above, is_phrase_long}
@@ -10,14 +11,6 @@ use Rattle.tpl_ast.specs.Phrases.{Phrase}
 unfold_if : (b : Bool) (k : Kind) (rest : Option Kind) → (if b then Some k else rest) ≡ None → (b ≡ false) × (rest ≡ None)
 unfold_if true k rest h = absurd cc
 unfold_if false k rest h = (refl, h)
-
-no-not : (b : Bool) → not b ≡ false → b ≡ true
-no-not true h = refl
-no-not false h = absurd cc
-
-no-second : (a b : Bool) → (a || b) ≡ false → b ≡ false
-no-second true b h = absurd cc
-no-second false b h = h
 
 pub faultless : (k : Known) (last : Bool) (p : Phrase) → fault_of k last p ≡ None → (allows k p ≡ true) × (is_phrase_above p ≡ false) × (passes_count k p ≡ false)
 unfolding fault_of
@@ -32,4 +25,4 @@ faultless k last p fine =
     let deep = unfold_if (is_deep k p) kinds.TooDeep _ empty.1 in
     let long = unfold_if (is_long k p) kinds.TooLong _ deep.1 in
     let many = unfold_if (is_phrase_long p || passes_count k p) kinds.TooMany _ long.1 in
-    (no-not (allows k p) place.0, above.0, no-second (is_phrase_long p) (passes_count k p) many.0)
+    (not-false (allows k p) place.0, above.0, (or_parts (is_phrase_long p) (passes_count k p) many.0).1)

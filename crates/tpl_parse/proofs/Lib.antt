@@ -1,11 +1,2 @@
-pub mod LineEnds
-pub mod Digits
-pub mod Pieces
-pub mod Lists
-pub mod Bodies
-pub mod Insertions
-pub mod Frames
-pub mod Aligns
-pub mod Multiples
 pub mod Faults
 pub mod Runs

@@ -9,8 +9,8 @@ use Rattle.tpl_parse.specs.declared.error.ParseError.{ParseError}
 use Rattle.tpl_parse.specs.declared.error.ParseError.TheVariants as errors
 use Rattle.tpl_parse.specs.declared.error.Trouble.{Trouble}
 use Rattle.tpl_parse.specs.declared.error.Trouble.TheVariants as troubles
-use Rattle.tpl_parse.specs.declared.stop.Stop.{Stop}
-use Rattle.tpl_parse.specs.declared.stop.Stop.TheVariants as stops
+use Rattle.tpl_cursor.specs.declared.stop.Stop.{Stop}
+use Rattle.tpl_cursor.specs.declared.stop.Stop.TheVariants as stops
 
 abbrev pub trouble_of : Stop → Trouble
 trouble_of stops.Memory = troubles.Memory

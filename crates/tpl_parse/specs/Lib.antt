@@ -1,10 +1,1 @@
-pub mod Aligns
-pub mod Views
-pub mod Pieces
-pub mod Reading
-pub mod Places
-pub mod Growing
-pub mod Entries
-pub mod Frames
-pub mod State
 pub mod Answers

@@ -4,11 +4,11 @@ ghost use Rattle.tpl_ast.specs.declared.fault.Kind.TheVariants.{Unexpected};
 ghost use Rattle.tpl_parse.specs.Answers.{trouble_of};
 ghost use Rattle.tpl_parse.specs.declared.error.Trouble.TheVariants.{Memory};
 
-use crate::stop::Stop;
 use dom_set::OutOfMemory;
 use std::alloc::AllocError;
 use thiserror::Error;
 use tpl_ast::{Fault, Kind};
+use tpl_cursor::Stop;
 
 /// Why a text was not read.
 #[derive(Clone, Copy, Debug, PartialEq, Eq, Error)]

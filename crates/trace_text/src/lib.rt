@@ -9,8 +9,6 @@ mod names;
 mod printing;
 mod rest;
 mod steps;
-#[cfg(test)]
-mod tests;
 mod verdicts;
 
 pub use error::OutOfMemory;

@@ -1,26 +1,20 @@
 // Tests of values that were read.
 ghost use Rattle.std.specs.Prelude.{◌≡◌, ◌<◌, ◌≤◌, ◌^◌, ◌&&◌, ◌==◌, IsTrue, length, nat_le, slice_get};
-ghost use Rattle.std.specs.List.{list_any};
-ghost use Rattle.rv_csr.specs.Table.{address_of, csr_key};
-ghost use Rattle.tpl_admit.specs.Starts.{is_key, is_in};
-ghost use Rattle.tpl_admit.specs.WellFormed.{is_legal_place, drop_place};
+ghost use Rattle.tpl_admit.specs.Starts.{is_in};
+ghost use Rattle.tpl_admit.specs.WellFormed.{drop_place};
 ghost use Rattle.tpl_ast.specs.Parsing.{said_by};
-ghost use Rattle.elf_image.specs.Runs.{total_words};
-ghost use Rattle.elf_image.specs.Checks.{is_lazy, is_access, is_place, are_places, is_fixed, is_state, are_harts, are_values, is_drop, are_dropped, is_rest, are_runs, is_table, are_traces, are_in, is_named, are_named, is_fit};
+ghost use Rattle.elf_headers.specs.Runs.{total_words};
+ghost use Rattle.elf_headers.specs.Checks.{are_runs, is_table};
+ghost use Rattle.elf_image.specs.Checks.{are_harts, are_values, is_drop, are_dropped, is_rest, are_traces, are_in, is_named, are_named, is_fit};
 ghost use Rattle.elf_image.specs.Views.{notes_view};
 
-use crate::reading::headers::Table;
 use crate::reading::notes::NoteDescs;
-use crate::runs::Run;
-use rv_csr::{FIRST_KEY, REGISTERS, Register, legal, row_of};
+use elf_headers::{Run, Table};
 use rv_hart::Record;
-use rv_script::Access;
 use std::cmp::min;
 use tpl_admit::{Dropped, HartState};
 use tpl_ast::{Items, NameDecl, Region, Template};
 
-/// How many words all loads may have.
-pub const MAX_WORDS: u64 = 60_000;
 /// How many records all harts may have.
 pub const MAX_RECORDS: usize = 8_192;
 /// How many harts there may be.
@@ -33,117 +27,6 @@ const MAX_DROPPED: usize = 262_144;
 const MAX_STEPS: u32 = 8_192;
 /// How many atoms a step may have.
 const MAX_ATOMS: u32 = 32;
-
-/// Whether the key is that of one of the registers, and this one is lazy.
-fn is_lazy_key(registers: &[Register], key: u32) -> bool
-    ensures { result ≡ list_any (λ register. is_lazy register && (key == csr_key (address_of register))) registers.now }
-{
-    registers.iter().any(|register| matches!(register, Register::Lazy(_))
-        && key == row_of(*register).key())
-}
-
-/// Whether the key is that of a lazy place: of a register but x0, or of a lazy CSR.
-#[tactic(auto, using(crate::proofs::Keys::key_below))]
-fn is_key(key: u32) -> bool
-    ensures value { result ≡ is_key key }
-    ensures small { IsTrue result → key < 0x2000 }
-{
-    (1..32).contains(&key) || is_lazy_key(&REGISTERS, key)
-}
-
-/// Whether the value of a place is legal.
-fn is_legal_place(place: (u32, u32)) -> bool
-    requires { place.0 < 0x2000 }
-    ensures { result ≡ is_legal_place place }
-{
-    place.0 < 32 || legal(place.0.saturating_sub(FIRST_KEY) as u16, place.1)
-}
-
-#[tactic(auto, unfolding(crate::specs::Checks::is_place))]
-fn is_place(place: (u32, u32)) -> bool
-    ensures { result ≡ is_place place }
-{
-    is_key(place.0) && is_legal_place(place)
-}
-
-/// Whether the places are those of a hart, by ascending key.
-fn are_places(places: &[(u32, u32)]) -> bool
-    ensures { result ≡ are_places 0 places.now }
-{
-    let mut low = 0;
-    for place in places {
-        if u64::from(place.0) < low || !is_place(*place) {
-            return false;
-        }
-        low = u64::from(place.0) + 1;
-    }
-    true
-}
-
-#[tactic(auto, unfolding(crate::specs::Checks::is_fixed))]
-fn is_fixed(s: &HartState) -> bool
-    ensures { result ≡ is_fixed s.now }
-{
-    s.pc % 4 == 0
-        && row_of(Register::Mstatus).allows(s.mstatus)
-        && row_of(Register::Medeleg).allows(s.medeleg)
-        && row_of(Register::Satp).allows(s.satp)
-}
-
-#[tactic(auto, unfolding(crate::specs::Checks::is_state))]
-pub fn is_state(s: &HartState) -> bool
-    ensures { result ≡ is_state s.now }
-{
-    is_fixed(s) && are_places(s.places.as_slice())
-}
-
-/// Whether the access has one, two or four bytes, and a value that they can hold.
-#[tactic(auto, unfolding(crate::specs::Checks::is_access))]
-pub fn is_access(a: Access) -> bool
-    ensures { result ≡ is_access a }
-{
-    match a.size {
-        1 => a.value < 256,
-        2 => a.value < 65536,
-        n => n == 4,
-    }
-}
-
-/// Whether the runs ascend, with a word between them, and end by 2^32.
-fn are_runs(runs: &[Run]) -> bool
-    ensures { result ≡ are_runs 0 runs.now }
-{
-    let mut low = 0;
-    for run in runs {
-        let end = u64::from(run.addr) + 4 * u64::from(run.words);
-        if u64::from(run.addr) < low || run.addr % 4 != 0 || run.words == 0 || end > 0x1_0000_0000 {
-            return false;
-        }
-        low = end + 1;
-    }
-    true
-}
-
-/// Whether the runs have at most 60,000 words.
-fn are_few(runs: &[Run]) -> bool
-    ensures value { result ≡ nat_le (total_words runs.now) 60000 }
-    ensures small { IsTrue result → total_words runs.now ≤ 60000 }
-{
-    let mut total = 0;
-    for run in runs {
-        total = min(total + u64::from(run.words), MAX_WORDS + 1);
-    }
-    total <= MAX_WORDS
-}
-
-#[tactic(auto, unfolding(crate::specs::Checks::is_table))]
-pub fn is_table(table: &Table) -> bool
-    ensures value { result ≡ is_table table.now }
-    ensures small { IsTrue result → total_words table.now.runs ≤ 60000 }
-    ensures runs { IsTrue result → IsTrue (are_runs 0 table.now.runs) }
-{
-    are_runs(table.runs.as_slice()) && are_few(table.runs.as_slice())
-}
 
 /// Whether all harts have at most 8,192 records.
 #[tactic(auto, unfolding(crate::specs::Checks::are_traces))]

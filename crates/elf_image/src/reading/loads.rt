@@ -1,13 +1,13 @@
 // The words of memory.
 ghost use Rattle.std.specs.Prelude.{◌≡◌, ◌+◌, ◌*◌, ◌^◌, ◌≤◌, IsTrue, IfErr};
 ghost use Rattle.byte_format.specs.Readers.{Gives, chain_at, whole, with_front};
-ghost use Rattle.elf_image.specs.Checks.{are_runs};
+ghost use Rattle.elf_headers.specs.Checks.{are_runs};
 ghost use Rattle.elf_image.specs.PartReaders.{placed_at, next_address, words_at, image_at, loaded_at};
 
 use crate::reading::checks::are_in;
-use crate::runs::Run;
 use crate::writing::entry_of;
 use byte_format::{PieceError, word_of};
+use elf_headers::Run;
 use std::alloc::Global;
 use tpl_admit::HartState;
 use tpl_ast::{Items, Region};

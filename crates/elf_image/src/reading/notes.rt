@@ -1,17 +1,17 @@
 // The notes and the records.
 ghost use Rattle.std.specs.Prelude.{◌≡◌, ◌≤◌, IfOk, length, IfErr};
 ghost use Rattle.byte_format.specs.Readers.{Gives, skip, whole};
-ghost use Rattle.elf_image.specs.Runs.{total_words};
+ghost use Rattle.elf_headers.specs.Runs.{total_words};
 ghost use Rattle.elf_image.specs.Notes.{note_name};
 ghost use Rattle.elf_image.specs.PartReaders.{note_at, start_at, final_at, rest_at, notes_at, segment_notes_at, traces_at};
 ghost use Rattle.elf_image.specs.Views.{notes_view};
 
-use crate::elf::{NAME, NAME_SIZE, NT_FINAL, NT_REST, NT_START, NT_TEMPLATE, NT_TRACES, VERSION};
 use crate::reading::checks::{are_harts, are_traces, is_rest};
-use crate::reading::headers::Table;
-use crate::reading::items::{drops_of, pairs_of, states_in, states_of, traces_in, words_of};
-use crate::runs::Run;
 use byte_format::{PieceError, after, after_word, padded_of, word_of};
+use elf_headers::{
+    NAME, NAME_SIZE, NT_FINAL, NT_REST, NT_START, NT_TEMPLATE, NT_TRACES, Run, Table, VERSION,
+};
+use note_items::{drops_of, pairs_of, states_in, states_of, traces_in, words_of};
 use rv_hart::Record;
 use std::alloc::Global;
 use tpl_admit::{Dropped, HartState};

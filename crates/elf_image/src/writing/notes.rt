@@ -2,9 +2,9 @@
 ghost use Rattle.std.specs.Prelude.{◌≡◌, ◌++◌, OnOk, IfOk};
 ghost use Rattle.elf_image.specs.Notes.{start_desc, traces_desc, final_desc, rest_desc, note_name, note, notes_in, notes_spelling};
 
-use crate::elf::{NAME, NAME_SIZE, NT_FINAL, NT_REST, NT_START, NT_TEMPLATE, NT_TRACES, VERSION};
-use crate::writing::items::{put_dropped, put_pairs, put_states, put_traces, put_words};
 use byte_format::{put_padding, put_size, put_word};
+use elf_headers::{NAME, NAME_SIZE, NT_FINAL, NT_REST, NT_START, NT_TEMPLATE, NT_TRACES, VERSION};
+use note_items::{put_dropped, put_pairs, put_states, put_traces, put_words};
 use rv_hart::Record;
 use std::alloc::{AllocError, Global};
 use tpl_admit::{Cert, Dropped, HartState};

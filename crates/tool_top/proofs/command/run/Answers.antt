@@ -1,8 +1,9 @@
 use Rattle.std.proofs.Common.{◌≡◌, ℕ, List, ◌∙◌, sym, subst, drop, Some, inl}
 use Rattle.streams.specs.Sink.{Tells}
-use Rattle.tool_top.specs.declared.words.Command.{Command}
+use Rattle.tool_texts.specs.declared.command.Command.{Command}
 use Rattle.tool_top.specs.Words.{IsCommand}
-use Rattle.tool_top.specs.Promise.{IsInput, IsUnfit, IsRefusedRightly, limit_of}
+use Rattle.tool_texts.specs.Texts.{IsRefusedRightly}
+use Rattle.tool_top.specs.Promise.{IsInput, IsUnfit, limit_of}
 use Rattle.tool_top.proofs.Commands.{Reads, reads_of, read_all, texts_are, made_is_fit, lacking_left, no_template_left, no_file_left, malformed_left, wrong_left, no_template_is_no_input, no_file_is_no_input, wrong_is_no_input, no_file_says_9, wrong_says_10, same_some}
 use Rattle.tool_top.proofs.command.run.Goals as goal
 

@@ -3,7 +3,7 @@ use Rattle.std.specs.Prelude.{option_copied, IfSome}
 use Rattle.tpl_ast.specs.Lines.{lines, lines_left}
 use Rattle.tpl_ast.specs.Parsing.{judged, nothing, run}
 use Rattle.tpl_parse.specs.Answers.{Denies, Refuses}
-use Rattle.tpl_parse.specs.State.{known}
+use Rattle.tpl_state.specs.State.{known}
 use Rattle.tpl_parse.proofs.Runs.{goes_on, stops_here}
 use Rattle.tpl_parse.proofs.read.read_lines.Goals as goal
 
@@ -11,17 +11,17 @@ pub returns-in-Err-read_line : goal.returns-in-Err-read_line
 returns-in-Err-read_line c =
     let bytes = c.split_line.result.0.now in
     let split = c.split_line.ensures.split ∙ ap (λ o. bytes ∷ lines_left (option_copied o)) c.in-Some.is in
-    let fails = subst (λ (b : List ℕ). Refuses c.in-Err-read_line.trouble (judged (known c.loop-parser.parser) c.loop-parser.line b false)) c.strip.ensures c.in-Err-read_line.ensures in
-    subst (λ e. Denies e (run nothing 1 (lines c.args.text.now))) (sym c.refuse-in-Err-read_line.ensures) (stops_here (known c.loop-parser.parser) c.loop-parser.line c.loop-parser.rest.now bytes _ c.loop-parser.invariant.read c.in-Some.after.now split c.in-Err-read_line.trouble fails)
+    let fails = subst (λ (b : List ℕ). Refuses c.in-Err-read_line.trouble (judged (known c.loop-state.state) c.loop-state.line b false)) c.strip.ensures c.in-Err-read_line.ensures in
+    subst (λ e. Denies e (run nothing 1 (lines c.args.text.now))) (sym c.refuse-in-Err-read_line.ensures) (stops_here (known c.loop-state.state) c.loop-state.line c.loop-state.rest.now bytes _ c.loop-state.invariant.read c.in-Some.after.now split c.in-Err-read_line.trouble fails)
 
-pub loop-parser-preserved : goal.loop-parser-preserved
-loop-parser-preserved c =
+pub loop-state-preserved : goal.loop-state-preserved
+loop-state-preserved c =
     let bytes = c.split_line.result.0.now in
     let after = c.in-Some.after.now in
     let split = c.split_line.ensures.split ∙ ap (λ o. bytes ∷ lines_left (option_copied o)) c.in-Some.is in
-    let read = ap (λ (b : List ℕ). judged (known c.loop-parser.parser) c.loop-parser.line b false) (sym c.strip.ensures) ∙ c.in_default.ensures in
-    let shorter : length after < length c.loop-parser.rest.now = subst (λ o. IfSome o (λ r. length r.now < length c.loop-parser.rest.now)) c.in-Some.is c.split_line.ensures.shorter in
+    let read = ap (λ (b : List ℕ). judged (known c.loop-state.state) c.loop-state.line b false) (sym c.strip.ensures) ∙ c.in_default.ensures in
+    let shorter : length after < length c.loop-state.rest.now = subst (λ o. IfSome o (λ r. length r.now < length c.loop-state.rest.now)) c.in-Some.is c.split_line.ensures.shorter in
     record {
-      read = goes_on (known c.loop-parser.parser) c.loop-parser.line c.loop-parser.rest.now bytes _ c.loop-parser.invariant.read after split (known c.read_line-in-Some.new.self) read;
-      room = omega (arith, shorter, c.loop-parser.invariant.room);
+      read = goes_on (known c.loop-state.state) c.loop-state.line c.loop-state.rest.now bytes _ c.loop-state.invariant.read after split (known c.read_line-in-Some.new.state) read;
+      room = omega (arith, shorter, c.loop-state.invariant.room);
     }

@@ -1,0 +1,5 @@
+pub mod Runs
+pub mod Headers
+pub mod Numbers
+pub mod Checks
+pub mod Readers

@@ -1,6 +1,0 @@
-use Rattle.std.proofs.Common.{◌≡◌, min, take}
-use Rattle.std.specs.Prelude.{sum_by}
-use Rattle.elf_image.proofs.reading.checks.are_few.Given as goal
-
-abbrev pub invariant-loop-run : goal.invariant-loop-run
-invariant-loop-run l = l.total ≡ min (sum_by (λ r. r.words) (take l.run-index l.runs)) 60001

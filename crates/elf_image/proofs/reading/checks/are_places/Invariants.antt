@@ -1,6 +1,0 @@
-use Rattle.std.proofs.Common.{◌≡◌, drop}
-use Rattle.elf_image.specs.Checks.{are_places}
-use Rattle.elf_image.proofs.reading.checks.are_places.Given as goal
-
-abbrev pub invariant-loop-place : goal.invariant-loop-place
-invariant-loop-place l = are_places l.low (drop l.place-index l.places) ≡ are_places 0 l.places

@@ -1,7 +1,0 @@
-use Rattle.std.proofs.Common.{◌≡◌, ◌-◌}
-use Rattle.byte_format.specs.Readers.{times, with_front}
-use Rattle.elf_image.specs.ItemReaders.{pair_at}
-use Rattle.elf_image.proofs.reading.items.pairs_in.Given as goal
-
-abbrev pub invariant-loop : goal.invariant-loop
-invariant-loop l = with_front l.items (times pair_at (l.count - l.counter) l.rest) ≡ times pair_at l.count l.bytes

@@ -1,7 +1,0 @@
-use Rattle.std.proofs.Common.{◌≡◌, ◌-◌}
-use Rattle.byte_format.specs.Readers.{times, with_front}
-use Rattle.elf_image.specs.ItemReaders.{state_at}
-use Rattle.elf_image.proofs.reading.items.states_in.Given as goal
-
-abbrev pub invariant-loop : goal.invariant-loop
-invariant-loop l = with_front l.items (times state_at (l.count - l.counter) l.rest) ≡ times state_at l.count l.bytes

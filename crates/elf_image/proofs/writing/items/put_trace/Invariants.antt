@@ -1,8 +1,0 @@
-use Rattle.std.proofs.Common.{◌≡◌, ◌++◌, take, length}
-use Rattle.std.specs.List.{flat_map}
-use Rattle.byte_format.specs.Numbers.{word}
-use Rattle.elf_image.specs.Spelling.{record_spelling}
-use Rattle.elf_image.proofs.writing.items.put_trace.Given as goal
-
-abbrev pub invariant-loop-record : goal.invariant-loop-record
-invariant-loop-record l = l.out.items ≡ (l.fn.out.items ++ word (length l.records)) ++ flat_map record_spelling (take l.record-index l.records)

@@ -1,0 +1,4 @@
+pub mod Booleans
+pub mod Keys
+pub mod Cases
+pub mod ItemLaws

@@ -1,0 +1,7 @@
+use Rattle.std.proofs.Common.{◌≡◌, ◌-◌}
+use Rattle.byte_format.specs.Readers.{times, with_front}
+use Rattle.note_items.specs.Readers.{drop_at}
+use Rattle.note_items.proofs.reading.drops_in.Given as goal
+
+abbrev pub invariant-loop : goal.invariant-loop
+invariant-loop l = with_front l.items (times drop_at (l.count - l.counter) l.rest) ≡ times drop_at l.count l.bytes

@@ -1,0 +1,7 @@
+use Rattle.std.proofs.Common.{◌≡◌, ◌-◌}
+use Rattle.byte_format.specs.Readers.{times, with_front}
+use Rattle.note_items.specs.Readers.{state_at}
+use Rattle.note_items.proofs.reading.states_in.Given as goal
+
+abbrev pub invariant-loop : goal.invariant-loop
+invariant-loop l = with_front l.items (times state_at (l.count - l.counter) l.rest) ≡ times state_at l.count l.bytes

@@ -1,0 +1,120 @@
+// Whether what a row gives is what it has to give.
+use crate::answer::{Answer, answer_of};
+use crate::row::{Each, Row, Told, Wanted};
+use crate::stop::Stop;
+use std::alloc::Global;
+
+/// Whether these are just so many first bytes of the others.
+fn is_front(bytes: &[u8], count: usize, of: &[u8]) -> bool {
+    bytes.len() == count && of.starts_with(bytes)
+}
+
+/// How many lines end in these bytes.
+fn lines_in(bytes: &[u8]) -> usize {
+    bytes.iter().filter(|byte| **byte == b'\n').count()
+}
+
+/// Whether the bytes are those that have to stand in a sink.
+fn is_wanted(
+    alloc: Global,
+    row: &Row,
+    told: &Told,
+    input: &[u8],
+    bytes: &[u8],
+) -> Result<bool, Stop> {
+    match told.wanted {
+        Wanted::Any => Ok(true),
+        Wanted::Text => Ok(bytes == told.text.as_slice()),
+        Wanted::Input => Ok(bytes == input),
+        Wanted::Size(size) => Ok(bytes.len() == size),
+        Wanted::Lines(count) => Ok(lines_in(bytes) == count),
+        Wanted::Front(count) => Ok(is_front(bytes, count, &told.text)),
+        Wanted::File => Ok(bytes == row.parts.file(alloc)?.as_slice()),
+        Wanted::FileFront(count) => Ok(is_front(bytes, count, &row.parts.file(alloc)?)),
+    }
+}
+
+/// Whether an answer is one that the row may give.
+fn is_right(alloc: Global, row: &Row, input: &[u8], given: &Answer) -> Result<bool, Stop> {
+    Ok(
+        row.statuses.contains(&given.status)
+            && is_wanted(alloc, row, &row.out, input, &given.out)?
+            && is_wanted(alloc, row, &row.report, input, &given.report)?,
+    )
+}
+
+/// What is said of an answer that is another one, or nothing.
+fn told_of(alloc: Global, row: &Row, input: &[u8]) -> Result<Option<String>, Stop> {
+    let given = answer_of(alloc, row, input)?;
+    if is_right(alloc, row, input, &given)? {
+        return Ok(None);
+    }
+    let out = String::from_utf8_lossy(alloc, &given.out)?;
+    let report = String::from_utf8_lossy(alloc, &given.report)?;
+    Ok(Some(format!(in alloc;
+        "row {}: status {}, out {out:?}, report {report:?}",
+        row.name, given.status
+    )?))
+}
+
+/// What is said of the row with one of the inputs that it is run with, or nothing.
+fn told_of_front(
+    alloc: Global,
+    row: &Row,
+    input: &[u8],
+    length: usize,
+) -> Result<Option<String>, Stop> {
+    let Some(front) = input.get(..length) else {
+        return Err(Stop::Place);
+    };
+    told_of(alloc, row, front)
+}
+
+fn told_of_flip(alloc: Global, row: &Row, input: &[u8], at: usize) -> Result<Option<String>, Stop> {
+    let mut flipped = input.to_vec(alloc)?;
+    let Some(byte) = flipped.get_mut(at) else {
+        return Err(Stop::Place);
+    };
+    *byte ^= 1;
+    told_of(alloc, row, &flipped)
+}
+
+fn told_of_fronts(
+    alloc: Global,
+    row: &Row,
+    input: &[u8],
+    from: usize,
+    to: usize,
+) -> Result<Option<String>, Stop> {
+    for length in from..to {
+        if let Some(told) = told_of_front(alloc, row, input, length)? {
+            return Ok(Some(told));
+        }
+    }
+    Ok(None)
+}
+
+fn told_of_flips(
+    alloc: Global,
+    row: &Row,
+    input: &[u8],
+    from: usize,
+    to: usize,
+) -> Result<Option<String>, Stop> {
+    for at in from..to {
+        if let Some(told) = told_of_flip(alloc, row, input, at)? {
+            return Ok(Some(told));
+        }
+    }
+    Ok(None)
+}
+
+/// What is said of a row that gives something else than it has to, or nothing.
+pub fn wrong(alloc: Global, row: &Row) -> Result<Option<String>, Stop> {
+    let input = row.whole_input(alloc)?;
+    match row.each {
+        Each::Whole => told_of(alloc, row, &input),
+        Each::Fronts(from, to) => told_of_fronts(alloc, row, &input, from, to),
+        Each::Flips(from, to) => told_of_flips(alloc, row, &input, from, to),
+    }
+}

@@ -1,0 +1,30 @@
+// The words of the command line, as the system hands them over.
+use std::io::{Error, ErrorKind};
+use std::test::Fail;
+use tool_top::{Command, words_of};
+
+#[test]
+fn the_words_stand_behind_the_program_s_name(rt: HostRuntime) -> Result<(), Fail> {
+    let alloc = rt.alloc();
+    let mut arguments = Vec::new(alloc);
+    for argument in ["testgen", "gen", "--seed", "7"] {
+        arguments.push(String::from_str(alloc, argument)?)?;
+    }
+    let words = words_of(alloc, Ok(arguments.into_iter()))?;
+    assert_eq!(rt; words.command(), Some(Command::Gen { seed: 7 }));
+    Ok(())
+}
+
+#[test]
+fn arguments_that_are_not_utf8_are_no_words(rt: HostRuntime) -> Result<(), Fail> {
+    let words = words_of(rt.alloc(), Err(Error::from(ErrorKind::InvalidData)))?;
+    assert!(rt; words.command().is_none());
+    Ok(())
+}
+
+#[test]
+fn arguments_without_memory_are_no_answer(rt: HostRuntime) -> Result<(), Fail> {
+    let refused = words_of(rt.alloc(), Err(Error::from(ErrorKind::OutOfMemory)));
+    assert!(rt; refused.is_err());
+    Ok(())
+}

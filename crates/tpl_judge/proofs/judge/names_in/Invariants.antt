@@ -1,0 +1,7 @@
+use Rattle.std.proofs.Common.{◌≡◌, ◌++◌, drop}
+use Rattle.tpl_ast.specs.Judging.{names_in}
+use Rattle.tpl_token.specs.Phrases.{wishes_view, words_view}
+use Rattle.tpl_judge.proofs.judge.names_in.Given as goal
+
+abbrev pub invariant-loop-wish : goal.invariant-loop-wish
+invariant-loop-wish l = words_view l.names.items ++ names_in (wishes_view (drop l.wish-index l.wishes)) ≡ names_in (wishes_view l.wishes)

@@ -1,8 +1,0 @@
-use Rattle.std.proofs.Common.{◌≡◌, drop}
-use Rattle.std.specs.List.{list_any}
-use Rattle.tpl_ast.specs.Parsing.{is_repeat}
-use Rattle.tpl_parse.specs.Growing.{open_of}
-use Rattle.tpl_parse.proofs.body.is_any_repeat.Given as goal
-
-abbrev pub invariant-loop-one : goal.invariant-loop-one
-invariant-loop-one l = list_any (λ b. is_repeat (open_of b)) (drop l.one-index l.blocks) ≡ list_any (λ b. is_repeat (open_of b)) l.blocks

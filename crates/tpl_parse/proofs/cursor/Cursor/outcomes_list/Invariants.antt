@@ -1,7 +1,0 @@
-use Rattle.std.proofs.Common.{◌≡◌, ◌-◌, length}
-use Rattle.tpl_ast.specs.Grammar.{list_of, outcome_part_at}
-use Rattle.tpl_parse.proofs.Lists.{with_front}
-use Rattle.tpl_parse.proofs.cursor.Cursor.outcomes_list.Given as goal
-
-abbrev pub invariant-loop : goal.invariant-loop
-invariant-loop l = with_front l.outcomes.items (list_of outcome_part_at (length l.fn.self - l.counter) l.self) ≡ list_of outcome_part_at (length l.fn.self) l.fn.self

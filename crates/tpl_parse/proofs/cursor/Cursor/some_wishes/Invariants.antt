@@ -1,8 +1,0 @@
-use Rattle.std.proofs.Common.{◌≡◌, ◌-◌, length}
-use Rattle.tpl_ast.specs.Grammar.{some_wishes}
-use Rattle.tpl_parse.proofs.Lists.{behind}
-use Rattle.tpl_parse.specs.Reading.{wishes_view}
-use Rattle.tpl_parse.proofs.cursor.Cursor.some_wishes.Given as goal
-
-abbrev pub invariant-loop : goal.invariant-loop
-invariant-loop l = behind (wishes_view l.wishes.items) (some_wishes (length l.fn.self - l.counter) l.self) ≡ some_wishes (length l.fn.self) l.fn.self

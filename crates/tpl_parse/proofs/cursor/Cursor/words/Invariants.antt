@@ -1,8 +1,0 @@
-use Rattle.std.proofs.Common.{◌≡◌, ◌-◌, length}
-use Rattle.tpl_ast.specs.Grammar.{list_of, word_part_at}
-use Rattle.tpl_parse.proofs.Lists.{with_front}
-use Rattle.tpl_parse.specs.Reading.{words_view}
-use Rattle.tpl_parse.proofs.cursor.Cursor.words.Given as goal
-
-abbrev pub invariant-loop : goal.invariant-loop
-invariant-loop l = with_front (words_view l.words.items) (list_of word_part_at (length l.fn.self - l.counter) l.self) ≡ list_of word_part_at (length l.fn.self) l.fn.self

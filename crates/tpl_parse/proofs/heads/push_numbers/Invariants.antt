@@ -1,6 +1,0 @@
-use Rattle.std.proofs.Common.{◌≡◌, ◌++◌, drop}
-use Rattle.tpl_ast.specs.Parsing.{numbers}
-use Rattle.tpl_parse.proofs.heads.push_numbers.Given as goal
-
-abbrev pub invariant-loop-n : goal.invariant-loop-n
-invariant-loop-n l = l.values.items ++ numbers (drop l.n-index l.ns) ≡ l.fn.values.items ++ numbers l.ns

@@ -1,8 +1,0 @@
-use Rattle.std.proofs.Common.{◌≡◌, drop}
-use Rattle.std.specs.List.{list_any}
-use Rattle.tpl_ast.specs.Judging.{is_wish_above}
-use Rattle.tpl_parse.specs.Reading.{wishes_view}
-use Rattle.tpl_parse.proofs.judge.is_any_wish_above.Given as goal
-
-abbrev pub invariant-loop-wish : goal.invariant-loop-wish
-invariant-loop-wish l = list_any is_wish_above (wishes_view (drop l.wish-index l.wishes)) ≡ list_any is_wish_above (wishes_view l.wishes)

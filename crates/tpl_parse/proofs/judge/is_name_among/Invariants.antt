@@ -1,7 +1,0 @@
-use Rattle.std.proofs.Common.{◌≡◌, drop}
-use Rattle.tpl_ast.specs.Judging.{is_name_among}
-use Rattle.tpl_parse.specs.Reading.{words_view}
-use Rattle.tpl_parse.proofs.judge.is_name_among.Given as goal
-
-abbrev pub invariant-loop-other : goal.invariant-loop-other
-invariant-loop-other l = is_name_among (words_view (drop l.other-index l.names)) l.name ≡ is_name_among (words_view l.names) l.name

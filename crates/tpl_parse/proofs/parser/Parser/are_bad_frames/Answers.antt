@@ -1,9 +1,0 @@
-use Rattle.std.proofs.Common.{◌++◌, ◌∙◌}
-use Rattle.tpl_parse.specs.State.{known}
-use Rattle.tpl_parse.proofs.Frames.{next_frame}
-use Rattle.tpl_parse.proofs.parser.Parser.are_bad_frames.Goals as goal
-
-pub loop-i-preserved : goal.loop-i-preserved
-loop-i-preserved c =
-    let k = known c.args.self.now in
-    next_frame k.ram (k.pool ++ k.tables) c.args.frames.now c.loop-i.i _ c.number.result c.loop-i-test.true c.number.ensures c.if-is_bad_frame.ensures ∙ c.loop-i.invariant

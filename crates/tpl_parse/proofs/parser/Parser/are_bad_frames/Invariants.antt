@@ -1,8 +1,0 @@
-use Rattle.std.proofs.Common.{◌≡◌, ◌++◌, drop, take}
-use Rattle.tpl_ast.specs.Parsing.{are_bad_frames}
-use Rattle.tpl_parse.specs.Frames.{others_after}
-use Rattle.tpl_parse.specs.State.{known}
-use Rattle.tpl_parse.proofs.parser.Parser.are_bad_frames.Given as goal
-
-abbrev pub invariant-loop-i : goal.invariant-loop-i
-invariant-loop-i l = let k = known l.self in are_bad_frames k.ram (others_after (take l.i l.frames) (k.pool ++ k.tables)) (drop l.i l.frames) ≡ are_bad_frames k.ram (k.pool ++ k.tables) l.frames

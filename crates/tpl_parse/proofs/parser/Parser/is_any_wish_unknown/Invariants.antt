@@ -1,9 +1,0 @@
-use Rattle.std.proofs.Common.{◌≡◌, drop}
-use Rattle.std.specs.List.{list_any}
-use Rattle.tpl_ast.specs.Parsing.{is_atom_unknown}
-use Rattle.tpl_parse.specs.Reading.{wishes_view}
-use Rattle.tpl_parse.specs.State.{known}
-use Rattle.tpl_parse.proofs.parser.Parser.is_any_wish_unknown.Given as goal
-
-abbrev pub invariant-loop-wish : goal.invariant-loop-wish
-invariant-loop-wish l = list_any (λ w. is_atom_unknown (known l.self) w.atom) (wishes_view (drop l.wish-index l.wishes)) ≡ list_any (λ w. is_atom_unknown (known l.self) w.atom) (wishes_view l.wishes)

@@ -1,0 +1,4 @@
+pub mod Growing
+pub mod NamedSets
+pub mod Places
+pub mod State

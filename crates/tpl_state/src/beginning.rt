@@ -1,0 +1,35 @@
+// What is known before the first line.
+ghost use Rattle.std.specs.Prelude.{◌≡◌};
+ghost use Rattle.tpl_ast.specs.Parsing.{nothing};
+ghost use Rattle.tpl_state.specs.State.{known};
+
+use crate::body::Growing;
+use crate::place::Place;
+use crate::state::State;
+use rv_csr::Priv;
+use std::alloc::Global;
+
+impl State {
+    /// Before the first line.
+    pub fn new(alloc: Global) -> State
+        ensures { known result ≡ nothing }
+    {
+        State {
+            place: Place::Head,
+            ram: Vec::new(alloc),
+            pool: Vec::new(alloc),
+            tables: Vec::new(alloc),
+            flags: Vec::new(alloc),
+            vectors: None,
+            sets: Vec::new(alloc),
+            names: Vec::new(alloc),
+            words: Vec::new(alloc),
+            harts: Vec::new(alloc),
+            total: 0,
+            pc: 0,
+            privilege: Priv::M,
+            given: Vec::new(alloc),
+            body: Growing::new(alloc),
+        }
+    }
+}
