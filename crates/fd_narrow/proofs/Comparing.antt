@@ -13,7 +13,7 @@ use Rattle.fd_narrow.specs.declared.standings.Standing.TheVariants.{Less, Equal,
 use Rattle.fd_prob.specs.declared.relation.Rel.{Rel}
 use Rattle.fd_narrow.specs.Narrowing.{domain_in}
 use Rattle.fd_narrow.specs.Standings.{IsRuledOut, IsUnfit, Stands, order_of, standing}
-use Rattle.fd_narrow.proofs.Members.{element}
+use Rattle.set_sums.proofs.Members.{element}
 use Rattle.fd_narrow.proofs.Totals.{there}
 
 -- equal values stand as equal

@@ -8,13 +8,13 @@ use Rattle.dom_set.specs.Elements.{is_in, is_within}
 use Rattle.fd_prob.specs.declared.slot.Slot.{Slot}
 use Rattle.fd_prob.specs.Relations.{agrees, is_held, value_of}
 use Rattle.fd_narrow.specs.Narrowing.{domain_in}
-use Rattle.fd_narrow.specs.Spans.{IsOfRanges}
+use Rattle.set_sums.specs.Spans.{IsOfRanges}
 use Rattle.fd_narrow.specs.Steps.{IsValueIn, IsValueOutside, Leaves}
 use Rattle.fd_narrow.specs.Tables.{AreListed, AreOthers, AreRefused, is_listed, is_other, is_refused}
 use Rattle.fd_narrow.proofs.Compositions.{weakened}
-use Rattle.fd_narrow.proofs.Members.{is_in-filter, joined}
+use Rattle.set_sums.proofs.Members.{is_in-filter, joined}
 use Rattle.fd_narrow.proofs.Sameness.{none_in}
-use Rattle.fd_narrow.proofs.Spans.{pushed_has, pushed_kept, pushed_splits, true_or_false}
+use Rattle.set_sums.proofs.Spans.{pushed_has, pushed_kept, pushed_splits, true_or_false}
 
 -- the entry that a read of the table gave
 pub entry_at : (table : List (Option ℕ)) (i v : ℕ) (e : Option ℕ) → e ≡ Some v → true ≡ nat_lt i (length table) → e ≡ get_or table i e → slice_get table i ≡ Some (Some v)

@@ -6,12 +6,12 @@ use Rattle.dom_set.specs.Laws.{ElementsPass, IsInTests}
 use Rattle.fd_prob.specs.declared.problem.Assignment.{Assignment}
 use Rattle.fd_prob.specs.declared.slot.Slot.TheVariants as slots
 use Rattle.fd_prob.specs.Relations.{value_of}
-use Rattle.fd_narrow.specs.Spans.{IsOfRanges}
+use Rattle.set_sums.specs.Spans.{IsOfRanges}
 use Rattle.fd_narrow.specs.Steps.{Leaves}
 use Rattle.fd_narrow.specs.Targets.{HasEven, HasOddToo}
 use Rattle.fd_narrow.proofs.Compositions.{followed, weakened}
-use Rattle.fd_narrow.proofs.Members.{is_in-elements_of, is_in-filter, joined}
-use Rattle.fd_narrow.proofs.Spans.{pushed_has}
+use Rattle.set_sums.proofs.Members.{is_in-elements_of, is_in-filter, joined}
+use Rattle.set_sums.proofs.Spans.{pushed_has}
 
 -- what is outside both is in neither
 gone : (a b c : Bool) → IsTrue (a || b) → (not (not b && (not a && c)) && true) ≡ true

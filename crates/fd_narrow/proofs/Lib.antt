@@ -1,7 +1,5 @@
-pub mod Members
 pub mod Replacing
 pub mod Outcomes
-pub mod Spans
 pub mod Compositions
 pub mod Sameness
 pub mod Entries
@@ -13,4 +11,3 @@ pub mod Jumps
 pub mod Legality
 pub mod Origins
 pub mod Operands
-pub mod Quarters

@@ -14,13 +14,13 @@ use Rattle.fd_narrow.specs.declared.sources.Made.{Made}
 use Rattle.fd_narrow.specs.declared.writes.Change.{Change}
 use Rattle.fd_narrow.specs.Narrowing.{IsInside, domain_in}
 use Rattle.fd_narrow.specs.Sources.{CanBe, IsLegalSource, made}
-use Rattle.fd_narrow.specs.Spans.{IsOfRanges}
+use Rattle.set_sums.specs.Spans.{IsOfRanges}
 use Rattle.fd_narrow.specs.Steps.{IsValueIn, Leaves}
 use Rattle.fd_narrow.specs.Writes.{IsLegalFrom, IsLegalOperand, by_register, changed}
 use Rattle.fd_narrow.proofs.Compositions.{weakened}
-use Rattle.fd_narrow.proofs.Members.{element, is_in-filter, joined, right, same}
+use Rattle.set_sums.proofs.Members.{element, is_in-filter, joined, right, same}
 use Rattle.fd_narrow.proofs.Sameness.{none_in}
-use Rattle.fd_narrow.proofs.Spans.{true_or_false}
+use Rattle.set_sums.proofs.Spans.{true_or_false}
 use Rattle.fd_narrow.proofs.Totals.{there}
 
 pub no_register : (n v : ℕ) → 2 ^ 16 ≤ n → is_legal_at n v ≡ false

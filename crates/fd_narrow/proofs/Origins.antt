@@ -14,8 +14,8 @@ use Rattle.fd_narrow.specs.declared.sources.Made.{Made}
 use Rattle.fd_narrow.specs.declared.sources.Made.TheVariants.{Itself, With, Without, From}
 use Rattle.fd_narrow.specs.Sources.{CanBe, ComesOf, IsLegalSource, best, is_sourced, made}
 use Rattle.fd_narrow.proofs.Legality.{whole}
-use Rattle.fd_narrow.proofs.Members.{is_in-elements_of, same}
-use Rattle.fd_narrow.proofs.Spans.{either, first_of_two, second_of_two}
+use Rattle.set_sums.proofs.Members.{is_in-elements_of, same}
+use Rattle.set_sums.proofs.Spans.{either, first_of_two, second_of_two}
 
 -- one bit of a word, of the other, of a mask and of what is under it
 with_agrees : (v o m b : ℕ) → v < 2 → o < 2 → m < 2 → b < 2 → min (max v o) m ≡ b → max (min b (1 - m)) (min (min m o) (1 - b)) ≡ 0

@@ -12,7 +12,7 @@ use Rattle.fd_narrow.specs.Narrowing.{IsInside, domain_in}
 use Rattle.fd_narrow.specs.Orders.{HasEnds, IsOrdered, IsRanked, rank}
 use Rattle.fd_narrow.specs.Steps.{Leaves}
 use Rattle.fd_narrow.proofs.Compositions.{weakened}
-use Rattle.fd_narrow.proofs.Members.{element}
+use Rattle.set_sums.proofs.Members.{element}
 
 turned_back : (v : ℕ) → v < 2 ^ 32 → ((v + 2 ^ 31) % 2 ^ 32 + (2 ^ 32 - 2 ^ 31)) % 2 ^ 32 ≡ v
 turned_back v small = omega arith

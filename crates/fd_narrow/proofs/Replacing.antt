@@ -12,7 +12,7 @@ use Rattle.fd_prob.specs.Relations.{value_of}
 use Rattle.fd_prob.specs.Slots.{slot_number}
 use Rattle.fd_narrow.specs.Narrowing.{IsInside, domain_in}
 use Rattle.fd_narrow.specs.Steps.{IsValueIn, IsValueOutside, Leaves}
-use Rattle.fd_narrow.proofs.Members.{element, is_in-filter, joined, right}
+use Rattle.set_sums.proofs.Members.{element, is_in-filter, joined, right}
 
 slot_below : (s : Slot) → slot_number s < 14
 slot_below slots.Op = omega arith

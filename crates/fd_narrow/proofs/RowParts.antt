@@ -1,5 +1,5 @@
 -- What rows say of variables.
-use Rattle.std.proofs.Common.{◌≡◌, ℕ, ◌&&◌, not, Bool, true, false, List, [], ◌∷◌, IsTrue, length, refl, sym, ap, ◌∙◌, subst, arith}
+use Rattle.std.proofs.Common.{◌≡◌, ℕ, ◌&&◌, not, Bool, true, false, List, IsTrue, refl, sym, ap, ◌∙◌, subst}
 use Rattle.std.specs.List.{filter}
 use Rattle.dom_set.specs.Elements.{is_in}
 use Rattle.fd_prob.specs.declared.problem.Assignment.{Assignment}
@@ -9,7 +9,7 @@ use Rattle.fd_prob.specs.Relations.{is_in_row, value_of}
 use Rattle.fd_narrow.specs.declared.rows.Part.{Part}
 use Rattle.fd_narrow.specs.declared.rows.Part.TheVariants.{Address, Root, Leaf, Word}
 use Rattle.fd_narrow.specs.Parts.{IsLess, part_of, slot_of}
-use Rattle.fd_narrow.proofs.Members.{is_in-filter, joined, left, right}
+use Rattle.set_sums.proofs.Members.{is_in-filter, left, right}
 
 pub row_part : (part : Part) (x : Assignment) (row : Quad) → IsTrue (is_in_row x row) → IsTrue (is_in (part_of part row) (value_of x (slot_of part)))
 row_part part x row h =
@@ -23,17 +23,6 @@ row_part part x row h =
       by_part Root k l m n = l
       by_part Leaf k l m n = m
       by_part Word k l m n = n
-
-none_of : (xs : List ℕ) → length xs ≡ 0 → (v : ℕ) → is_in xs v ≡ false
-none_of [] none v = refl
-none_of (x ∷ xs) none v = absurd (omega (arith, none))
-
--- what is in both sets is in their common elements
-pub in_both : (first second common : List ℕ) → common ≡ filter (is_in second) first → (v : ℕ) → IsTrue (is_in first v) → IsTrue (is_in second v) → IsTrue (is_in common v)
-in_both first second common is v h k = subst (λ (b : Bool). IsTrue b) (sym (ap (λ (d : List ℕ). is_in d v) is ∙ is_in-filter (is_in second) first v)) (joined (is_in second v) (is_in first v) k h)
-
-pub some_common : (first second common : List ℕ) → common ≡ filter (is_in second) first → (v : ℕ) → IsTrue (is_in first v) → IsTrue (is_in second v) → (length common ≡ 0) → ⊥
-some_common first second common is v h k none = cc (in_both first second common is v h k, none_of common none v)
 
 lost : (q : Bool) (b : Bool) → b ≡ false → (q && b) ≡ false
 lost true b h = h

@@ -7,11 +7,11 @@ use Rattle.fd_prob.specs.declared.slot.Slot.{Slot}
 use Rattle.fd_prob.specs.declared.slot.Slot.TheVariants as slots
 use Rattle.fd_prob.specs.Relations.{is_linked, is_same, value_of}
 use Rattle.fd_narrow.specs.Narrowing.{IsInside, domain_in}
-use Rattle.fd_narrow.specs.Spans.{IsOfRanges}
+use Rattle.set_sums.specs.Spans.{IsOfRanges}
 use Rattle.fd_narrow.specs.Steps.{IsAnother, IsValueIn, IsValueOutside, Leaves}
 use Rattle.fd_narrow.proofs.Compositions.{followed, weakened}
-use Rattle.fd_narrow.proofs.Members.{is_in-filter, joined, same}
-use Rattle.fd_narrow.proofs.Spans.{of_pair, only_pair, true_or_false}
+use Rattle.set_sums.proofs.Members.{is_in-filter, joined, same}
+use Rattle.set_sums.proofs.Spans.{of_pair, only_pair, true_or_false}
 
 in_common : (doms : List (List ℕ)) (s t : Slot) (first second common : List ℕ) → first ≡ domain_in doms s → second ≡ domain_in doms t → common ≡ filter (is_in second) first → (x : Assignment) → IsInside doms x → value_of x s ≡ value_of x t → IsTrue (is_in common (value_of x s))
 in_common doms s t first second common at_s at_t is x inside same =

@@ -5,7 +5,7 @@ use Rattle.fd_prob.specs.declared.problem.Assignment.{Assignment}
 use Rattle.fd_prob.specs.declared.slot.Slot.{Slot}
 use Rattle.fd_prob.specs.Relations.{is_sum, value_of}
 use Rattle.fd_narrow.specs.Narrowing.{IsInside, domain_in}
-use Rattle.fd_narrow.specs.Spans.{HasDifferences, HasHalves, HasSums}
+use Rattle.set_sums.specs.Spans.{HasDifferences, HasHalves, HasSums}
 use Rattle.fd_narrow.specs.Steps.{IsValueIn, Leaves}
 use Rattle.fd_narrow.proofs.Compositions.{followed, weakened}
 

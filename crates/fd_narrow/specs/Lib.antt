@@ -1,7 +1,5 @@
 pub mod Narrowing
 pub mod Steps
-pub mod Spans
-pub mod Remainders
 pub mod Tables
 pub mod Orders
 pub mod Standings

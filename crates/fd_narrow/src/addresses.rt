@@ -4,9 +4,9 @@ ghost use Rattle.std.specs.List.{list_any};
 ghost use Rattle.dom_set.specs.Elements.{is_in, is_within};
 ghost use Rattle.rv_csr.specs.Table.{address_of, is_legal_at};
 
-use crate::ranges::{Span, words_of};
 use dom_set::{OutOfMemory, Set};
 use rv_csr::{REGISTERS, Register, legal, place_laws, row_of};
+use set_sums::{Span, words_of};
 use std::alloc::Global;
 
 /// Adds the address, if the word is legal at it.

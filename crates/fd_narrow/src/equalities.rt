@@ -4,9 +4,9 @@ ghost use Rattle.fd_prob.specs.Relations.{is_linked, is_same};
 ghost use Rattle.fd_narrow.specs.Steps.{IsAnother, Leaves};
 
 use crate::domains::Domains;
-use crate::ranges::words_of;
 use dom_set::OutOfMemory;
 use fd_prob::Slot;
+use set_sums::words_of;
 use std::alloc::Global;
 
 impl Domains {

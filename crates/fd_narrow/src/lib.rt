@@ -8,8 +8,6 @@ mod equalities;
 mod legal;
 mod narrowing;
 mod orders;
-mod ranges;
-mod remainders;
 mod rows;
 mod sources;
 mod standings;

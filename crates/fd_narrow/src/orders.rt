@@ -8,10 +8,10 @@ ghost use Rattle.fd_narrow.specs.Orders.{HasEnds, IsOrdered, IsRanked, rank};
 ghost use Rattle.fd_narrow.specs.Steps.{Leaves};
 
 use crate::domains::Domains;
-use crate::ranges::{HALF, Span, ends, shifted, words_of};
 use dom_set::{OutOfMemory, Set};
 use fd_prob::Slot;
 use rv_isa::Op;
+use set_sums::{HALF, Span, ends, shifted, words_of};
 use std::alloc::Global;
 
 /// How words are compared.

@@ -9,9 +9,9 @@ ghost use Rattle.fd_narrow.specs.Steps.{Leaves};
 ghost use Rattle.fd_prob.specs.declared.problem.Assignment.{Assignment};
 
 use crate::domains::Domains;
-use crate::ranges::meet;
 use dom_set::{OutOfMemory, Set};
 use fd_prob::{Quad, Slot};
+use set_sums::meet;
 use std::alloc::Global;
 
 /// What a row has a set for.

@@ -4,9 +4,9 @@ ghost use Rattle.fd_prob.specs.Relations.{is_sum, value_of};
 ghost use Rattle.fd_narrow.specs.Steps.{Leaves};
 
 use crate::domains::Domains;
-use crate::ranges::{differences, halved, sums, words_of};
 use dom_set::OutOfMemory;
 use fd_prob::Slot;
+use set_sums::{differences, halved, sums, words_of};
 use std::alloc::Global;
 
 impl Domains {

@@ -5,9 +5,9 @@ ghost use Rattle.fd_narrow.specs.Steps.{Leaves};
 ghost use Rattle.fd_narrow.specs.Tables.{AreListed, AreOthers, AreRefused};
 
 use crate::domains::Domains;
-use crate::ranges::{Span, words_of};
 use dom_set::{OutOfMemory, Set};
 use fd_prob::Slot;
+use set_sums::{Span, words_of};
 use std::alloc::Global;
 
 /// Indices of a table, and values that it has there.

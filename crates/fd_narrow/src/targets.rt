@@ -7,10 +7,10 @@ ghost use Rattle.fd_narrow.specs.Steps.{Leaves};
 ghost use Rattle.fd_narrow.specs.Targets.{HasEven, HasOddToo};
 
 use crate::domains::Domains;
-use crate::ranges::{differences, shifted, words_of};
 use dom_set::{OutOfMemory, Set, set_laws};
 use fd_prob::Slot;
 use rv_isa::Op;
+use set_sums::{differences, shifted, words_of};
 use std::alloc::Global;
 
 /// What is in one of the sets.

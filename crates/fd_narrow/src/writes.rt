@@ -11,11 +11,11 @@ ghost use Rattle.fd_narrow.specs.Writes.{IsLegalFrom, IsLegalOperand, by_registe
 
 use crate::addresses::addresses;
 use crate::domains::Domains;
-use crate::ranges::words_of;
 use crate::sources::{Made, legal_sources};
 use dom_set::OutOfMemory;
 use fd_prob::Slot;
 use rv_isa::Op;
+use set_sums::words_of;
 use std::alloc::Global;
 
 /// What becomes of the bits that an operand has (Unprivileged, Zicsr).

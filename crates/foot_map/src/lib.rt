@@ -12,7 +12,7 @@ mod map;
 mod touch;
 mod touches;
 
-pub use clash::Clash;
+pub use clash::{Clash, breaks};
 pub use error::OutOfMemory;
 pub use laws::{footprint_laws, race_laws, set_laws};
 pub use map::FootMap;

@@ -1,9 +1,7 @@
 // The examples of docs/TEMPLATES.md.
-use super::printing::told;
+use crate::told::{assert_told, compare_texts};
 use rv_csr::{REGISTERS, row_of};
 use rv_isa::{OPS, name_of};
-use std::alloc::Global;
-use std::process::Abort;
 use std::test::Fail;
 use tpl_ast::{KEYS, Key, csr_of, key_of, op_of};
 
@@ -110,64 +108,46 @@ pa == n1
 target == top
 outcome in {retire, 5, 13}";
 
-/// Where its body opens.
-const BODY: &str = "hart 0 {
-start pc 0 priv m
-body {
-";
-
 /// A small text of each fault, and the line and the kind that are told.
-const FAULTS: [(&str, &str); 9] = [
-    ("\u{e9}\n", "1 1"),
-    ("", "1 2"),
-    ("set q1 = {0x100000000}\n", "1 3"),
-    ("vectors q\n", "1 4"),
-    ("set q = {1}\nset q = {1}\n", "2 5"),
-    ("set q1 = {5..4}\n", "1 7"),
-    ("pteflags 0 0 0 0 0 0 0 0 0\n", "1 10"),
-    ("ram 0x80000000 0x80000800\n", "1 11"),
-    ("hart 1 {\n", "1 12"),
-];
-
-fn assert_told(rt: &impl Abort, alloc: Global, text: &str, want: &str) -> Result<(), Fail> {
-    assert_eq!(rt; told(alloc, text)?.as_str(), want, "at {text}");
-    Ok(())
-}
+const FAULTS: &str = "\
+1 1 => \u{e9}|
+1 2 => 
+1 3 => set q1 = {0x100000000}|
+1 4 => vectors q|
+2 5 => set q = {1}|set q = {1}|
+1 7 => set q1 = {5..4}|
+1 10 => pteflags 0 0 0 0 0 0 0 0 0|
+1 11 => ram 0x80000000 0x80000800|
+1 12 => hart 1 {|";
 
 #[test]
 fn examples_are_templates(rt: HostRuntime) -> Result<(), Fail> {
     for text in [FIRST, STATEMENTS, ITEMS, OTHER_ITEMS] {
-        assert_told(&rt, rt.alloc(), text, "ok")?;
+        assert_told(&rt, rt.alloc(), text, "ok", text)?;
     }
     Ok(())
 }
 
 #[test]
 fn small_texts_have_their_faults(rt: HostRuntime) -> Result<(), Fail> {
-    let alloc = rt.alloc();
-    for (text, want) in FAULTS {
-        assert_told(&rt, alloc, text, want)?;
-    }
-    let twice = format!(in alloc; "name n1 in {{1}}\n{BODY}do rs1 == n1; rs2 == n1\n")?;
-    assert_told(&rt, alloc, &twice, "5 6")?;
-    let long = format!(in alloc; "{BODY}do\nrepeat 8192 {{\n}}\n}}\n")?;
-    assert_told(&rt, alloc, &long, "7 9")?;
-    let mut deep = format!(in alloc; "{BODY}")?;
-    for _ in 0..17 {
-        deep.push_str("seq {\n")?;
-    }
-    assert_told(&rt, alloc, &deep, "20 8")?;
-    Ok(())
+    compare_texts(&rt, rt.alloc(), FAULTS)
 }
+
+/// Before and behind an atom.
+const BEFORE: &str = "set odd = {1, 3, 5..7}
+name n1 in odd
+hart 0 {
+start pc 0 priv m
+body {
+label top
+do ";
 
 #[test]
 fn atoms_may_stand_in_leaves(rt: HostRuntime) -> Result<(), Fail> {
     let alloc = rt.alloc();
     for atom in ATOMS.split('\n') {
-        let text = format!(in alloc;
-            "set odd = {{1, 3, 5..7}}\nname n1 in odd\n{BODY}label top\ndo {atom}\n}}\n}}\n"
-        )?;
-        assert_told(&rt, alloc, &text, "ok")?;
+        let text = format!(in alloc; "{BEFORE}{atom}\n}}\n}}\n")?;
+        assert_told(&rt, alloc, &text, "ok", atom)?;
     }
     Ok(())
 }

@@ -1,22 +1,18 @@
-//! Tests of the template language: its words and lists, which texts are templates and what they say, what is
-//! told of the others, and which records a template admits.
+//! Tests of the template language: its words and lists, and what the parser tells of texts, at its limits and of the
+//! examples of the documents.
 #![tactic(auto)]
 
 #[cfg(test)]
-mod admission;
-#[cfg(test)]
-mod content;
+mod every;
 #[cfg(test)]
 mod examples;
 #[cfg(test)]
 mod faults;
 #[cfg(test)]
+mod firsts;
+#[cfg(test)]
 mod limits;
-#[cfg(test)]
-mod parts;
-#[cfg(test)]
-mod printing;
 #[cfg(test)]
 mod syntax;
 #[cfg(test)]
-mod texts;
+mod told;

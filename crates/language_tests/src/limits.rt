@@ -1,5 +1,5 @@
 // Limits, each at its value and one above.
-use super::printing::told;
+use crate::told::assert_told;
 use std::alloc::{AllocError, Global};
 use std::fmt::Write;
 use std::process::Abort;
@@ -155,31 +155,52 @@ fn text_of(alloc: Global, limit: &Limit<'_>, count: usize) -> Result<String, All
     Ok(text)
 }
 
-fn assert_limit(rt: &impl Abort, alloc: Global, row: &str) -> Result<(), Fail> {
+/// What is told of the row's text with so many pieces.
+fn compare(rt: &impl Abort, alloc: Global, row: &str, more: bool) -> Result<(), Fail> {
+    let limit = limit_of(row)?;
+    let count = if more {
+        limit.count.saturating_add(1)
+    } else {
+        limit.count
+    };
+    let text = text_of(alloc, &limit, count)?;
+    assert_told(rt, alloc, &text, limit.told, row)
+}
+
+/// Nothing is wrong at the limit.
+fn assert_kept(rt: &impl Abort, alloc: Global, row: &str) -> Result<(), Fail> {
     let limit = limit_of(row)?;
     let text = text_of(alloc, &limit, limit.count)?;
-    assert_eq!(rt; told(alloc, &text)?.as_str(), "ok", "at {row}");
-    let text = text_of(alloc, &limit, limit.count.saturating_add(1))?;
-    assert_eq!(rt; told(alloc, &text)?.as_str(), limit.told, "above {row}");
-    Ok(())
+    assert_told(rt, alloc, &text, "ok", row)
 }
 
 #[test]
 fn limits_are_kept(rt: HostRuntime) -> Result<(), Fail> {
-    let alloc = rt.alloc();
     for row in LIMITS.split('\n') {
-        assert_limit(&rt, alloc, row)?;
+        assert_kept(&rt, rt.alloc(), row)?;
+        compare(&rt, rt.alloc(), row, true)?;
     }
     Ok(())
 }
 
 #[test]
 fn long_texts_tell_the_least_kind(rt: HostRuntime) -> Result<(), Fail> {
-    let alloc = rt.alloc();
     for row in LONG.split('\n') {
-        let limit = limit_of(row)?;
-        let text = text_of(alloc, &limit, limit.count)?;
-        assert_eq!(rt; told(alloc, &text)?.as_str(), limit.told, "at {row}");
+        compare(&rt, rt.alloc(), row, false)?;
+    }
+    Ok(())
+}
+
+/// Faults that docs/TEMPLATES.md tells of.
+const EXAMPLES: &str = "\
+1~5 6~name n1 in {1}|+do rs1 == n1; rs2 == n1|~~~
+1~7 9~+do|repeat 8192 {|}|}|~~~
+17~20 8~+~seq {|~~";
+
+#[test]
+fn examples_have_their_faults(rt: HostRuntime) -> Result<(), Fail> {
+    for row in EXAMPLES.split('\n') {
+        compare(&rt, rt.alloc(), row, false)?;
     }
     Ok(())
 }

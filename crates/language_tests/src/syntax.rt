@@ -1,6 +1,8 @@
-use rv_csr::{LazyRegister, Register};
+// Lists, words and lengths of bodies.
+use rv_csr::Register;
 use rv_isa::Op;
 use std::alloc::{AllocError, Global};
+use std::process::Abort;
 use std::test::Fail;
 use tpl_ast::{
     Item, Items, Key, csr_of, key_of, language_laws, length, op_number, op_of, size_law,
@@ -21,24 +23,65 @@ fn a_list_keeps_its_items(rt: HostRuntime) -> Result<(), Fail> {
     Ok(())
 }
 
+// Each row has a word, and what it names.
+
+const WORDS: &str = "\
+ram Some(Ram)
+m Some(Machine)
+s Some(Supervisor)
+u Some(User)
+shared Some(Shared)
+share None
+ None";
+
+const OPERATIONS: &str = "\
+lui Some(Lui)
+sfence_vma Some(SfenceVma)
+illegal Some(Illegal)
+sfence None
+ram None";
+
+const REGISTERS: &str = "\
+sstatus Some(Sstatus)
+mepc Some(Lazy(Mepc))
+mhartid Some(Mhartid)
+mie None";
+
 #[test]
-fn words_name_what_they_spell(rt: HostRuntime) {
-    assert_eq!(rt; key_of(b"ram"), Some(Key::Ram));
-    assert_eq!(rt; key_of(b"m"), Some(Key::Machine));
-    assert_eq!(rt; key_of(b"s"), Some(Key::Supervisor));
-    assert_eq!(rt; key_of(b"u"), Some(Key::User));
-    assert_eq!(rt; key_of(b"shared"), Some(Key::Shared));
-    assert_eq!(rt; key_of(b"share"), None);
-    assert_eq!(rt; key_of(b""), None);
-    assert_eq!(rt; op_of(b"lui"), Some(Op::Lui));
-    assert_eq!(rt; op_of(b"sfence_vma"), Some(Op::SfenceVma));
-    assert_eq!(rt; op_of(b"illegal"), Some(Op::Illegal));
-    assert_eq!(rt; op_of(b"sfence"), None);
-    assert_eq!(rt; op_of(b"ram"), None);
-    assert_eq!(rt; csr_of(b"sstatus"), Some(Register::Sstatus));
-    assert_eq!(rt; csr_of(b"mepc"), Some(Register::Lazy(LazyRegister::Mepc)));
-    assert_eq!(rt; csr_of(b"mhartid"), Some(Register::Mhartid));
-    assert_eq!(rt; csr_of(b"mie"), None);
+fn words_name_what_they_spell(rt: HostRuntime) -> Result<(), Fail> {
+    for row in WORDS.split('\n') {
+        let (word, want) = row.split_once(' ').ok_or("a word")?;
+        let key: Option<Key> = key_of(word.as_bytes());
+        let got = format!(in rt.alloc(); "{key:?}")?;
+        assert_eq!(rt; got.as_str(), want, "at {row}");
+    }
+    Ok(())
+}
+
+#[test]
+fn words_name_operations(rt: HostRuntime) -> Result<(), Fail> {
+    for row in OPERATIONS.split('\n') {
+        let (word, want) = row.split_once(' ').ok_or("a word")?;
+        let op: Option<Op> = op_of(word.as_bytes());
+        let got = format!(in rt.alloc(); "{op:?}")?;
+        assert_eq!(rt; got.as_str(), want, "at {row}");
+    }
+    Ok(())
+}
+
+#[test]
+fn words_name_registers(rt: HostRuntime) -> Result<(), Fail> {
+    for row in REGISTERS.split('\n') {
+        let (word, want) = row.split_once(' ').ok_or("a word")?;
+        let register: Option<Register> = csr_of(word.as_bytes());
+        let got = format!(in rt.alloc(); "{register:?}")?;
+        assert_eq!(rt; got.as_str(), want, "at {row}");
+    }
+    Ok(())
+}
+
+#[test]
+fn operations_have_their_numbers(rt: HostRuntime) {
     assert_eq!(rt; op_number(b"lui"), 0);
     assert_eq!(rt; op_number(b"illegal"), 57);
     language_laws();
@@ -59,31 +102,53 @@ fn single<T: Drop>(alloc: Global, item: T) -> Result<Vec<T>, AllocError> {
     Ok(items)
 }
 
+fn repeat(alloc: Global, times: u32, item: Item) -> Result<Item, AllocError> {
+    Ok(Item::Repeat {
+        times,
+        body: single(alloc, item)?,
+    })
+}
+
+/// The length of a body of one item.
+fn length_of(alloc: Global, item: Item) -> Result<u64, AllocError> {
+    Ok(length(&single(alloc, item)?))
+}
+
+/// A choice of a sequence twice and of nothing.
+fn choice(alloc: Global) -> Result<Item, AllocError> {
+    let twice = repeat(alloc, 2, Item::Seq(single(alloc, leaf(alloc))?))?;
+    let mut ways = single(alloc, (1, single(alloc, twice)?))?;
+    ways.push((0, Vec::new(alloc)))?;
+    Ok(Item::Choose { line: 2, ways })
+}
+
 #[test]
-fn bodies_have_their_lengths(rt: HostRuntime) -> Result<(), Fail> {
+fn short_bodies_have_their_lengths(rt: HostRuntime) -> Result<(), Fail> {
     let alloc = rt.alloc();
     assert_eq!(rt; length(&[]), 0);
     assert_eq!(rt; length(&[leaf(alloc), Item::Label { name: 0 }]), 1);
-    let seq = Item::Seq(single(alloc, leaf(alloc))?);
-    let twice = Item::Repeat {
-        times: 2,
-        body: single(alloc, seq)?,
-    };
     let empty = Item::Repeat {
         times: 3,
         body: Vec::new(alloc),
     };
-    assert_eq!(rt; length(&[empty]), 3);
-    let mut ways = single(alloc, (1, single(alloc, twice)?))?;
-    ways.push((0, Vec::new(alloc)))?;
-    assert_eq!(rt; length(&[Item::Choose { line: 2, ways }, leaf(alloc)]), 4);
+    assert_eq!(rt; length_of(alloc, empty)?, 3);
+    Ok(())
+}
+
+#[test]
+fn a_choice_has_its_length(rt: HostRuntime) -> Result<(), Fail> {
+    let alloc = rt.alloc();
+    assert_eq!(rt; length(&[choice(alloc)?, leaf(alloc)]), 4);
+    Ok(())
+}
+
+#[test]
+fn the_greatest_length_is_told(rt: HostRuntime) -> Result<(), Fail> {
+    let alloc = rt.alloc();
     let mut most = leaf(alloc);
     for _ in 0..3 {
-        most = Item::Repeat {
-            times: u32::MAX,
-            body: single(alloc, most)?,
-        };
+        most = repeat(alloc, u32::MAX, most)?;
     }
-    assert_eq!(rt; length(&[most]), u64::MAX);
+    assert_eq!(rt; length_of(alloc, most)?, u64::MAX);
     Ok(())
 }

@@ -7,7 +7,6 @@ use Rattle.std.proofs.Math.Path.{fun_ext}
 use Rattle.std.proofs.lemmas.Bool.{cases_lt}
 use Rattle.rv_mem.specs.declared.words.Seen.{Seen}
 use Rattle.rv_mem.specs.declared.words.Seen.TheVariants.{Known}
-use Rattle.rv_script.specs.Memory.{memory_after}
 use Rattle.rv_csr.specs.declared.privilege.Priv.{Priv}
 use Rattle.rv_hart.specs.declared.hart.Hart.{Hart}
 use Rattle.rv_hart.specs.Fixed.{Fixed}
@@ -21,19 +20,20 @@ use Rattle.rv_hart.specs.Whole.{WholeHart}
 use Rattle.tpl_ast.specs.declared.template.Region.{Region}
 use Rattle.tpl_admit.specs.declared.certificate.Cert.{Cert}
 use Rattle.tpl_ast.specs.declared.template.HartState.{HartState}
-use Rattle.tpl_ast.specs.Laws.{IsFramed, TemplatesKeepLimits}
+use Rattle.tpl_ast.specs.Laws.{TemplatesKeepLimits}
 use Rattle.tpl_admit.specs.Starts.{found, is_in, ArePlaces, no_state, start_of, final_of, trace_of, word_of, fixed_in, first_hart, first_memory, is_given, zero_elsewhere}
-use Rattle.tpl_admit.specs.Races.{footprint_of, footprints_of}
+use Rattle.tpl_admit.specs.Races.{footprints_of}
 use Rattle.tpl_admit.specs.Solo.{Solo, solo, solo_run, knows_after}
 use Rattle.tpl_admit.specs.Validity.{in_turn}
 use Rattle.tpl_admit.specs.WellFormed.{IsState, IsWellFormed}
 use Rattle.tpl_admit.specs.Failures.{AreRight, GoesWrong, HartIsRight, HartGoesWrong, EndsAsTold, MemoryEndsAsTold}
-use Rattle.replay_check.specs.Knowledge.{known_at, known_of, knows_of, fixed_now, whole_of}
-use Rattle.replay_check.specs.Memory.{AreAligned, IsStart, ShowsOf}
+use Rattle.given_start.specs.Knowledge.{known_at, known_of, knows_of, fixed_now, whole_of}
+use Rattle.given_start.proofs.Aligned.{frames_aligned}
+use Rattle.replay_check.specs.Memory.{IsStart, ShowsOf}
 use Rattle.replay_check.specs.Replay.{TakesAll, StraysAt, EndsAs, IsFixedTold}
 use Rattle.replay_check.proofs.Keys.{found_no_key}
-use Rattle.replay_check.proofs.Lazy.{NamesCsr, has_address, address_positive, lazy_of}
-use Rattle.replay_check.proofs.Knowledge.{wholes, known_zero, known_small, known_large, known_csr}
+use Rattle.given_start.proofs.Lazy.{NamesCsr, has_address, address_positive, lazy_of}
+use Rattle.given_start.proofs.Knowledge.{wholes, known_zero, known_small, known_large, known_csr}
 use Rattle.replay_check.proofs.Shown.{each_told}
 
 -- ---- the lists of a well-formed certificate
@@ -42,13 +42,6 @@ pub states_places : (ss : List HartState) (k : ℕ) → AllByRecursion IsState s
 states_places [] k are = tt
 states_places (s ∷ ss) zero are = are.0.places
 states_places (s ∷ ss) (suc k) are = states_places ss k are.1
-
-frames_aligned : (ram : List Region) → AllByRecursion IsFramed ram → AreAligned ram
-frames_aligned [] are = tt
-frames_aligned (r ∷ rs) are =
-    let low : r.low % 4096 ≡ 0 = are.0.low in
-    let high : r.high % 4096 ≡ 0 = are.0.high in
-    ((omega (arith, low), omega (arith, high)), frames_aligned rs are.1)
 
 pub start_is : TemplatesKeepLimits → (c : Cert) → IsWellFormed c → IsStart c.template.ram c.words
 start_is sound c w = record { ram_is = frames_aligned c.template.ram (sound c.template.text c.template w.template).ram; words_are = w.words }

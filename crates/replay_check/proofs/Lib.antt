@@ -1,6 +1,4 @@
 pub mod Keys
-pub mod Lazy
-pub mod Knowledge
 pub mod Questions
 pub mod Shown
 pub mod Steps
@@ -8,4 +6,3 @@ pub mod Traces
 pub mod Ends
 pub mod Verdicts
 pub mod Behind
-mod Regions

@@ -34,10 +34,10 @@ use Rattle.tpl_ast.specs.declared.template.Region.{Region}
 use Rattle.tpl_admit.specs.Starts.{zero_elsewhere}
 use Rattle.tpl_admit.specs.Solo.{is_set}
 use Rattle.tpl_admit.specs.Failures.{AreSet}
-use Rattle.replay_check.specs.Knowledge.{known_at, known_of, knows_of, fixed_now, whole_of}
+use Rattle.given_start.specs.Knowledge.{known_at, known_of, knows_of, fixed_now, whole_of}
 use Rattle.replay_check.specs.Memory.{Shows}
 use Rattle.replay_check.specs.Replay.{IsSameRecord, Takes, Strays}
-use Rattle.replay_check.proofs.Knowledge.{wholes, known_zero, known_small, known_csr, known_between}
+use Rattle.given_start.proofs.Knowledge.{wholes, known_zero, known_small, known_csr, known_between}
 use Rattle.replay_check.proofs.Questions.{IsNamed, needs_named}
 use Rattle.replay_check.proofs.Shown.{shown_there, shown_known, shown_unknown, shown_same, shown_after}
 

@@ -1,4 +1,3 @@
-pub mod Knowledge
 pub mod Memory
 pub mod Racing
 pub mod Replay

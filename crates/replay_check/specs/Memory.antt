@@ -1,5 +1,5 @@
 -- Memory of which the words of a start are given.
-use Rattle.std.specs.Prelude.{◌≡◌, ℕ, ◌+◌, ◌*◌, ◌%◌, Bool, true, ◌&&◌, nat_le, if◌then◌else◌, All, List, [], ◌∷◌, Option, Some, None}
+use Rattle.std.specs.Prelude.{◌≡◌, ℕ, ◌+◌, ◌*◌, Bool, true, ◌&&◌, nat_le, if◌then◌else◌, All, List, [], ◌∷◌, Option, Some, None}
 use Rattle.std.specs.List.{AllByRecursion}
 use Rattle.rv_mem.specs.declared.words.Seen.{Seen}
 use Rattle.rv_mem.specs.declared.words.Seen.TheVariants.{Known, Untouched, Vacant}
@@ -8,6 +8,7 @@ use Rattle.rv_hart.specs.Effects.{IsInWord}
 use Rattle.tpl_ast.specs.declared.template.Region.{Region}
 use Rattle.tpl_admit.specs.declared.certificate.Cert.{Cert}
 use Rattle.tpl_admit.specs.Starts.{found, is_in, AreStartWords, word_of}
+use Rattle.given_start.specs.Regions.{AreAligned}
 
 -- keys from a number on, in ascending order and each once
 abbrev pub is_ascending : ℕ → List (ℕ × ℕ) → Bool
@@ -38,10 +39,6 @@ WhereShown at P = (ram : List Region) (given : ℕ → Option ℕ) (memory : ℕ
 -- this is seen of a memory with a certificate's RAM and given words
 abbrev pub ShowsOf : Cert → (ℕ → ℕ) → (ℕ → Seen) → Type 0
 ShowsOf c memory at = Shows c.template.ram (word_of c) memory at
-
--- regions of whole words
-abbrev pub AreAligned : List Region → Type 0
-AreAligned ram = AllByRecursion (λ r. (r.low % 4 ≡ 0) × (r.high % 4 ≡ 0)) ram
 
 -- aligned words in a RAM of whole words
 pub record IsStart (ram : List Region) (words : List (ℕ × ℕ)) : Type 0 where

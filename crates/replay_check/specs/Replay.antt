@@ -9,7 +9,7 @@ use Rattle.tpl_ast.specs.declared.template.HartState.{HartState}
 use Rattle.tpl_admit.specs.Starts.{start_of, trace_of, is_given}
 use Rattle.tpl_admit.specs.Solo.{solo, solo_run, knows_also, knows_after}
 use Rattle.tpl_admit.specs.Failures.{IsRight, IsWrong, AreRight, GoesWrong, EndsAsTold, MemoryEndsAsTold, AllAreRight, AllEndAsTold}
-use Rattle.replay_check.specs.Knowledge.{knows_of, whole_of}
+use Rattle.given_start.specs.Knowledge.{knows_of, whole_of}
 use Rattle.replay_check.specs.Memory.{AreInWords}
 
 -- two records are the same, field by field

@@ -16,10 +16,10 @@ ghost use Rattle.replay_check.specs.Replay.{AllEndAs, EndsAs, EndsOtherwise, IsF
 use crate::memory::{are_last, memory_of};
 use crate::places::are_told;
 use crate::racing::first_race;
-use crate::start::hart_in;
 use crate::stepping::{Wrong, take_all};
 use crate::verdict::Kind;
 use crate::{OutOfMemory, Verdict};
+use given_start::hart_in;
 use rv_hart::{Hart, Record, apply_all};
 use rv_mem::PartMem;
 use std::alloc::Global;

@@ -9,7 +9,6 @@ mod lookup;
 mod memory;
 mod places;
 mod racing;
-mod start;
 mod stepping;
 mod verdict;
 

@@ -1,33 +1,23 @@
 // The memory in which a hart runs alone.
-ghost use Rattle.std.specs.Prelude.{◌≡◌, ◌↔◌, ℕ, ◌*◌, ◌/◌, ◌%◌, ◌<◌, IsTrue, IfOk, if◌then◌else◌, length, map, slice_index, slice_index_or};
+ghost use Rattle.std.specs.Prelude.{◌≡◌, ◌↔◌, ℕ, ◌*◌, ◌/◌, ◌%◌, ◌<◌, IsTrue, IfOk, if◌then◌else◌, length, slice_index, slice_index_or};
 ghost use Rattle.rv_mem.specs.declared.words.Seen.TheVariants.{Known, Untouched, Vacant};
 ghost use Rattle.rv_mem.specs.Part.{part_at};
 ghost use Rattle.tpl_admit.specs.Starts.{is_in, zero_elsewhere};
-ghost use Rattle.replay_check.specs.Memory.{AreAligned, given_word, Shows, IsStart};
+ghost use Rattle.given_start.specs.Regions.{AreAligned};
+ghost use Rattle.replay_check.specs.Memory.{given_word, Shows, IsStart};
 
 use crate::OutOfMemory;
-use rv_mem::{PartMem, Ram, Seen, Words};
-use std::alloc::{AllocError, Global};
+use given_start::ram_of;
+use rv_mem::{PartMem, Seen, Words};
+use std::alloc::Global;
 use tpl_ast::Region;
 
-/// The ends of regions.
-fn ends_of(alloc: Global, ram: &[Region]) -> Result<Vec<(u32, u32)>, AllocError>
-    ensures { IfOk result (λ ends. ends.items ≡ map (λ r. (r.low, r.high)) ram.now) }
-{
-    let mut ends = Vec::new(alloc);
-    for region in ram {
-        ends.push((region.low, region.high))?;
-    }
-    Ok(ends)
-}
-
 /// A memory with this RAM of which no word is known.
-#[tactic(auto, using(crate::proofs::Regions::same_ram))]
 fn bare_memory(alloc: Global, ram: &[Region]) -> Result<PartMem, OutOfMemory>
     requires { AreAligned ram.now }
     ensures { IfOk result (λ m. (n : ℕ) → part_at m n ≡ (if is_in ram.now (n * 4) then Untouched else Vacant)) }
 {
-    let ram = Ram::new(ends_of(alloc, ram)?);
+    let ram = ram_of(alloc, ram)?;
     Ok(PartMem::new(alloc, &ram)?)
 }
 

@@ -4,7 +4,7 @@ ghost use Rattle.rv_csr.specs.declared.table.Register.{Register as ARegister};
 ghost use Rattle.rv_csr.specs.State.{lazy_value_at};
 ghost use Rattle.rv_csr.specs.Table.{address_of, csr_key};
 ghost use Rattle.tpl_admit.specs.Starts.{found, ArePlaces};
-ghost use Rattle.replay_check.specs.Knowledge.{known_of};
+ghost use Rattle.given_start.specs.Knowledge.{known_of};
 ghost use Rattle.replay_check.specs.Memory.{is_ascending};
 
 use crate::lookup::value_of;

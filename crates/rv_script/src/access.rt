@@ -1,5 +1,5 @@
 // What one step does to memory, access by access.
-ghost use Rattle.std.specs.Prelude.{◌≡◌, ◌<◌, [], ◌∷◌, ◌++◌, length};
+ghost use Rattle.std.specs.Prelude.{◌≡◌, ◌<◌, ◌≤◌, [], ◌∷◌, ◌++◌, length};
 
 use arrayvec::ArrayVec;
 use std::marker::Model;
@@ -59,6 +59,14 @@ impl Accesses {
         ensures { self.new ≡ self.old ++ access ∷ [] }
     {
         self.items.push(access);
+    }
+
+    /// How many there are, at most eight.
+    pub fn len(&self) -> usize
+        ensures count { result ≡ length self.now }
+        ensures room { result ≤ 8 }
+    {
+        self.items.len()
     }
 
     pub fn as_slice(&self) -> &[Access]

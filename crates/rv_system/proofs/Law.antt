@@ -18,8 +18,8 @@ use Rattle.tpl_admit.specs.Solo.{Moment, solo, solo_on, knows_also, AreInitialis
 use Rattle.tpl_admit.specs.Validity.{in_turn, IsHartValid, IsSound}
 use Rattle.tpl_ast.specs.declared.template.Region.{Region}
 use Rattle.tpl_admit.specs.Faithfulness.{IsFinished, IsFaithful}
-use Rattle.rv_system.proofs.Steps.{step_word}
-use Rattle.rv_system.proofs.Memory.{HoldsWords, has_cases, in_turn_none, in_turn_agree, in_turn_at, in_turn_apart}
+use Rattle.tpl_admit.proofs.Steps.{step_word}
+use Rattle.tpl_admit.proofs.Memory.{HoldsWords, has_cases, in_turn_none, in_turn_agree, in_turn_at, in_turn_apart}
 use Rattle.rv_system.proofs.Orders.{End, Ends, Goes, Alone, Setting, Good, Keeps, Whole, whole_run}
 
 -- what a hart does alone, as a chain

@@ -1,4 +1,2 @@
-pub mod Memory
-pub mod Steps
 pub mod Orders
 pub mod Law

@@ -22,8 +22,9 @@ use Rattle.foot_map.specs.Races.{IsRaceFree}
 use Rattle.tpl_admit.specs.Races.{footprint_of, footprints_of}
 use Rattle.tpl_admit.specs.Solo.{is_set, knows_also}
 use Rattle.tpl_admit.specs.Validity.{in_turn}
-use Rattle.rv_system.proofs.Steps.{step_local, planned_accesses, entry_access, entry_place}
-use Rattle.rv_system.proofs.Memory.{byte_of, Fits, HoldsWords, has_left, has_right, memory_after_at, memory_after_words, memory_after_append, in_turn_one, in_turn_more, file_after_same, file_after_other}
+use Rattle.tpl_admit.proofs.Systems.{at_same, at_other}
+use Rattle.tpl_admit.proofs.Steps.{step_local, planned_accesses, entry_access, entry_place}
+use Rattle.tpl_admit.proofs.Memory.{byte_of, Fits, HoldsWords, has_left, has_right, memory_after_at, memory_after_words, memory_after_append, in_turn_one, in_turn_more, file_after_same, file_after_other}
 
 -- where a hart ends
 pub record End : Type 0 where
@@ -138,13 +139,6 @@ one_step words origin first trace end now see a r rs f e sees sound =
           ∙ ap (λ (n : ℕ). byte_at b (a.memory n)) word ∙ ap (byte_at b) (sym is),
     )
     alike_at (ToMemory addr size value) v is set at = tt
-
--- at one number, or at another
-pub at_same : {X : Type 0} (k : ℕ) (x : X) (f : ℕ → X) → replaced k x f k ≡ x
-at_same k x f = rw (eq-eqb k k refl) refl
-
-pub at_other : {X : Type 0} (k : ℕ) (x : X) (f : ℕ → X) (j : ℕ) → j ≢ k → replaced k x f j ≡ f j
-at_other k x f j ne = rw (ne_eqb j k ne) refl
 
 at_each : {X Y : Type 0} (P : ℕ → X → Y → Type 0) (k : ℕ) (x : X) (y : Y) (f : ℕ → X) (g : ℕ → Y)
     → P k x y → ((j : ℕ) → j ≢ k → P j (f j) (g j)) → (j : ℕ) → P j (replaced k x f j) (replaced k y g j)

@@ -2,5 +2,8 @@ mod Drops
 pub mod Failures
 pub mod Layouts
 mod Limits
+pub mod Memory
 mod Order
 mod Said
+pub mod Steps
+pub mod Systems

@@ -1,7 +1,7 @@
-use Rattle.std.proofs.Common.{List, sym, subst}
-use Rattle.rv_mem.specs.Ram.{AreWhole}
-use Rattle.replay_check.proofs.Regions.{are_whole}
+use Rattle.std.proofs.Common.{ap, ◌∙◌, if◌then◌else◌}
+use Rattle.std.specs.Prelude.{Bool}
+use Rattle.rv_mem.specs.declared.words.Seen.TheVariants.{Untouched, Vacant}
 use Rattle.replay_check.proofs.memory.bare_memory.Goals as goal
 
-pub new-ram-requires : goal.new-ram-requires
-new-ram-requires c = subst AreWhole (sym c.in_ok-ends_of.ensures) (are_whole c.args.ram.now c.requires)
+pub returns : goal.returns
+returns c = λ n. c.in_ok-new.ensures n ∙ ap (λ (b : Bool). if b then Untouched else Vacant) (c.in_ok-ram.ensures n)

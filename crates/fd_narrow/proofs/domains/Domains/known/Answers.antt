@@ -1,6 +1,6 @@
 use Rattle.std.proofs.Common.{◌^◌, ◌<◌}
 use Rattle.fd_prob.specs.Relations.{value_of}
-use Rattle.fd_narrow.proofs.Members.{element}
+use Rattle.set_sums.proofs.Members.{element}
 use Rattle.fd_narrow.proofs.Totals.{there}
 use Rattle.fd_narrow.proofs.domains.Domains.known.Goals as goal
 

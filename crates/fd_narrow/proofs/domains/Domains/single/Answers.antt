@@ -1,7 +1,7 @@
 use Rattle.std.proofs.Common.{ℕ, List, IsTrue, sym, subst, ◌∙◌}
 use Rattle.dom_set.specs.Elements.{is_in}
 use Rattle.fd_prob.specs.Relations.{value_of}
-use Rattle.fd_narrow.proofs.Members.{only_element}
+use Rattle.set_sums.proofs.Members.{only_element}
 use Rattle.fd_narrow.proofs.domains.Domains.single.Goals as goal
 
 pub returns-then-size-eq1 : goal.returns-then-size-eq1

@@ -1,6 +1,0 @@
-use Rattle.std.proofs.Common.{take}
-use Rattle.fd_narrow.specs.Spans.{HaveHalves}
-use Rattle.fd_narrow.proofs.ranges.halved_ranges.Given as goal
-
-abbrev pub invariant-loop-range : goal.invariant-loop-range
-invariant-loop-range l = HaveHalves l.halved.items (take l.range-index l.ranges)

@@ -1,6 +1,0 @@
-use Rattle.std.proofs.Common.{take}
-use Rattle.fd_narrow.specs.Spans.{AreKept, HaveSumsWith}
-use Rattle.fd_narrow.proofs.ranges.push_sums.Given as goal
-
-abbrev pub invariant-loop-other : goal.invariant-loop-other
-invariant-loop-other l = record { sums : HaveSumsWith l.ranges.items l.first (take l.other-index l.others); kept : AreKept l.initial.ranges.items l.ranges.items }

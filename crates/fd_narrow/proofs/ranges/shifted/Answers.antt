@@ -1,5 +1,0 @@
-use Rattle.fd_narrow.proofs.Spans.{shifted_has}
-use Rattle.fd_narrow.proofs.ranges.shifted.Goals as goal
-
-pub returns : goal.returns
-returns c = shifted_has c.set_laws.ensures.pass c.set_laws.ensures.tests c.args.set.now c.in_ok-shifted.shifted c.args.distance c.in_ok-shifted.ensures

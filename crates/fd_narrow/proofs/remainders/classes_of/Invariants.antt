@@ -1,6 +1,0 @@
-use Rattle.std.proofs.Common.{take}
-use Rattle.fd_narrow.specs.Remainders.{AreClasses}
-use Rattle.fd_narrow.proofs.remainders.classes_of.Given as goal
-
-abbrev pub invariant-loop-first : goal.invariant-loop-first
-invariant-loop-first l = AreClasses l.classes.items (take l.first-index l.firsts) l.others l.times

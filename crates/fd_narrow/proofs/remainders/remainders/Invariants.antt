@@ -1,5 +1,0 @@
-use Rattle.fd_narrow.specs.Remainders.{HasRemaindersBelow}
-use Rattle.fd_narrow.proofs.remainders.remainders.Given as goal
-
-abbrev pub invariant-loop-remainder : goal.invariant-loop-remainder
-invariant-loop-remainder l = HasRemaindersBelow l.set l.remainder l.found.items

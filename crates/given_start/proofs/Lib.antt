@@ -1,0 +1,4 @@
+pub mod Given
+pub mod Lazy
+pub mod Knowledge
+pub mod Aligned

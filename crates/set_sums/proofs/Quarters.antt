@@ -1,0 +1,53 @@
+-- What sums leave when they are divided by 4.
+use Rattle.std.proofs.Common.{◌≡◌, ℕ, zero, suc, ◌+◌, ◌*◌, ◌%◌, ◌^◌, ◌<◌, ◌==◌, false, All, List, [], ◌∷◌, IsTrue, bit_and, sym, ap, ◌∙◌, subst, arith, eq-eqb}
+use Rattle.std.specs.List.{filter}
+use Rattle.std.proofs.lemmas.Nat.{and_mask}
+use Rattle.dom_set.specs.Elements.{elements_of, is_in, is_matching}
+use Rattle.dom_set.specs.Laws.{ElementsPass, IsInTests}
+use Rattle.set_sums.specs.Remainders.{AreClasses, HasClassSums, HasRemainders}
+use Rattle.set_sums.specs.Spans.{HasDifferences, HasSums}
+use Rattle.set_sums.proofs.Members.{element, is_in-elements_of, is_in-filter, joined}
+use Rattle.set_sums.proofs.Spans.{first_of_two}
+
+-- a number matches the pattern of what it leaves
+quarter : (n r : ℕ) → n % 4 ≡ r → IsTrue (bit_and n 3 == r)
+quarter n r h = eq-eqb (bit_and n 3) r (and_mask n 2 ∙ h)
+
+alone : (n r : ℕ) → n % 4 ≡ r → IsTrue (is_matching ((3, r) ∷ []) n)
+alone n r h = first_of_two (bit_and n 3 == r) false (quarter n r h)
+
+pub in_class : ElementsPass → IsInTests → (set class : List ℕ) (r v : ℕ) → class ≡ elements_of (is_matching ((3, r) ∷ [])) → All (λ x. x < 2 ^ 32) set → IsTrue (is_in set v) → v % 4 ≡ r → IsTrue (is_in class v)
+in_class pass tests set class r v is words inside left = subst (λ (d : List ℕ). IsTrue (is_in d v)) (sym is)
+    (subst IsTrue (sym (is_in-elements_of pass tests (is_matching ((3, r) ∷ [])) v (element (λ n. n < 2 ^ 32) set v words inside))) (alone v r left))
+
+-- sums of remainders leave what the sums do
+left_by : (t v w : ℕ) → t < 4 → (v % 4 + t * (w % 4)) % 4 ≡ (v + t * w) % 4
+left_by zero v w lt = omega arith
+left_by (suc zero) v w lt = omega arith
+left_by (suc (suc zero)) v w lt = omega arith
+left_by (suc (suc (suc zero))) v w lt = omega arith
+left_by (suc (suc (suc (suc n)))) v w lt = absurd (omega arith)
+
+pub by_classes : ElementsPass → IsInTests → (first second firsts others : List ℕ) (classes given : List (ℕ × ℕ)) (set : List ℕ) (times : ℕ) → times < 4 → HasRemainders first firsts → HasRemainders second others → AreClasses classes firsts others times → given ≡ classes → set ≡ elements_of (is_matching given) → HasClassSums first second times set
+by_classes pass tests first second firsts others classes given set times few one two sums same is n v w small in_first in_second leaves =
+    subst IsTrue (sym (ap (λ (d : List ℕ). is_in d n) is ∙ is_in-elements_of pass tests (is_matching given) n small ∙ ap (λ (d : List (ℕ × ℕ)). is_matching d n) same))
+    (sums n (v % 4) (w % 4) (one v in_first) (two w in_second) (leaves ∙ sym (left_by times v w few)))
+
+word : (v w : ℕ) → (v + w) % 2 ^ 32 < 2 ^ 32
+word v w = omega arith
+
+left_by_sum : (v w : ℕ) → (v + w) % 2 ^ 32 % 4 ≡ (v + 1 * w) % 4
+left_by_sum v w = omega arith
+
+left_by_part : (v w : ℕ) → v % 4 ≡ ((v + w) % 2 ^ 32 + 3 * w) % 4
+left_by_part v w = omega arith
+
+-- what is in both
+in_both : (around classes made : List ℕ) (n : ℕ) → made ≡ filter (is_in classes) around → IsTrue (is_in around n) → IsTrue (is_in classes n) → IsTrue (is_in made n)
+in_both around classes made n is h k = subst IsTrue (sym (ap (λ (d : List ℕ). is_in d n) is ∙ is_in-filter (is_in classes) around n)) (joined (is_in classes n) (is_in around n) k h)
+
+pub both_sums : (first second around classes made : List ℕ) → HasSums first second around → HasClassSums first second 1 classes → made ≡ filter (is_in classes) around → HasSums first second made
+both_sums first second around classes made sums same is v w h k = in_both around classes made ((v + w) % 2 ^ 32) is (sums v w h k) (same ((v + w) % 2 ^ 32) v w (word v w) h k (left_by_sum v w))
+
+pub both_differences : (first second around classes made : List ℕ) → HasDifferences first second around → HasClassSums first second 3 classes → made ≡ filter (is_in classes) around → HasDifferences first second made
+both_differences first second around classes made parts same is v w small h k = in_both around classes made v is (parts v w small h k) (same v ((v + w) % 2 ^ 32) w small k h (left_by_part v w))

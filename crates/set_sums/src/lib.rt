@@ -1,0 +1,10 @@
+//! Sums, differences and halves of sets of words, modulo 2^32, by ranges around their elements and by what these leave
+//! when they are divided by 4. Each holds all that is asked for, and just that where one of the sets has one element;
+//! else perhaps more. It stands on `dom_set` alone, and `fd_narrow` cuts domains by it.
+#![tactic(auto)]
+
+mod ranges;
+mod remainders;
+
+pub use dom_set::OutOfMemory;
+pub use ranges::{HALF, Span, differences, ends, halved, meet, shifted, sums, words_of};
