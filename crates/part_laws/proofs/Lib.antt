@@ -1,0 +1,4 @@
+pub mod Runs
+pub mod Late
+pub mod Advance
+pub mod Finish

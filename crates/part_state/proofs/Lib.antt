@@ -1,0 +1,15 @@
+pub mod Wholes
+pub mod Steps
+pub mod Kept
+pub mod Keys
+pub mod KnownPlaces
+pub mod Meanings
+pub mod MeaningsOfCsrs
+pub mod News
+pub mod Feet
+pub mod Clear
+pub mod Probes
+pub mod States
+pub mod Begins
+pub mod Declared
+pub mod Certificates

@@ -1,0 +1,6 @@
+pub mod Parts
+pub mod Meaning
+pub mod Probing
+pub mod State
+pub mod Beginning
+pub mod Told

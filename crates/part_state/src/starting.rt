@@ -1,0 +1,35 @@
+// The harts with which a test begins.
+ghost use Rattle.std.specs.Prelude.{◌<◌, ◌^◌, IfOk, length, map};
+ghost use Rattle.std.specs.List.{AllByRecursion};
+ghost use Rattle.tpl_admit.specs.WellFormed.{IsState};
+ghost use Rattle.part_machine.specs.Whole.{bare};
+ghost use Rattle.part_state.specs.Beginning.{AreHartsOf, IsHartOf};
+
+use crate::OutOfMemory;
+use given_start::hart_in;
+use rv_hart::Hart;
+use std::alloc::Global;
+use tpl_ast::{HartDecl, HartState};
+
+/// A hart with this number of which just a state is known.
+fn started_hart(state: &HartState, number: u32) -> Hart
+    requires { IsState state.now }
+    ensures { IsHartOf number state.now (bare result) }
+{
+    let hart = hart_in(state, number);
+    hart.csrs.legal_values();
+    hart
+}
+
+/// The harts as they are declared.
+pub fn harts_of(alloc: Global, decls: &[HartDecl]) -> Result<Vec<Hart>, OutOfMemory>
+    requires count { length decls.now < 2 ^ 32 }
+    requires states { AllByRecursion (λ d. IsState d.start) decls.now }
+    ensures { IfOk result (λ harts. AreHartsOf decls.now (map bare harts.items)) }
+{
+    let mut harts = Vec::new(alloc);
+    for (k, decl) in decls.iter().enumerate() {
+        harts.push(started_hart(&decl.start, k as u32))?;
+    }
+    Ok(harts)
+}

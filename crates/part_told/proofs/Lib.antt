@@ -1,0 +1,4 @@
+pub mod Numbers
+pub mod Smalls
+pub mod Listed
+pub mod Places
