@@ -1,6 +1,7 @@
 -- How a test begins.
 use Rattle.std.proofs.Common.{◌≡◌, ◌≢◌, ℕ, ◌+◌, ◌*◌, ◌/◌, ◌%◌, ◌<◌, ◌≤◌, Bool, true, false, eqb, List, [], ◌∷◌, length, get_or, Option, Some, None, refl, sym, ap, ◌∙◌, subst, inl, inr, arith, if◌then◌else◌}
 use Rattle.std.specs.Prelude.{replicate}
+use Rattle.std.specs.Option.{option_or}
 use Rattle.std.proofs.Math.Path.{fun_ext}
 use Rattle.std.proofs.lemmas.Bool.{cases_Bool, cases_eq, eqb-true, eq-eqb, ne_eqb}
 use Rattle.rv_mem.specs.declared.words.Seen.{Seen}
@@ -12,7 +13,8 @@ use Rattle.rv_hart.specs.declared.record.Record.{Record}
 use Rattle.tpl_ast.specs.declared.template.Region.{Region}
 use Rattle.tpl_ast.specs.declared.template.Template.{Template}
 use Rattle.tpl_admit.specs.Starts.{found, is_in, AreStartWords, fixed_in as fixed_given}
-use Rattle.part_machine.specs.Whole.{Bare, Whole, IsNew, no_hart, hart_of, word_given, fixed_in}
+use Rattle.part_machine.specs.Whole.{Bare, Whole, given, IsNew, no_hart, hart_of, word_given, fixed_in}
+use Rattle.part_machine.proofs.Given.{given_more}
 use Rattle.part_told.specs.Words.{AreListed}
 use Rattle.part_state.specs.Meaning.{value_of_key}
 use Rattle.part_state.specs.Beginning.{IsHartOf, AreHartsOf, words_given, CanGive, IsBegunFrom, IsBegun, start_in}
@@ -69,6 +71,20 @@ memory_given ram from (e ∷ es) w n are =
           rw (ne_eqb n (e.0 / 4) apart, ne_eqb e.0 (n * 4) other) refl
     ]
 
+-- the words of a start are those that it had, and these
+words_more : (ram : List (ℕ × ℕ)) (from : ℕ) (es : List (ℕ × ℕ)) (w : Whole) (n : ℕ) → AreListed ram from es → given (words_given es w).words n ≡ option_or (found es (n * 4)) (given w.words n)
+words_more ram from [] w n are = refl
+words_more ram from (e ∷ es) w n are =
+    let aligned : e.0 % 4 ≡ 0 = are.1 in
+    words_more ram (e.0 + 4) es (word_given e.0 e.1 w) n are.4 ∙ ap (option_or (found es (n * 4))) (given_more w.words (e.0 / 4) e.1 n) ∙ elim (cases_eq n (e.0 / 4)) [
+      | inl same ↦
+          let here : e.0 ≡ n * 4 = omega (arith, same, aligned) in
+          rw (eq-eqb n (e.0 / 4) same, eq-eqb e.0 (n * 4) here, found_low ram (e.0 + 4) es (n * 4) are.4 (omega (arith, here))) refl
+      | inr apart ↦
+          let other : e.0 ≢ n * 4 = λ here. apart (omega (arith, here)) in
+          rw (ne_eqb n (e.0 / 4) apart, ne_eqb e.0 (n * 4) other) refl
+    ]
+
 -- a word that is given lies in RAM
 found_there : (ram : List (ℕ × ℕ)) (from : ℕ) (es : List (ℕ × ℕ)) (n v : ℕ) → AreListed ram from es → found es (n * 4) ≡ Some v → in_ram ram n ≡ true
 found_there ram from [] n v are e = absurd (cc e)
@@ -101,6 +117,10 @@ given_seen None false inside = refl
 given_seen (Some v) true inside = refl
 given_seen (Some v) false inside = let no : false ≡ true = inside v refl in absurd (cc no)
 
+or_none : (o : Option ℕ) → option_or o None ≡ o
+or_none None = refl
+or_none (Some v) = refl
+
 is_there_given : (o : Option ℕ) (there : Bool) → is_there (if there then valued o else Vacant) ≡ there
 is_there_given None true = refl
 is_there_given None false = refl
@@ -115,6 +135,8 @@ begun t harts ends w same are words b = subst (IsBegun t) (sym b.is) (record {
   first = side.first ∙ b.new.first ∙ sym now;
   fixed = λ k l. fixed k (are.each k l);
   places = λ k key l. ap (λ (q : Bare). value_of_key q key) (at k) ∙ (are.each k l).places key;
+  ram = λ n. ap (λ (r : List (ℕ × ℕ)). in_ram r n) (side.ram ∙ b.new.ram_is) ∙ same n;
+  words = λ n. words_more ends 0 t.words b.first n are_listed ∙ ap (λ (es : List (ℕ × ℕ)). option_or (found t.words (n * 4)) (given es n)) b.new.words ∙ or_none (found t.words (n * 4));
   memory = memory;
   traces = side.traces ∙ b.new.traces ∙ ap (λ (n : ℕ). replicate n no_records) are.count;
   names = side.names ∙ b.new.names_are;

@@ -4,6 +4,7 @@ use Rattle.std.specs.Prelude.{option_map, All}
 use Rattle.std.specs.Option.{option_or}
 use Rattle.std.proofs.Math.Path.{fun_ext}
 use Rattle.std.proofs.lemmas.Bool.{cases_Bool, cases_eq, eqb-true, eq-eqb, ne_eqb, lt-ltb}
+use Rattle.std.proofs.lemmas.Option.{same_Some}
 use Rattle.std.proofs.lemmas.List.{get_or-set_same, get_or-set_other}
 use Rattle.rv_mem.specs.declared.words.Seen.{Seen}
 use Rattle.rv_mem.specs.declared.words.Seen.TheVariants.{Known as KnownWord, Untouched, Vacant}
@@ -222,8 +223,8 @@ test_register k n v w test has some small untouched =
       foot = test.foot;
     }
 
-pub test_word : (addr v : ℕ) (w : Whole) → IsTest w → addr < 2 ^ 32 → w.memory (addr / 4) ≡ Untouched → IsTest (word_given addr v w)
-test_word addr v w test address untouched = record {
+pub test_word : (addr v : ℕ) (w : Whole) → IsTest w → addr < 2 ^ 32 → v < 2 ^ 32 → w.memory (addr / 4) ≡ Untouched → IsTest (word_given addr v w)
+test_word addr v w test address fits untouched = record {
   first = test.first;
   traces = test.traces;
   fit_first = test.fit_first;
@@ -232,7 +233,9 @@ test_word addr v w test address untouched = record {
   number = test.number;
   there = λ n. word_there addr v w.memory untouched n ∙ test.there n;
   small = λ n u e. elim (cases_eq n (addr / 4)) [
-    | inl same ↦ omega (arith, same, address)
+    | inl same ↦
+        let is : Some v ≡ Some u = rw (eq-eqb n (addr / 4) same) at (sym (given_more w.words (addr / 4) v n) ∙ e) in
+        (omega (arith, same, address), subst (λ (x : ℕ). x < 2 ^ 32) (same_Some v u is) fits)
     | inr other ↦ test.small n u (rw (ne_eqb n (addr / 4) other) at (sym (given_more w.words (addr / 4) v n) ∙ e))
   ];
   test = subst IsPartialTest (sym (word_partial addr v w untouched)) (late_word (partial_of w) (addr / 4) v test.test (ap known_word untouched));

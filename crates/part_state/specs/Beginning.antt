@@ -2,11 +2,12 @@
 use Rattle.std.specs.Prelude.{◌≡◌, ℕ, ◌*◌, ◌/◌, ◌%◌, ◌<◌, if◌then◌else◌, List, [], ◌∷◌, length, map, replicate, None, slice_index_or}
 use Rattle.rv_mem.specs.declared.words.Seen.TheVariants.{Untouched, Vacant}
 use Rattle.rv_mem.specs.Part.{valued}
+use Rattle.rv_mem.specs.Ram.{in_ram}
 use Rattle.tpl_ast.specs.declared.template.HartDecl.{HartDecl}
 use Rattle.tpl_ast.specs.declared.template.HartState.{HartState}
 use Rattle.tpl_ast.specs.declared.template.Template.{Template}
 use Rattle.tpl_admit.specs.Starts.{found, is_in, fixed_in, no_state}
-use Rattle.part_machine.specs.Whole.{Bare, Whole, IsNew, no_hart, hart_of, word_given}
+use Rattle.part_machine.specs.Whole.{Bare, Whole, given, IsNew, no_hart, hart_of, word_given}
 use Rattle.part_state.specs.Meaning.{value_of_key, held_in, IsFit}
 
 -- the state in which hart k starts
@@ -51,6 +52,8 @@ pub record IsBegun (t : Template) (w : Whole) : Type 0 where
   pub first : w.first ≡ w.harts
   pub fixed : (k : ℕ) → k < length t.harts → (held_in (hart_of k w) w.memory).fixed ≡ fixed_in t.ram k (start_in t.harts k)
   pub places : (k key : ℕ) → k < length t.harts → value_of_key (hart_of k w) key ≡ found (start_in t.harts k).places key
+  pub ram : (n : ℕ) → in_ram w.ram n ≡ is_in t.ram (n * 4)
+  pub words : (n : ℕ) → given w.words n ≡ found t.words (n * 4)
   pub memory : (n : ℕ) → w.memory n ≡ (if is_in t.ram (n * 4) then valued (found t.words (n * 4)) else Vacant)
   pub traces : w.traces ≡ replicate (length t.harts) []
   pub names : w.names ≡ replicate (length t.names) None

@@ -57,7 +57,7 @@ pub record IsTest (w : Whole) : Type 0 where
   pub number_first : (k : ℕ) → k < length w.harts → (first_of k w).csrs.hart ≡ k
   pub number : (k : ℕ) → k < length w.harts → (hart_of k w).csrs.hart ≡ k
   pub there : (n : ℕ) → is_there (w.memory n) ≡ in_ram w.ram n
-  pub small : (n v : ℕ) → given w.words n ≡ Some v → n < 2 ^ 30
+  pub small : (n v : ℕ) → given w.words n ≡ Some v → (n < 2 ^ 30) × (v < 2 ^ 32)
   pub test : IsPartialTest (partial_of w)
   pub foot : IsFootOf w.feet (footprints_of (λ k. records_of k w))
 

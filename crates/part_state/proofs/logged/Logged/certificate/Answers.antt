@@ -9,7 +9,7 @@ use Rattle.part_state.proofs.Certificates.{given_inside, given_known, made_of, w
 use Rattle.part_state.proofs.logged.Logged.certificate.Goals as goal
 
 pub certificate_of-requires-clause-small : goal.certificate_of-requires-clause-small
-certificate_of-requires-clause-small c = (now_test (reverse c.args.self.now.log) (whole_of c.args.self.now.machine) c.requires.kept.tests).small
+certificate_of-requires-clause-small c = λ n v e. ((now_test (reverse c.args.self.now.log) (whole_of c.args.self.now.machine) c.requires.kept.tests).small n v e).0
 
 pub certificate_of-requires-clause-inside : goal.certificate_of-requires-clause-inside
 certificate_of-requires-clause-inside c = given_inside (whole_of c.args.self.now.machine) (now_test (reverse c.args.self.now.log) (whole_of c.args.self.now.machine) c.requires.kept.tests)

@@ -19,7 +19,7 @@ returns-in-Ok-clause-kept c =
           (word_within c.args.addr c.args.value old new c.in-Ok.ensures.given c.requires.aligned) c.requires.kept.within;
       tests = tests_on c.args.self.now.log c.push.new.self (Word c.args.addr) old new c.in_ok-push.ensures.ok
           (word_back c.args.addr c.args.value old new c.in-Ok.ensures.given c.requires.untouched)
-          (subst IsTest (sym c.in-Ok.ensures.given) (test_word c.args.addr c.args.value old (now_test (reverse c.args.self.now.log) old c.requires.kept.tests) c.ranges.addr.fits c.requires.untouched)) c.requires.kept.tests;
+          (subst IsTest (sym c.in-Ok.ensures.given) (test_word c.args.addr c.args.value old (now_test (reverse c.args.self.now.log) old c.requires.kept.tests) c.ranges.addr.fits c.ranges.value.fits c.requires.untouched)) c.requires.kept.tests;
     }
 
 pub returns-in-Ok-clause-earlier : goal.returns-in-Ok-clause-earlier
