@@ -31,7 +31,7 @@ use Rattle.tpl_admit.specs.Validity.{in_turn}
 use Rattle.tpl_admit.proofs.Steps.{planned_accesses, entry_access}
 use Rattle.tpl_admit.proofs.Memory.{byte_of, Fits, AllFit, HoldsWords, has_left, has_right, memory_after_at, memory_after_words, in_turn_one, in_turn_more}
 use Rattle.tpl_admit.proofs.Systems.{at_same, at_other}
-use Rattle.part_laws.specs.Partial.{Held, Partial, Begins, End, Runs, is_held, IsReached, IsAlone, IsPartialTest, known_by, held_after, words_after, advanced, IsNext}
+use Rattle.part_laws.specs.Partial.{Held, Partial, Begins, End, Runs, is_held, IsReached, IsAlone, IsPartialTest, known_by, held_after, words_after, with_record, advanced, IsNext}
 use Rattle.part_laws.specs.Laws.{AdvanceLaw}
 use Rattle.part_laws.proofs.Runs.{end_after, runs_more, runs_memory, or_more}
 use Rattle.part_laws.proofs.Late.{each_hart}
@@ -48,7 +48,7 @@ footprint_more (q ∷ rs) r = ap (λ (xs : List Access). q.accesses ++ xs) (foot
 abbrev pub Shows : (ℕ → Option ℕ) → (ℕ → ℕ) → Type 0
 Shows memory m = (n v : ℕ) → memory n ≡ Some v → m n ≡ v
 
-has_known : (first : WholeHart) (e : End) (now : Held) (memory : ℕ → Option ℕ) (m : ℕ → ℕ) → IsReached first e now → Shows memory m → Has now.fixed (known_by now memory) e.hart m
+pub has_known : (first : WholeHart) (e : End) (now : Held) (memory : ℕ → Option ℕ) (m : ℕ → ℕ) → IsReached first e now → Shows memory m → Has now.fixed (known_by now memory) e.hart m
 has_known first e now memory m reached shows = record { fixed = reached.fixed; values = go }
   where
     go : (place : Place) (v : ℕ) → known_by now memory place ≡ Some v → value_at e.hart.file m place ≡ v
@@ -97,7 +97,7 @@ pub record IsStepOn (h : WholeHart) (m m' : ℕ → ℕ) (s : Step) : Type 0 whe
   pub step : step_of h m' ≡ Some s
   pub needs : needed_places h m' ≡ needed_places h m
 
-step_alone : (h : WholeHart) (m m' : ℕ → ℕ) (s : Step) → step_of h m ≡ Some s → HoldsWords m → HoldsWords m' → LooksAlike s.did.accesses m m' → IsStepOn h m m' s
+pub step_alone : (h : WholeHart) (m m' : ℕ → ℕ) (s : Step) → step_of h m ≡ Some s → HoldsWords m → HoldsWords m' → LooksAlike s.did.accesses m m' → IsStepOn h m m' s
 step_alone h m m' s is small small' alike =
     let see : Sight = sight_of h.file m in
     let other : Sight = sight_of h.file m' in
@@ -123,7 +123,7 @@ step_alone h m m' s is small small' alike =
     )
     alike_at (ToMemory addr size value) v is at = tt
 
-in_turn_words : (n : ℕ) (did : ℕ → List Access) (m : ℕ → ℕ) → HoldsWords m → HoldsWords (in_turn n did m)
+pub in_turn_words : (n : ℕ) (did : ℕ → List Access) (m : ℕ → ℕ) → HoldsWords m → HoldsWords (in_turn n did m)
 in_turn_words zero did m small = small
 in_turn_words (suc n) did m small = memory_after_words (did n) (in_turn n did m) (in_turn_words n did m small)
 
@@ -168,15 +168,11 @@ reached_after first e now xs c reached =
 -- ---- the law
 
 -- what a hart has in the records after the step
-pub own_records : (p : Partial) (k : ℕ) (xs : List Access) (c : Change) → footprints_of (advanced k xs c p).records k ≡ footprints_of p.records k ++ xs
-own_records p k xs c =
-    let r : Record = record_of (p.harts k).fixed xs c in
-    ap (λ (rs : List Record). footprint_of rs) (at_same k (p.records k ++ r ∷ []) p.records) ∙ footprint_more (p.records k) r
+pub own_records : (p : Partial) (k : ℕ) (r : Record) → footprints_of (with_record k r p.records) k ≡ footprints_of p.records k ++ r.accesses
+own_records p k r = ap (λ (rs : List Record). footprint_of rs) (at_same k (p.records k ++ r ∷ []) p.records) ∙ footprint_more (p.records k) r
 
-pub other_records : (p : Partial) (k : ℕ) (xs : List Access) (c : Change) (j : ℕ) → j ≢ k → footprints_of (advanced k xs c p).records j ≡ footprints_of p.records j
-other_records p k xs c j ne =
-    let r : Record = record_of (p.harts k).fixed xs c in
-    ap (λ (rs : List Record). footprint_of rs) (at_other k (p.records k ++ r ∷ []) p.records j ne)
+pub other_records : (p : Partial) (k : ℕ) (r : Record) (j : ℕ) → j ≢ k → footprints_of (with_record k r p.records) j ≡ footprints_of p.records j
+other_records p k r j ne = ap (λ (rs : List Record). footprint_of rs) (at_other k (p.records k ++ r ∷ []) p.records j ne)
 
 -- accesses of two harts fit
 fits : (did : ℕ → List Access) → IsRaceFree did → (j k : ℕ) → j ≢ k → (x y : Access) → HasItem (did j) x → HasItem (did k) y → Fits x y
@@ -188,15 +184,16 @@ pub record IsFree (p : Partial) (k : ℕ) (xs : List Access) : Type 0 where
   pub new : (j : ℕ) → j ≢ k → AllFit (footprints_of p.records j) xs
   pub looks : (j : ℕ) → j ≢ k → (x y : Access) → HasItem (footprints_of p.records j) y → HasItem xs x → (b : ℕ) → covers x b ≡ true → covers y b ≡ true → is_look y.role ≡ true
 
-is_free : (p : Partial) (k : ℕ) (xs : List Access) (c : Change) → IsRaceFree (footprints_of (advanced k xs c p).records) → IsFree p k xs
-is_free p k xs c free =
-    let did : ℕ → List Access = footprints_of (advanced k xs c p).records in
+pub is_free : (p : Partial) (k : ℕ) (r : Record) → IsRaceFree (footprints_of (with_record k r p.records)) → IsFree p k r.accesses
+is_free p k r free =
+    let xs : List Access = r.accesses in
+    let did : ℕ → List Access = footprints_of (with_record k r p.records) in
     let mine : (x : Access) → HasItem (footprints_of p.records k) x → HasItem (did k) x =
-    λ x h. subst (λ (ys : List Access). HasItem ys x) (sym (own_records p k xs c)) (has_left (footprints_of p.records k) xs x h) in
+    λ x h. subst (λ (ys : List Access). HasItem ys x) (sym (own_records p k r)) (has_left (footprints_of p.records k) xs x h) in
     let next : (x : Access) → HasItem xs x → HasItem (did k) x =
-    λ x h. subst (λ (ys : List Access). HasItem ys x) (sym (own_records p k xs c)) (has_right (footprints_of p.records k) xs x h) in
+    λ x h. subst (λ (ys : List Access). HasItem ys x) (sym (own_records p k r)) (has_right (footprints_of p.records k) xs x h) in
     let others : (j : ℕ) → j ≢ k → (x : Access) → HasItem (footprints_of p.records j) x → HasItem (did j) x =
-    λ j ne x h. subst (λ (ys : List Access). HasItem ys x) (sym (other_records p k xs c j ne)) h in
+    λ j ne x h. subst (λ (ys : List Access). HasItem ys x) (sym (other_records p k r j ne)) h in
     record {
       old = λ j ne x y hx hy. fits did free k j (λ e. ne (sym e)) x y (mine x hx) (others j ne y hy);
       new = λ j ne x y hx hy. fits did free j k ne x y (others j ne x hx) (next y hy);
@@ -240,8 +237,8 @@ some_map f (Some v) = refl
 
 pub advance : AdvanceLaw
 advance p k xs c test l next race_free =
-    let free : IsFree p k xs = is_free p k xs c race_free in
     let r : Record = record_of (p.harts k).fixed xs c in
+    let free : IsFree p k xs = is_free p k r race_free in
     let records : List Record = p.records k ++ r ∷ [] in
     let now : Held = held_after c (p.harts k) in
     let p' : Partial = advanced k xs c p in
@@ -268,7 +265,7 @@ advance p k xs c test l next race_free =
       race_free = race_free;
       memory = λ sys begins n v e.
           let all : in_turn p.count (footprints_of p'.records) sys.memory ≡ memory_after xs (in_turn p.count (footprints_of p.records) sys.memory) =
-          in_turn_more p.count (footprints_of p.records) (footprints_of p'.records) sys.memory k xs l (own_records p k xs c) (other_records p k xs c) (λ j u ne. free.new j ne) in
+          in_turn_more p.count (footprints_of p.records) (footprints_of p'.records) sys.memory k xs l (own_records p k r) (other_records p k r) (λ j u ne. free.new j ne) in
           ap (λ (m : ℕ → ℕ). m n) all ∙ after_is xs p.memory (in_turn p.count (footprints_of p.records) sys.memory) (test.memory sys (again sys begins)) n v e;
       known = λ n. some_map (λ w. memory_after xs (λ i. w) n) (p.memory n) ∙ test.known n;
       given = each_hart k (λ j. (key : ℕ) → is_held (p.start j) key ≡ true → is_held (replaced k now p.harts j) key ≡ true)

@@ -22,7 +22,7 @@ use Rattle.part_laws.specs.Partial.{End, Runs}
 abbrev pub end_after : Step → End → End
 end_after s e = record { hart = hart_after s e.hart; memory = memory_after s.did.accesses e.memory; knows = knows_also s.writes e.knows }
 
-right_here : (words : ℕ → Option ℕ) (k k' : ℕ → Bool) (h h' : WholeHart) (m m' : ℕ → ℕ) (r : Record) (s : Step)
+pub right_here : (words : ℕ → Option ℕ) (k k' : ℕ → Bool) (h h' : WholeHart) (m m' : ℕ → ℕ) (r : Record) (s : Step)
     → k ≡ k' → h ≡ h' → m ≡ m' → IsRight words k h m r s → IsRight words k' h' m' r s
 right_here words k k' h h' m m' r s ek eh em right =
     subst (λ (q : ℕ → Bool). IsRight words q h' m' r s) ek (subst (λ (g : WholeHart). IsRight words k g m' r s) eh (subst (λ (n : ℕ → ℕ). IsRight words k h n r s) em right))

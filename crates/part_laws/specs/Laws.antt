@@ -1,15 +1,17 @@
 -- What holds of tests that are being made.
-use Rattle.std.specs.Prelude.{◌≡◌, ℕ, ◌/◌, ◌^◌, ◌<◌, List, [], length, map, Some, None}
+use Rattle.std.specs.Prelude.{◌≡◌, ℕ, ◌/◌, ◌^◌, ◌<◌, List, [], ◌∷◌, ◌++◌, length, map, Some, None}
 use Rattle.rv_script.specs.declared.access.Access.{Access}
 use Rattle.foot_map.specs.Races.{IsRaceFree}
 use Rattle.rv_hart.specs.declared.record.Change.{Change}
+use Rattle.rv_hart.specs.declared.record.Record.{Record}
+use Rattle.rv_hart.specs.Whole.{record_of}
 use Rattle.tpl_admit.specs.declared.certificate.Cert.{Cert}
 use Rattle.tpl_admit.specs.Races.{footprints_of}
 use Rattle.tpl_admit.specs.Starts.{found, ArePlaces, AreStartWords, start_of, final_of, trace_of, word_of, fixed_in}
 use Rattle.tpl_admit.specs.Validity.{IsSound}
 use Rattle.tpl_ast.specs.declared.template.HartState.{HartState}
 use Rattle.tpl_admit.specs.System.{System}
-use Rattle.part_laws.specs.Partial.{Held, Partial, Begins, IsPartialTest, place_started, word_started, IsNext, advanced}
+use Rattle.part_laws.specs.Partial.{Held, Partial, Begins, End, Runs, is_held, IsPartialTest, place_started, word_started, with_record, IsNext, advanced}
 
 -- nothing was done yet, and what is given is all that is known
 pub record IsFresh (p : Partial) : Type 0 where
@@ -31,6 +33,20 @@ LateWordLaw = (p : Partial) (n v : ℕ) → IsPartialTest p → p.memory n ≡ N
 abbrev pub AdvanceLaw : Type 0
 AdvanceLaw = (p : Partial) (k : ℕ) (xs : List Access) (c : Change) → IsPartialTest p → k < p.count → IsNext k xs c p
     → IsRaceFree (footprints_of (advanced k xs c p).records) → IsPartialTest (advanced k xs c p)
+
+-- a record that is what the next step of a hart does, told on what is known
+pub record IsTold (p : Partial) (k : ℕ) (r : Record) : Type 0 where
+  pub accesses : List Access
+  pub change : Change
+  pub next : IsNext k accesses change p
+  pub is : r ≡ record_of (p.harts k).fixed accesses change
+
+-- the other way round: where a hart alone, from a system that begins so, does its records and one more, rests in each step on what was given or
+-- written, and nothing races, the one more is what the next step does on what is known
+abbrev pub NextLaw : Type 0
+NextLaw = (p : Partial) (k : ℕ) (r : Record) (sys : System) (end : End) → IsPartialTest p → k < p.count → Begins p sys
+    → Runs p.words (is_held (p.start k)) (sys.harts k) sys.memory (p.records k ++ r ∷ []) end
+    → IsRaceFree (footprints_of (with_record k r p.records)) → IsTold p k r
 
 -- some system begins so, where the given words are words; so what is said of every such system is not empty
 abbrev pub BegunLaw : Type 0

@@ -78,7 +78,10 @@ told_record k w r did xs c next =
     did.is ∙ ap (λ (ys : List Access). record_in (hart_of k w) w.memory ys did.change) same.0 ∙ ap (λ (d : Change). record_in (hart_of k w) w.memory xs d) same.1
 
 more : (k : ℕ) (w : Whole) (xs : List Access) (c : Change) → IsMore k xs (footprints_of (λ j. records_of j w)) (footprints_of (advanced k xs c (partial_of w)).records)
-more k w xs c = record { here = own_records (partial_of w) k xs c; there = other_records (partial_of w) k xs c }
+more k w xs c =
+    let p = partial_of w in
+    let r : Record = record_of (p.harts k).fixed xs c in
+    record { here = own_records p k r; there = other_records p k r }
 
 -- the accesses of the record are those of the step
 same_accesses : (k : ℕ) (w : Whole) (r : Record) → IsDid (fixed_in (hart_of k w) w.memory) (next_of k w) r → (xs : List Access) (c : Change) → next_of k w ≡ DoesSo xs c → r.accesses ≡ xs

@@ -1,10 +1,8 @@
-//! Tests of a test that is being made and of its log, by their public calls.
+//! Tests of a test that is being made, by its public calls.
 #![tactic(auto)]
 
 #[cfg(test)]
 mod begin;
-#[cfg(test)]
-mod log_tests;
 #[cfg(test)]
 mod making;
 #[cfg(test)]

@@ -49,6 +49,13 @@ fn begun(rt: &impl Abort, alloc: Global, t: &Template) -> Part
     }
 }
 
+fn had(rt: &impl Abort, cert: Result<Cert, OutOfMemory>) -> Cert {
+    match cert {
+        Ok(cert) => cert,
+        Err(_) => panic!(rt; "memory"),
+    }
+}
+
 fn is_lazy(addr: u16) -> bool
     ensures { IsTrue result → (r : ALazyRegister) × (register_at addr ≡ Some (Lazy r)) }
 {
@@ -231,9 +238,7 @@ impl Making {
 
     /// What the certificate of the test tells.
     pub fn finish(self, rt: &impl Abort, alloc: Global) -> Told {
-        match self.certificate(alloc) {
-            Ok(cert) => told_of(rt, alloc, &cert),
-            Err(_) => panic!(rt; "memory"),
-        }
+        let cert = had(rt, self.certificate(alloc));
+        told_of(rt, alloc, &cert)
     }
 }

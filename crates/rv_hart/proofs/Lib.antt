@@ -8,3 +8,6 @@ pub mod Overlays
 pub mod Afters
 pub mod Walks
 pub mod Reaches
+pub mod Forms
+pub mod Fetched
+pub mod Asked

@@ -9,3 +9,5 @@ pub mod View
 pub mod Reaching
 pub mod Effects
 pub mod Clauses
+pub mod Rests
+pub mod Asked

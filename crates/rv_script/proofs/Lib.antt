@@ -2,3 +2,5 @@ pub mod Parts
 pub mod Wholes
 pub mod Local
 pub mod Binds
+pub mod Plays
+pub mod Results

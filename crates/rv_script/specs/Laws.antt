@@ -2,6 +2,8 @@
 use Rattle.std.specs.Prelude.{◌≡◌, ℕ, ◌^◌, ◌<◌, true, List, Option, Some}
 use Rattle.rv_script.specs.Lists.{HasItem}
 use Rattle.rv_script.specs.Bytes.{covers, byte_at}
+use Rattle.rv_script.specs.Labels.{Between}
+use Rattle.rv_script.specs.Logs.{answer_told, entry_label, labelled}
 use Rattle.rv_script.specs.Script.{Question, Question.OfRegister, Question.OfCsr, Question.OfMemory, Question.ToMemory, role_of, Script, ◌>>=◌}
 use Rattle.rv_script.specs.Folds.{Teller, Answer.Does, and_then, play, Entry, Sight, asked_of, result_of, notes_of, accesses_of, needs_of, first_missing, answer_by}
 
@@ -47,3 +49,18 @@ LocalLaw s =
 -- one script and then another answer as one answer and then another
 abbrev pub BindLaw : {L A B : Type 0} → (Question → ℕ → Option L) → Script A → (A → Script B) → Type 0
 BindLaw note s next = (tell : Teller) → play note tell (s >>= next) ≡ and_then (play note tell s) (λ a. play note tell (next a))
+
+-- every answer of the log was told
+abbrev pub ToldLaw : {A : Type 0} → Script A → Type 0
+ToldLaw {A} s = (tell : Teller) (log : List Entry) (a : A) → answer_told tell s ≡ Does log a → (e : Entry) → HasItem log e → tell e.question ≡ Some e.value
+
+-- who tells the same at the questions of the log gets the same step
+abbrev pub SamePlayLaw : {A : Type 0} → Script A → Type 0
+SamePlayLaw {A} s =
+    (tell other : Teller) (log : List Entry) (a : A) → answer_told tell s ≡ Does log a → ((e : Entry) → HasItem log e → other e.question ≡ Some e.value)
+    → answer_told other s ≡ Does log a
+
+-- a script that asks in order asks for each label once
+abbrev pub OnceLaw : {A : Type 0} → Script A → Type 0
+OnceLaw {A} s =
+    (n m : ℕ) (tell : Teller) (log : List Entry) (a : A) → Between n m s → answer_told tell s ≡ Does log a → (e : Entry) → HasItem log e → labelled log (entry_label e) ≡ Some e

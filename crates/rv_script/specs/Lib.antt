@@ -4,3 +4,5 @@ pub mod Script
 pub mod Folds
 pub mod Laws
 pub mod Memory
+pub mod Labels
+pub mod Logs

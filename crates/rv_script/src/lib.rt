@@ -9,7 +9,7 @@ mod place;
 
 pub use access::{Access, Accesses, Role};
 pub use laws::{
-    answers_are_those_of_whole_states, answers_go_on, more_knowledge_changes_nothing,
+    answers_are_those_of_whole_states, answers_go_on, more_knowledge_changes_nothing, play_laws,
     steps_are_local,
 };
 pub use place::Place;

@@ -1,2 +1,5 @@
 pub mod Ends
 pub mod Wholes
+pub mod Orders
+pub mod Plain
+pub mod Offsets

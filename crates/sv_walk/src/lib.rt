@@ -9,5 +9,7 @@ mod walking;
 
 pub use ending::{Walk, WalkEnd};
 pub use entries::Entries;
-pub use entry::{EntryFlag, Kind, View};
+pub use entry::{
+    EntryFlag, Kind, View, is_closed, is_invalid, is_pointer, is_reserved, is_unaligned,
+};
 pub use walking::walk;

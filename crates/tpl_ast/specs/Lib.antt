@@ -14,3 +14,5 @@ pub mod Depths
 pub mod Parsing
 pub mod Expansion
 pub mod Laws
+pub mod Leaves
+pub mod Choices

@@ -1,5 +1,6 @@
 use Rattle.part_laws.proofs.Finish.{finish, begun}
 use Rattle.part_laws.proofs.Advance.{advance}
+use Rattle.part_laws.proofs.Next.{next}
 use Rattle.part_laws.proofs.Late.{fresh_test, late_place, late_word}
 use Rattle.part_laws.proofs.laws.partial_test_laws.Goals as goal
 
@@ -20,3 +21,6 @@ returns-clause-finish c = finish
 
 pub returns-clause-begun : goal.returns-clause-begun
 returns-clause-begun c = begun
+
+pub returns-clause-next : goal.returns-clause-next
+returns-clause-next c = next

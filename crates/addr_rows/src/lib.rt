@@ -1,0 +1,26 @@
+//! Where addresses lead when page table entries may still be chosen: `rows` tells of a set of
+//! addresses, and of every choice of entries of given forms where none is known yet, where the
+//! translation then ends, in as few rows as the entries allow.
+#![tactic(auto)]
+
+mod alike;
+mod blocks;
+mod classes;
+mod forms;
+mod laws;
+mod making;
+mod off_diagonal;
+mod pages;
+mod ram_part;
+mod root_entries;
+mod row;
+mod scene;
+mod second_entries;
+mod splitting;
+mod target;
+
+pub use dom_set::OutOfMemory;
+pub use forms::Forms;
+pub use laws::rows_are_walks;
+pub use making::rows;
+pub use row::{Row, RowEnd};

@@ -1,0 +1,13 @@
+pub mod Pieces
+pub mod Blocks
+pub mod Weights
+pub mod Drawn
+pub mod Tries
+pub mod Kept
+pub mod Fitting
+pub mod Ways
+pub mod Results
+pub mod Items
+pub mod LeafTurns
+pub mod Lawful
+pub mod Forward

@@ -1,0 +1,70 @@
+use Rattle.std.proofs.Common.{◌≤◌, List, length, sym, subst, ◌∙◌, arith}
+use Rattle.gen_search.specs.declared.choice.Choice.{Choice}
+use Rattle.gen_search.specs.Search.{walk_from}
+use Rattle.gen_search.specs.Fit.{AreFit}
+use Rattle.gen_search.specs.Places.{AreMarked, AreOpen, laid}
+use Rattle.gen_search.specs.Wholes.{wholes}
+use Rattle.gen_search.proofs.Kept.{dead_inside, inside_marked, inside_open, marked_le, rolled_get, rolled_length, rolled_whole}
+use Rattle.gen_search.proofs.Results.{begins_again, comes_along}
+use Rattle.gen_search.proofs.searching.go_back.Goals as goal
+
+pub rollback-requires : goal.rollback-requires
+rollback-requires g c = (inside_marked c.args.walk.now.choices.items c.next_open.new.choices.items c.in-Some.choice c.args.walk.now.start _ c.in-Some.ensures.1 c.requires.marked).1
+
+pub take_way-requires-clause-choice : goal.take_way-requires-clause-choice
+take_way-requires-clause-choice g c = (inside_open c.args.walk.now.choices.items c.next_open.new.choices.items c.in-Some.choice c.in-Some.ensures.1 c.requires.choices).1
+
+pub take_way-requires-clause-stands : goal.take_way-requires-clause-stands
+take_way-requires-clause-stands g c =
+    let m = inside_marked c.args.walk.now.choices.items c.next_open.new.choices.items c.in-Some.choice c.args.walk.now.start (length (g.P.PartialTest.earlier c.args.part.now)) c.in-Some.ensures.1 c.requires.marked in
+    sym (rolled_length (g.P.PartialTest.earlier c.args.part.now) (g.P.PartialTest.whole c.args.part.now) (g.P.PartialTest.earlier c.rollback.new.self) (g.P.PartialTest.whole c.rollback.new.self) c.in-Some.choice.mark c.rollback.ensures.back m.1)
+
+pub take_way-requires-clause-others : goal.take_way-requires-clause-others
+take_way-requires-clause-others g c = (inside_open c.args.walk.now.choices.items c.next_open.new.choices.items c.in-Some.choice c.in-Some.ensures.1 c.requires.choices).0
+
+pub take_way-requires-clause-marked : goal.take_way-requires-clause-marked
+take_way-requires-clause-marked g c = (inside_marked c.args.walk.now.choices.items c.next_open.new.choices.items c.in-Some.choice c.args.walk.now.start _ c.in-Some.ensures.1 c.requires.marked).0
+
+pub rollback-requires-in-None : goal.rollback-requires-in-None
+rollback-requires-in-None g c = marked_le c.args.walk.now.start c.args.walk.now.choices.items (length (g.P.PartialTest.earlier c.args.part.now)) c.requires.marked
+
+pub returns-in_ok-take_way-in-Some-clause-same : goal.returns-in_ok-take_way-in-Some-clause-same
+returns-in_ok-take_way-in-Some-clause-same g c = λ turns first r is comes.
+    comes_along _ (walk_from g.P.PartialTest.rules turns c.args.walk.now.harts.now first) r _ _
+    (c.in_ok-take_way-in-Some.ensures.same turns
+    ∙ dead_inside _ g.P.PartialTest.rules turns (g.P.PartialTest.earlier c.args.part.now) (g.P.PartialTest.whole c.args.part.now) (g.P.PartialTest.earlier c.rollback.new.self) (g.P.PartialTest.whole c.rollback.new.self)
+    c.args.walk.now.choices.items c.next_open.new.choices.items c.in-Some.choice c.args.walk.now.start c.args.walk.now.tally c.in-Some.ensures.1 c.requires.choices c.requires.marked c.rollback.ensures.back)
+    comes
+
+pub returns-in_ok-take_way-in-Some-clause-first : goal.returns-in_ok-take_way-in-Some-clause-first
+returns-in_ok-take_way-in-Some-clause-first g c =
+    let m = inside_marked c.args.walk.now.choices.items c.next_open.new.choices.items c.in-Some.choice c.args.walk.now.start (length (g.P.PartialTest.earlier c.args.part.now)) c.in-Some.ensures.1 c.requires.marked in
+    c.in_ok-take_way-in-Some.ensures.first
+    ∙ rolled_get (g.P.PartialTest.earlier c.args.part.now) (g.P.PartialTest.whole c.args.part.now) (g.P.PartialTest.earlier c.rollback.new.self) (g.P.PartialTest.whole c.rollback.new.self) c.in-Some.choice.mark c.args.walk.now.start c.rollback.ensures.back
+    (marked_le c.args.walk.now.start c.next_open.new.choices.items c.in-Some.choice.mark m.0)
+
+pub returns-in_ok-walk-in-None-clause-same : goal.returns-in_ok-walk-in-None-clause-same
+returns-in_ok-walk-in-None-clause-same g c = λ turns first r is comes.
+    let le = marked_le c.args.walk.now.start c.args.walk.now.choices.items (length (g.P.PartialTest.earlier c.args.part.now)) c.requires.marked in
+    let stood = rolled_whole (g.P.PartialTest.earlier c.args.part.now) (g.P.PartialTest.whole c.args.part.now) (g.P.PartialTest.earlier c.rollback-in-None.new.self) (g.P.PartialTest.whole c.rollback-in-None.new.self) c.args.walk.now.start c.rollback-in-None.ensures.back le in
+    begins_again _ g.P.PartialTest.rules turns c.args.walk.now.harts.now first (g.P.PartialTest.whole c.rollback-in-None.new.self)
+    (wholes (g.P.PartialTest.earlier c.args.part.now) (g.P.PartialTest.whole c.args.part.now)) (wholes (g.P.PartialTest.earlier c.rollback-in-None.new.self) (g.P.PartialTest.whole c.rollback-in-None.new.self))
+    c.args.walk.now.choices.items c.next_open.new.choices.items c.args.walk.now.start c.args.walk.now.tally (laid c.in_ok-walk-in-None.field-0) r
+    c.requires.choices c.in-None.ensures.0 c.in-None.ensures.1 c.in_ok-walk-in-None.ensures.laid is stood comes
+
+pub returns-in_ok-walk-in-None-clause-well : goal.returns-in_ok-walk-in-None-clause-well
+returns-in_ok-walk-in-None-clause-well g c =
+    let le = marked_le c.args.walk.now.start c.args.walk.now.choices.items (length (g.P.PartialTest.earlier c.args.part.now)) c.requires.marked in
+    let long = rolled_length (g.P.PartialTest.earlier c.args.part.now) (g.P.PartialTest.whole c.args.part.now) (g.P.PartialTest.earlier c.rollback-in-None.new.self) (g.P.PartialTest.whole c.rollback-in-None.new.self) c.args.walk.now.start c.rollback-in-None.ensures.back le in
+    let up : c.args.walk.now.start ≤ length (g.P.PartialTest.earlier c.rollback-in-None.new.self) = omega (arith, long) in
+    record {
+      fit = subst AreFit (sym c.in_ok-walk-in-None.ensures.laid) c.requires.harts;
+      counted = c.in_ok-walk-in-None.ensures.counted;
+      choices = subst AreOpen (sym c.in-None.ensures.1) tt;
+      marked = subst (λ (cs : List Choice). AreMarked c.args.walk.now.start cs (length (g.P.PartialTest.earlier c.rollback-in-None.new.self))) (sym c.in-None.ensures.1) up;
+    }
+
+pub returns-in_ok-walk-in-None-clause-first : goal.returns-in_ok-walk-in-None-clause-first
+returns-in_ok-walk-in-None-clause-first g c =
+    let same : c.args.walk.now.start ≤ c.args.walk.now.start = omega arith in
+    rolled_get (g.P.PartialTest.earlier c.args.part.now) (g.P.PartialTest.whole c.args.part.now) (g.P.PartialTest.earlier c.rollback-in-None.new.self) (g.P.PartialTest.whole c.rollback-in-None.new.self) c.args.walk.now.start c.args.walk.now.start c.rollback-in-None.ensures.back same

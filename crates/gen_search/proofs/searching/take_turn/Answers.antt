@@ -1,0 +1,81 @@
+use Rattle.std.proofs.Common.{◌+◌, ◌≤◌, length, sym, ap, ◌∙◌, arith}
+use Rattle.gen_search.specs.Search.{Dead, Outcome, rest_of, walk_from}
+use Rattle.gen_search.specs.Places.{laid, unwound}
+use Rattle.gen_search.specs.Wholes.{wholes}
+use Rattle.gen_search.proofs.Kept.{get_kept, kept_longer, marked_le, marked_up, unwound_kept, wholes_length}
+use Rattle.gen_search.proofs.LeafTurns.{turn_none, turn_spent, turn_taken}
+use Rattle.gen_search.proofs.Results.{comes_along}
+use Rattle.gen_search.proofs.searching.take_turn.Goals as goal
+
+pub go_back-requires-clause-marked : goal.go_back-requires-clause-marked
+go_back-requires-clause-marked g c =
+    let more = kept_longer (g.P.PartialTest.earlier c.args.part.now) (g.P.PartialTest.whole c.args.part.now) (g.P.PartialTest.earlier c.turn.new.self) (g.P.PartialTest.whole c.turn.new.self) c.in_ok-turn.ensures.kept in
+    marked_up c.args.walk.now.start c.args.walk.now.choices.items (length (g.P.PartialTest.earlier c.args.part.now)) (length (g.P.PartialTest.earlier c.turn.new.self)) c.requires.well.marked more
+
+pub go_back-requires-in-Spent-clause-marked : goal.go_back-requires-in-Spent-clause-marked
+go_back-requires-in-Spent-clause-marked g c =
+    let more = kept_longer (g.P.PartialTest.earlier c.args.part.now) (g.P.PartialTest.whole c.args.part.now) (g.P.PartialTest.earlier c.turn.new.self) (g.P.PartialTest.whole c.turn.new.self) c.in_ok-turn.ensures.kept in
+    marked_up c.args.walk.now.start c.args.walk.now.choices.items (length (g.P.PartialTest.earlier c.args.part.now)) (length (g.P.PartialTest.earlier c.turn.new.self)) c.requires.well.marked more
+
+pub returns-in-Taken-clause-well : goal.returns-in-Taken-clause-well
+returns-in-Taken-clause-well g c =
+    let more = kept_longer (g.P.PartialTest.earlier c.args.part.now) (g.P.PartialTest.whole c.args.part.now) (g.P.PartialTest.earlier c.turn.new.self) (g.P.PartialTest.whole c.turn.new.self) c.in_ok-turn.ensures.kept in
+    record {
+      fit = c.requires.well.fit;
+      counted = c.requires.well.counted;
+      choices = c.requires.well.choices;
+      marked = marked_up c.args.walk.now.start c.args.walk.now.choices.items (length (g.P.PartialTest.earlier c.args.part.now)) (length (g.P.PartialTest.earlier c.turn.new.self)) c.requires.well.marked more;
+    }
+
+pub returns-in-Taken-clause-first : goal.returns-in-Taken-clause-first
+returns-in-Taken-clause-first g c =
+    let low : c.args.walk.now.start ≤ length (g.P.PartialTest.earlier c.args.part.now) = marked_le c.args.walk.now.start c.args.walk.now.choices.items (length (g.P.PartialTest.earlier c.args.part.now)) c.requires.well.marked in
+    let long = wholes_length (g.P.PartialTest.earlier c.args.part.now) (g.P.PartialTest.whole c.args.part.now) in
+    get_kept (wholes (g.P.PartialTest.earlier c.args.part.now) (g.P.PartialTest.whole c.args.part.now)) (wholes (g.P.PartialTest.earlier c.turn.new.self) (g.P.PartialTest.whole c.turn.new.self)) c.args.walk.now.start c.in_ok-turn.ensures.kept (omega (arith, low, long))
+
+pub returns-in-Taken-clause-same : goal.returns-in-Taken-clause-same
+returns-in-Taken-clause-same g c = λ turns first r lt is comes.
+    let low : c.args.walk.now.start ≤ length (g.P.PartialTest.earlier c.args.part.now) = marked_le c.args.walk.now.start c.args.walk.now.choices.items (length (g.P.PartialTest.earlier c.args.part.now)) c.requires.well.marked in
+    let long = wholes_length (g.P.PartialTest.earlier c.args.part.now) (g.P.PartialTest.whole c.args.part.now) in
+    let answer = rw c.in-Taken.is at c.in_ok-turn.ensures.answer in
+    let o : Outcome _ = rest_of g.P.PartialTest.rules turns (laid c.args.walk.now.place) (g.P.PartialTest.whole c.turn.new.self) (record c.args.walk.now.tally { draws = c.leaf_draws-draws.new.draws; turns = c.args.walk.now.tally.turns + 1 }) in
+    comes_along _ (walk_from g.P.PartialTest.rules turns c.args.walk.now.harts.now first) r _ _
+    (unwound_kept _ g.P.PartialTest.rules turns (wholes (g.P.PartialTest.earlier c.args.part.now) (g.P.PartialTest.whole c.args.part.now)) (wholes (g.P.PartialTest.earlier c.turn.new.self) (g.P.PartialTest.whole c.turn.new.self)) c.args.walk.now.start c.args.walk.now.choices.items (length (g.P.PartialTest.earlier c.args.part.now)) o c.in_ok-turn.ensures.kept (omega (arith, long)) c.requires.well.marked
+    ∙ ap (unwound g.P.PartialTest.rules turns (wholes (g.P.PartialTest.earlier c.args.part.now) (g.P.PartialTest.whole c.args.part.now)) c.args.walk.now.choices.items) (sym (turn_taken _ g.P.PartialTest.rules turns c.args.walk.now.place.hart c.args.leaf.item.now c.args.leaf.line (rest_of g.P.PartialTest.rules turns (laid c.args.walk.now.place)) (g.P.PartialTest.whole c.args.part.now) (g.P.PartialTest.whole c.turn.new.self) c.args.walk.now.tally c.leaf_draws-draws.result c.leaf_draws-draws.new.draws lt c.leaf_draws-draws.ensures.words c.leaf_draws-draws.ensures.left answer)))
+    comes
+
+pub returns-in_ok-go_back-in-NoneFits-clause-same : goal.returns-in_ok-go_back-in-NoneFits-clause-same
+returns-in_ok-go_back-in-NoneFits-clause-same g c = λ turns first r lt is comes.
+    let low : c.args.walk.now.start ≤ length (g.P.PartialTest.earlier c.args.part.now) = marked_le c.args.walk.now.start c.args.walk.now.choices.items (length (g.P.PartialTest.earlier c.args.part.now)) c.requires.well.marked in
+    let long = wholes_length (g.P.PartialTest.earlier c.args.part.now) (g.P.PartialTest.whole c.args.part.now) in
+    let answer = rw c.in-NoneFits.is at c.in_ok-turn.ensures.answer in
+    let o : Outcome _ = Dead (record c.args.walk.now.tally { draws = c.leaf_draws-draws.new.draws; turns = c.args.walk.now.tally.turns + 1; none_fits = c.args.walk.now.tally.none_fits + 1; last_line = c.args.leaf.line }) in
+    let stood = get_kept (wholes (g.P.PartialTest.earlier c.args.part.now) (g.P.PartialTest.whole c.args.part.now)) (wholes (g.P.PartialTest.earlier c.turn.new.self) (g.P.PartialTest.whole c.turn.new.self)) c.args.walk.now.start c.in_ok-turn.ensures.kept (omega (arith, low, long)) ∙ is in
+    comes_along _ (walk_from g.P.PartialTest.rules turns c.args.walk.now.harts.now first) r _ _
+    (unwound_kept _ g.P.PartialTest.rules turns (wholes (g.P.PartialTest.earlier c.args.part.now) (g.P.PartialTest.whole c.args.part.now)) (wholes (g.P.PartialTest.earlier c.turn.new.self) (g.P.PartialTest.whole c.turn.new.self)) c.args.walk.now.start c.args.walk.now.choices.items (length (g.P.PartialTest.earlier c.args.part.now)) o c.in_ok-turn.ensures.kept (omega (arith, long)) c.requires.well.marked
+    ∙ ap (unwound g.P.PartialTest.rules turns (wholes (g.P.PartialTest.earlier c.args.part.now) (g.P.PartialTest.whole c.args.part.now)) c.args.walk.now.choices.items) (sym (turn_none _ g.P.PartialTest.rules turns c.args.walk.now.place.hart c.args.leaf.item.now c.args.leaf.line (rest_of g.P.PartialTest.rules turns (laid c.args.walk.now.place)) (g.P.PartialTest.whole c.args.part.now) c.args.walk.now.tally c.leaf_draws-draws.result c.leaf_draws-draws.new.draws lt c.leaf_draws-draws.ensures.words c.leaf_draws-draws.ensures.left answer)))
+    (c.in_ok-go_back-in-NoneFits.ensures.same turns first r stood comes)
+
+pub returns-in_ok-go_back-in-NoneFits-clause-first : goal.returns-in_ok-go_back-in-NoneFits-clause-first
+returns-in_ok-go_back-in-NoneFits-clause-first g c =
+    let low : c.args.walk.now.start ≤ length (g.P.PartialTest.earlier c.args.part.now) = marked_le c.args.walk.now.start c.args.walk.now.choices.items (length (g.P.PartialTest.earlier c.args.part.now)) c.requires.well.marked in
+    let long = wholes_length (g.P.PartialTest.earlier c.args.part.now) (g.P.PartialTest.whole c.args.part.now) in
+    c.in_ok-go_back-in-NoneFits.ensures.first ∙ get_kept (wholes (g.P.PartialTest.earlier c.args.part.now) (g.P.PartialTest.whole c.args.part.now)) (wholes (g.P.PartialTest.earlier c.turn.new.self) (g.P.PartialTest.whole c.turn.new.self)) c.args.walk.now.start c.in_ok-turn.ensures.kept (omega (arith, low, long))
+
+pub returns-in_ok-go_back-in-Spent-clause-same : goal.returns-in_ok-go_back-in-Spent-clause-same
+returns-in_ok-go_back-in-Spent-clause-same g c = λ turns first r lt is comes.
+    let low : c.args.walk.now.start ≤ length (g.P.PartialTest.earlier c.args.part.now) = marked_le c.args.walk.now.start c.args.walk.now.choices.items (length (g.P.PartialTest.earlier c.args.part.now)) c.requires.well.marked in
+    let long = wholes_length (g.P.PartialTest.earlier c.args.part.now) (g.P.PartialTest.whole c.args.part.now) in
+    let answer = rw c.in-Spent.is at c.in_ok-turn.ensures.answer in
+    let o : Outcome _ = Dead (record c.args.walk.now.tally { draws = c.leaf_draws-draws.new.draws; turns = c.args.walk.now.tally.turns + 1; spent = c.args.walk.now.tally.spent + 1; last_line = c.args.leaf.line }) in
+    let stood = get_kept (wholes (g.P.PartialTest.earlier c.args.part.now) (g.P.PartialTest.whole c.args.part.now)) (wholes (g.P.PartialTest.earlier c.turn.new.self) (g.P.PartialTest.whole c.turn.new.self)) c.args.walk.now.start c.in_ok-turn.ensures.kept (omega (arith, low, long)) ∙ is in
+    comes_along _ (walk_from g.P.PartialTest.rules turns c.args.walk.now.harts.now first) r _ _
+    (unwound_kept _ g.P.PartialTest.rules turns (wholes (g.P.PartialTest.earlier c.args.part.now) (g.P.PartialTest.whole c.args.part.now)) (wholes (g.P.PartialTest.earlier c.turn.new.self) (g.P.PartialTest.whole c.turn.new.self)) c.args.walk.now.start c.args.walk.now.choices.items (length (g.P.PartialTest.earlier c.args.part.now)) o c.in_ok-turn.ensures.kept (omega (arith, long)) c.requires.well.marked
+    ∙ ap (unwound g.P.PartialTest.rules turns (wholes (g.P.PartialTest.earlier c.args.part.now) (g.P.PartialTest.whole c.args.part.now)) c.args.walk.now.choices.items) (sym (turn_spent _ g.P.PartialTest.rules turns c.args.walk.now.place.hart c.args.leaf.item.now c.args.leaf.line (rest_of g.P.PartialTest.rules turns (laid c.args.walk.now.place)) (g.P.PartialTest.whole c.args.part.now) c.args.walk.now.tally c.leaf_draws-draws.result c.leaf_draws-draws.new.draws lt c.leaf_draws-draws.ensures.words c.leaf_draws-draws.ensures.left answer)))
+    (c.in_ok-go_back-in-Spent.ensures.same turns first r stood comes)
+
+pub returns-in_ok-go_back-in-Spent-clause-first : goal.returns-in_ok-go_back-in-Spent-clause-first
+returns-in_ok-go_back-in-Spent-clause-first g c =
+    let low : c.args.walk.now.start ≤ length (g.P.PartialTest.earlier c.args.part.now) = marked_le c.args.walk.now.start c.args.walk.now.choices.items (length (g.P.PartialTest.earlier c.args.part.now)) c.requires.well.marked in
+    let long = wholes_length (g.P.PartialTest.earlier c.args.part.now) (g.P.PartialTest.whole c.args.part.now) in
+    c.in_ok-go_back-in-Spent.ensures.first ∙ get_kept (wholes (g.P.PartialTest.earlier c.args.part.now) (g.P.PartialTest.whole c.args.part.now)) (wholes (g.P.PartialTest.earlier c.turn.new.self) (g.P.PartialTest.whole c.turn.new.self)) c.args.walk.now.start c.in_ok-turn.ensures.kept (omega (arith, low, long))

@@ -1,0 +1,10 @@
+pub mod Draws
+pub mod Search
+pub mod Wholes
+pub mod Fit
+pub mod Steps
+pub mod Places
+pub mod Walks
+pub mod Answers
+pub mod Tries
+pub mod Laws

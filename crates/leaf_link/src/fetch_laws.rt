@@ -1,0 +1,44 @@
+// The laws of the problems of fetches, of `do` and of `fault` leaves.
+ghost use Rattle.leaf_link.specs.FaultRows.{FaultProblemsAreExact};
+ghost use Rattle.leaf_link.specs.Faults.{FaultsAreExact};
+ghost use Rattle.leaf_link.specs.FetchAnswers.{FaultAnswersAreExact, FetchAnswersAreExact, FetchFirstsExist};
+ghost use Rattle.leaf_link.specs.FetchRows.{FetchProblemsAreExact};
+ghost use Rattle.leaf_link.specs.Fetches.{FetchesAreExact};
+
+/// Does nothing. Its contract says that the new page table entries with which the translation of a leaf's fetch does
+/// what is asked stand one to one for the fetch candidates.
+pub fn fetches_are_exact()
+    ensures { FetchesAreExact }
+{}
+
+/// Does nothing. Its contract says that what fits the fetch problem of a `do` leaf stands one to one for the fetch
+/// candidates, where the rows of the translation of the pc are what its new entries do.
+pub fn fetch_problems_are_exact()
+    ensures { FetchProblemsAreExact }
+{}
+
+/// Does nothing. Its contract says that the new page table entries and the vector with which the fetch of a `fault` leaf
+/// fails with a listed cause stand one to one for its candidates.
+pub fn faults_are_exact()
+    ensures { FaultsAreExact }
+{}
+
+/// Does nothing. Its contract says that what fits the problem of a `fault` leaf stands one to one for its candidates,
+/// where the rows of the translation of the pc are what its new entries do.
+pub fn fault_problems_are_exact()
+    ensures { FaultProblemsAreExact }
+{}
+
+/// Does nothing. Its contract says that an answer of the problem of a fetch is the answer of the turn: whether the
+/// budget is spent is decided by the space of the fetch, and what is found is the first candidate in the order of the
+/// turn's draws.
+pub fn fetch_answers_are_exact()
+    ensures fetches { FetchAnswersAreExact }
+    ensures faults { FaultAnswersAreExact }
+{}
+
+/// Does nothing. Its contract says that every problem of a fetch can be given a first case that has the turn's domains
+/// and holds nothing.
+pub fn fetch_firsts_exist()
+    ensures { FetchFirstsExist }
+{}

@@ -1,0 +1,54 @@
+// The laws of a leaf's problem as a whole.
+ghost use Rattle.leaf_link.specs.AllWays.{LeafAnswersAreExact, LeafProblemsAreExact};
+ghost use Rattle.leaf_link.specs.Domains.{CandidatesAreInDomains};
+ghost use Rattle.leaf_link.specs.Firsts.{FirstsExist, FirstsHoldNothing, PivotsAreExact, SpaceIsExact, TurnAnswersAreExact};
+ghost use Rattle.leaf_link.specs.Problems.{AnswersAreExact, ProblemIsExact};
+ghost use Rattle.leaf_link.specs.Started.{OrderIsKept};
+
+/// Does nothing. Its contract says that what fits the problem of a leaf stands one to one for the candidates, and
+/// that an answer of the problem is the answer over candidates: that the budget is spent, the least candidate, or
+/// that there is none.
+pub fn problems_are_exact()
+    ensures problem { ProblemIsExact }
+    ensures answers { AnswersAreExact }
+{}
+
+/// Does nothing. Its contract says that the problem of a leaf, over all operations, is exact: what fits it stands
+/// one to one for the candidates, and its answer is the answer over candidates. Of page tables it takes that the
+/// rows are those of the translation.
+pub fn leaf_problems_are_exact()
+    ensures problems { LeafProblemsAreExact }
+    ensures answers { LeafAnswersAreExact }
+{}
+
+/// Does nothing. Its contract says that a problem whose first cases are those of the turn has the turn's space and
+/// pivots.
+pub fn spaces_are_exact()
+    ensures space { SpaceIsExact }
+    ensures pivots { PivotsAreExact }
+{}
+
+/// Does nothing. Its contract says that every problem can be given first cases that are the turn's and hold nothing.
+pub fn firsts_exist()
+    ensures { FirstsExist }
+{}
+
+/// Does nothing. Its contract says that a leaf's answer is that of its turn, with no problem in it: whether the budget
+/// is spent is decided by the turn's space, and what is found is the first candidate in the order of the turn's
+/// pivots. Cases that are there for their domains alone change nothing of what fits.
+pub fn turn_answers_are_exact()
+    ensures firsts { FirstsHoldNothing }
+    ensures answers { TurnAnswersAreExact }
+{}
+
+/// Does nothing. Its contract says that the order of candidates is the same whether a known old CSR value stands in
+/// their values or 0.
+pub fn order_is_kept()
+    ensures { OrderIsKept }
+{}
+
+/// Does nothing. Its contract says that each variable that a candidate's step uses has a value in its domain: the default
+/// one, cut by the atoms.
+pub fn candidates_are_in_domains()
+    ensures { CandidatesAreInDomains }
+{}
