@@ -16,6 +16,8 @@ pub mod OnePage
 pub mod Settings
 pub mod Playing
 pub mod Walking
+pub mod News
+pub mod Leaving
 pub mod AreRows
 pub mod WordForms
 pub mod Rules

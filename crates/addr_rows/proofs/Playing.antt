@@ -15,7 +15,7 @@ use Rattle.sv_walk.specs.Translation.{Reached, Fails, arrived, translated, from_
 use Rattle.addr_rows.specs.Classes.{seen_at}
 use Rattle.addr_rows.specs.Combinations.{Setting}
 use Rattle.rv_script.specs.Logs.{answer_told, or_given, value_or, by_answers}
-use Rattle.addr_rows.specs.Walks.{Shows, seen_by, entry_answers}
+use Rattle.addr_rows.specs.Walks.{Shows, seen_by, entry_answers, root_place}
 
 abbrev pub entry : Question → ℕ → Entry
 entry q v = record { question = q; value = v }
@@ -86,9 +86,6 @@ root_question st x = OfMemory (root_label st.kind) (root_address st.view x) 4
 
 abbrev pub second_question : Setting → ℕ → ℕ → Question
 second_question st x entry = OfMemory (second_label st.kind) (second_address x entry) 4
-
-abbrev pub root_place : Setting → ℕ → Place
-root_place st x = Word (word_address (root_address st.view x))
 
 abbrev pub second_place : ℕ → ℕ → Place
 second_place x entry = Word (word_address (second_address x entry))

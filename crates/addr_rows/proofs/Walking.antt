@@ -18,8 +18,8 @@ use Rattle.addr_rows.specs.Rows.{End, Reaches, Leaves, when, found}
 use Rattle.addr_rows.specs.Combinations.{Setting, is_table, is_own_entry, are_indices_equal, root_frame, no, second_reaches, at_second, pointed, rooted, at_root, ways}
 use Rattle.rv_script.specs.Labels.{label_number}
 use Rattle.rv_script.specs.Logs.{is_word, answer_told, by_answers, entry_place, entry_label, labelled, value_or, new_value, if_new}
-use Rattle.addr_rows.specs.Walks.{in_frames, entry_answers, may_be_root, may_be_second, LetsEntries, AreWordForms, seen_by, Shows, Walks, value_of}
-use Rattle.addr_rows.proofs.Playing.{entry, root_question, second_question, root_place, second_place, access_fails, second_done, pointer_played, rooted_played, root_played, all_played, all_plays, seen_is}
+use Rattle.addr_rows.specs.Walks.{in_frames, entry_answers, may_be_root, may_be_second, LetsEntries, AreWordForms, seen_by, Shows, Walks, value_of, root_place}
+use Rattle.addr_rows.proofs.Playing.{entry, root_question, second_question, second_place, access_fails, second_done, pointer_played, rooted_played, root_played, all_played, all_plays, seen_is}
 
 -- LABELS
 
@@ -76,13 +76,13 @@ new_small known (Some e) h = go (known (entry_place e)) (h e refl)
     go (Some w) g = omega arith
     go None g = g refl
 
-root_labelled : (st : Setting) (x v : ℕ) (rest : List Entry) → labelled (entry (root_question st x) v ∷ rest) (root_label st.kind) ≡ Some (entry (root_question st x) v)
+pub root_labelled : (st : Setting) (x v : ℕ) (rest : List Entry) → labelled (entry (root_question st x) v ∷ rest) (root_label st.kind) ≡ Some (entry (root_question st x) v)
 root_labelled st x v rest = ap (λ (b : Bool). if b then Some (entry (root_question st x) v) else labelled rest (root_label st.kind)) (root_self st.kind)
 
-root_skipped : (st : Setting) (x v : ℕ) (rest : List Entry) → labelled (entry (root_question st x) v ∷ rest) (second_label st.kind) ≡ labelled rest (second_label st.kind)
+pub root_skipped : (st : Setting) (x v : ℕ) (rest : List Entry) → labelled (entry (root_question st x) v ∷ rest) (second_label st.kind) ≡ labelled rest (second_label st.kind)
 root_skipped st x v rest = ap (λ (b : Bool). if b then Some (entry (root_question st x) v) else labelled rest (second_label st.kind)) (labels_apart st.kind)
 
-second_labelled : (st : Setting) (x w v : ℕ) → labelled (entry (second_question st x w) v ∷ []) (second_label st.kind) ≡ Some (entry (second_question st x w) v)
+pub second_labelled : (st : Setting) (x w v : ℕ) → labelled (entry (second_question st x w) v ∷ []) (second_label st.kind) ≡ Some (entry (second_question st x w) v)
 second_labelled st x w v = ap (λ (b : Bool). if b then Some (entry (second_question st x w) v) else None) (second_self st.kind)
 
 -- FRAMES AND PLACES
@@ -102,13 +102,13 @@ any_turned : (ts : List ℕ) (f : ℕ) → list_any (λ t. nat_eq f (t / 4096)) 
 any_turned [] f = refl
 any_turned (t ∷ ts) f = ap (λ (b : Bool). b || list_any (λ u. nat_eq f (u / 4096)) ts) (eq_turned f (t / 4096)) ∙ ap (λ (b : Bool). (t / 4096 == f) || b) (any_turned ts f)
 
-frames_are : (ts : List ℕ) (f j : ℕ) → j < 1024 → in_frames ts (word_address (f * 4096 + j * 4)) ≡ is_table ts f
+pub frames_are : (ts : List ℕ) (f j : ℕ) → j < 1024 → in_frames ts (word_address (f * 4096 + j * 4)) ≡ is_table ts f
 frames_are ts f j small = ap (λ (n : ℕ). list_any (λ t. nat_eq n (t / 4096)) ts) (frame_is f j small) ∙ any_turned ts f
 
 index_small : (x : ℕ) → x / 2 ^ 12 % 2 ^ 10 < 1024
 index_small x = omega arith
 
-top_small : (x : ℕ) → x < 2 ^ 32 → x / 2 ^ 22 < 1024
+pub top_small : (x : ℕ) → x < 2 ^ 32 → x / 2 ^ 22 < 1024
 top_small x small = omega (arith, small)
 
 index_is : (f g i j : ℕ) → i < 1024 → j < 1024 → word_address (f * 4096 + i * 4) ≡ word_address (g * 4096 + j * 4) → (f ≡ g) × (j ≡ i)
@@ -230,18 +230,15 @@ rooted_to at st known may x own w second rest end shows lets plays given mays ap
     go false false c true h = none pf h
     go false false c false h = none there h
 
-after_done : (e : Entry) (r : Answer Entry Reached) (log : List Entry) (a : Reached) → prefixed (e ∷ []) r ≡ Does log a → (rest : List Entry) × (r ≡ Does rest a) × (log ≡ e ∷ rest)
+pub after_done : (e : Entry) (r : Answer Entry Reached) (log : List Entry) (a : Reached) → prefixed (e ∷ []) r ≡ Does log a → (rest : List Entry) × (r ≡ Does rest a) × (log ≡ e ∷ rest)
 after_done e (Does rest b) log a h = (rest, cc, cc)
 after_done e (Missing q) log a h = absurd (cc)
 after_done e Nowhere log a h = absurd (cc)
 
--- what the script does is in the definition
-pub from_script : (at : ℕ → Seen) (st : Setting) (known : Known) (may : Label → Place → ℕ → Type 0) (x first second : ℕ) (log : List Entry) (end : Reached)
-    → Shows at st.ram known → LetsEntries st may → x < 2 ^ 32 → Walks st known may x first second log end
-    → (root : Option ℕ) × (leaf : Option ℕ) × (ways at st x root leaf ≡ Reaches end ∷ []) × (first ≡ value_of root) × (second ≡ value_of leaf)
-unfolding at_root ways
-from_script at st known may x first second log end shows lets small walks =
-    translating (is_translated st.view) (sym (all_plays at st known x first second shows first_small second_small) ∙ walks.plays)
+-- new entries are words
+pub walk_words : (st : Setting) (known : Known) (may : Label → Place → ℕ → Type 0) (x first second : ℕ) (log : List Entry) (end : Reached)
+    → LetsEntries st may → Walks st known may x first second log end → (first < 2 ^ 32) × (second < 2 ^ 32)
+walk_words st known may x first second log end lets walks = (first_small, second_small)
   where
     root_l : Label
     root_l = root_label st.kind
@@ -260,6 +257,23 @@ from_script at st known may x first second log end shows lets small walks =
 
     second_small : second < 2 ^ 32
     second_small = subst (λ (n : ℕ). n < 2 ^ 32) (sym walks.second_is) (new_small known (labelled log second_l) (λ e h k. let f = has_labelled log second_l e h in (value_small e f.0 k).1 f.1))
+
+-- what the script does is in the definition
+pub from_script : (at : ℕ → Seen) (st : Setting) (known : Known) (may : Label → Place → ℕ → Type 0) (x first second : ℕ) (log : List Entry) (end : Reached)
+    → Shows at st.ram known → LetsEntries st may → x < 2 ^ 32 → Walks st known may x first second log end
+    → (root : Option ℕ) × (leaf : Option ℕ) × (ways at st x root leaf ≡ Reaches end ∷ []) × (first ≡ value_of root) × (second ≡ value_of leaf)
+unfolding at_root ways
+from_script at st known may x first second log end shows lets small walks =
+    translating (is_translated st.view) (sym (all_plays at st known x first second shows words.0 words.1) ∙ walks.plays)
+  where
+    root_l : Label
+    root_l = root_label st.kind
+
+    second_l : Label
+    second_l = second_label st.kind
+
+    words : (first < 2 ^ 32) × (second < 2 ^ 32)
+    words = walk_words st known may x first second log end lets walks
 
     reading : (b : Bool) (o : Option ℕ) → known (root_place st x) ≡ o
         → (if b then prefixed (entry (root_question st x) (value_or o first) ∷ []) (rooted_played st known x (value_or o first) second) else access_fails st) ≡ Does log end
@@ -319,14 +333,14 @@ no_tail st known may x own second zero = record {
   one = λ e f i j. absurd i;
 }
 
-found_none : (leaf : Option ℕ) (e r : End) → found (no leaf) e ≡ r ∷ [] → (leaf ≡ None) × (e ≡ r)
+pub found_none : (leaf : Option ℕ) (e r : End) → found (no leaf) e ≡ r ∷ [] → (leaf ≡ None) × (e ≡ r)
 found_none None e r h = (refl, cc)
 found_none (Some v) e r h = absurd (cc)
 
-reached_is : (e r : Reached) → Reaches e ≡ Reaches r → e ≡ r
+pub reached_is : (e r : Reached) → Reaches e ≡ Reaches r → e ≡ r
 reached_is e r h = cc
 
-found_true : (b : Bool) (e r : End) → found b e ≡ r ∷ [] → (b ≡ true) × (e ≡ r)
+pub found_true : (b : Bool) (e r : End) → found b e ≡ r ∷ [] → (b ≡ true) × (e ≡ r)
 found_true true e r h = (refl, cc)
 found_true false e r h = absurd (cc)
 
@@ -351,7 +365,7 @@ only P g e p i = elim i [
   | inr a ↦ absurd a
 ]
 
-some_none : (o : Option ℕ) (v : ℕ) → o ≡ Some v → o ≡ None → ⊥
+pub some_none : (o : Option ℕ) (v : ℕ) → o ≡ Some v → o ≡ None → ⊥
 some_none o v h k = absurd (let g : Some v ≡ None = sym h ∙ k in cc)
 
 pointer_from : (at : ℕ → Seen) (st : Setting) (known : Known) (may : Label → Place → ℕ → Type 0) (x : ℕ) (own : Bool) (w : ℕ) (leaf : Option ℕ) (end : Reached)

@@ -9,14 +9,15 @@ use Rattle.rv_script.specs.declared.place.Place.{Place}
 use Rattle.rv_script.specs.declared.place.Place.TheVariants.{Reg, Csr, Word}
 use Rattle.rv_script.specs.Lists.{HasItem}
 use Rattle.rv_script.specs.Script.{Label, Label.FetchRoot, Label.FetchSecond, Label.DataRoot, Label.DataSecond}
-use Rattle.rv_script.specs.Folds.{Known, Answer.Does, Entry}
-use Rattle.sv_walk.specs.Translation.{Reached, At, Fails, translated, root_label, second_label}
+use Rattle.rv_script.specs.Bytes.{word_address}
+use Rattle.rv_script.specs.Folds.{Known, Answer.Does, Answer.Nowhere, Entry}
+use Rattle.sv_walk.specs.Translation.{Reached, At, Fails, translated, root_address, root_label, second_label}
 use Rattle.dom_set.specs.Elements.{is_in}
 use Rattle.addr_rows.specs.declared.row.Row.{Row}
 use Rattle.addr_rows.specs.declared.row.RowEnd.{RowEnd as CodeEnd}
 use Rattle.addr_rows.specs.declared.row.RowEnd.TheVariants.{Pa, Fault, Outside}
 use Rattle.addr_rows.specs.Combinations.{Setting}
-use Rattle.rv_script.specs.Logs.{entry_place, entry_label, answer_told, labelled, by_answers, new_value, Coherent}
+use Rattle.rv_script.specs.Logs.{entry_place, entry_label, answer_told, labelled, by_answers, where_unknown, new_value, Coherent}
 
 -- the address of a word's place, and 0 of another's
 abbrev pub word_address_of : Place → ℕ
@@ -81,6 +82,32 @@ pub record Walks (st : Setting) (known : Known) (may : Label → Place → ℕ �
   pub first_is : first ≡ new_value known (labelled log (root_label st.kind))
   pub second_is : second ≡ new_value known (labelled log (second_label st.kind))
 
+-- the value at a question, where its place was not known
+abbrev pub new_at : Known → Option Entry → Option ℕ
+new_at known None = None
+new_at known (Some e) = where_unknown (known (entry_place e)) (Some e.value)
+
+-- the new entries of a log; there is none where an entry was known or not asked for, whatever its value
+pub record AreNews (st : Setting) (known : Known) (log : List Entry) (root leaf : Option ℕ) : Type 0 where
+  pub root_is : root ≡ new_at known (labelled log (root_label st.kind))
+  pub leaf_is : leaf ≡ new_at known (labelled log (second_label st.kind))
+
+-- a value, 0 where there is none
+abbrev pub value_of : Option ℕ → ℕ
+value_of (Some w) = w
+value_of None = 0
+
+-- the place of an address's root entry
+abbrev pub root_place : Setting → ℕ → Place
+root_place st ea = Word (word_address (root_address st.view ea))
+
+-- with these new entries the translation of an address has no step: it asked for the root entry alone, which is new exactly where it is not known, and then may be started
+pub record WalksOut (st : Setting) (known : Known) (may : Label → Place → ℕ → Type 0) (ea : ℕ) (root leaf : Option ℕ) : Type 0 where
+  pub plays : answer_told (by_answers known (entry_answers (value_of root) (value_of leaf))) (translated st.ram st.view st.kind ea) ≡ Nowhere
+  pub root_is : root ≡ where_unknown (known (root_place st ea)) (Some (value_of root))
+  pub may_start : known (root_place st ea) ≡ None → may (root_label st.kind) (root_place st ea) (value_of root)
+  pub leaf_is : leaf ≡ None
+
 -- where a row leads: to an address by the virtual one, or to a fault
 pub data RowEnd : Type 0 where
   Leads : (ℕ → ℕ) → RowEnd
@@ -99,11 +126,6 @@ pub record EntryRow : Type 0 where
 pub record AreRows (st : Setting) (known : Known) (may : Label → Place → ℕ → Type 0) (pages : ℕ → Bool) (rows : List EntryRow) : Type 0 where
   pub sound : (row : EntryRow) → HasItem rows row → (ea first second : ℕ) → ea < 2 ^ 32 → row.holds ea first second ≡ true → (log : List Entry) × Walks st known may ea first second log (end_at row.end ea)
   pub complete : (ea first second : ℕ) (log : List Entry) (end : Reached) → ea < 2 ^ 32 → pages ea ≡ true → Walks st known may ea first second log end → (row : EntryRow) × HasItem rows row × (row.holds ea first second ≡ true) × (end_at row.end ea ≡ end)
-
--- a value, 0 where there is none
-abbrev pub value_of : Option ℕ → ℕ
-value_of (Some w) = w
-value_of None = 0
 
 -- a value is one of a row's new words, or 0 where the row has none
 abbrev pub has_value : Option (List ℕ) → ℕ → Bool

@@ -1,6 +1,6 @@
 //! Where addresses lead when page table entries may still be chosen: `rows` tells of a set of
 //! addresses, and of every choice of entries of given forms where none is known yet, where the
-//! translation then ends, in as few rows as the entries allow.
+//! translation then ends. Each address with such a choice is in exactly one row.
 #![tactic(auto)]
 
 mod alike;

@@ -535,10 +535,11 @@ fn is_translated(v: View) -> bool
 }
 
 /// Where each address of a set leads, with what is known of memory and with each choice of page table
-/// entries of the forms where an entry has no value yet: each in a frame for tables, and two of them two
-/// words. `ram` is the RAM of the memory, and `v` and `kind` are what the addresses are used for. Each
-/// combination of an address with new entries is in exactly one row, and a row holds nothing else; an
-/// untouched entry that stands in no frame for tables has no row.
+/// entries of the forms where an entry has no value yet. New entries stand in frames for tables, and a
+/// new root entry and a new second entry are never the same word of memory. `ram` is the RAM of the
+/// memory, and `v` and `kind` are what the addresses are used for. Each combination of an address with
+/// new entries is in exactly one row, and a row holds nothing else; an untouched entry that stands in no
+/// frame for tables has no row.
 pub fn rows<M: Words>(
     alloc: Global,
     m: &M,

@@ -17,6 +17,7 @@ use Rattle.rv_script.specs.Folds.{on_note, Known, Teller, Answer, Answer.Does, p
 use Rattle.foot_map.specs.Races.{breaks, Meet}
 use Rattle.sv_walk.specs.declared.entry.Kind.{Kind}
 use Rattle.sv_walk.specs.Translation.{Reached, At, Fails}
+use Rattle.addr_rows.specs.Walks.{EntryRow, Faults, Leads, RowEnd, end_at, entry_answers}
 use Rattle.rv_hart.specs.declared.record.Change.{Change}
 use Rattle.rv_hart.specs.declared.record.Control.TheVariants.{Trap}
 use Rattle.rv_hart.specs.Changes.{outcome_of}
@@ -29,14 +30,15 @@ use Rattle.fd_prob.specs.declared.slot.Slot.TheVariants as slots
 use Rattle.rv_script.specs.Labels.{label_number, question_number, label_of}
 use Rattle.rv_script.specs.Logs.{same_place, is_word, entry_place, entry_label, answer_told, log_of, labelled, value_or, by_answers, answer, new_value, if_new}
 use Rattle.leaf_link.specs.Turns.{Turn, in_frames, is_free_entry, may_start}
-use Rattle.leaf_link.specs.Values.{Values, instr_in, given_by, has_csr_operand, old_csr}
+use Rattle.leaf_link.specs.Values.{Values, instr_in, given_by, has_address, has_csr_operand, old_csr}
 use Rattle.leaf_link.specs.Candidates.{accesses_in}
 use Rattle.leaf_link.specs.Cases.{Way, all_tests, is_some_word}
-use Rattle.leaf_link.specs.Ways.{AsksUsed, DoesRest, FitsWay, HasAddress, HasWay, IsFetched, IsOf, IsReach, IsWays, shape_with, step_accesses}
+use Rattle.leaf_link.specs.Ways.{AsksUsed, DoesRest, FitsWay, HasAddress, HasWay, IsAddressed, IsFetched, IsOf, IsReach, IsWays, shape_with, step_accesses}
 use Rattle.leaf_link.specs.Kinds.{traps_when, vector_at}
-use Rattle.leaf_link.specs.Reaching.{AreRows, EntryRow, Faults, Leads, RowEnd, Walks, data_keeps, data_new, data_walk, data_ways, end_at, entry_answers, fault_new, in_row, is_aligned, is_data_word, not_code, not_walked, walk_keeps, way_of, way_to}
+use Rattle.leaf_link.specs.Reaching.{AreRows, HasPages, Walks, data_keeps, data_new, data_walk, data_ways, fault_new, in_row, is_aligned, is_data_word, not_code, not_walked, walk_keeps, way_of, way_to}
 use Rattle.rv_script.proofs.Plays.{entry, asks, goes_on}
 use Rattle.leaf_link.proofs.Front.{all_hold, hold_all, has_either, has_first, has_second, rest_of, same_done}
+use Rattle.leaf_link.proofs.Law.{address_asks}
 use Rattle.leaf_link.proofs.Both.{each_slot}
 use Rattle.leaf_link.proofs.Resting.{AsksAll, Traps, asks_used, does_trap, in_one, is_write, no_csr, not_true, quiet_apart, trap_change, traps_does, vector_entry, vector_from, vector_to}
 use Rattle.sv_walk.proofs.Plain.{plain_end, plain_words, translated_plain}
@@ -56,6 +58,7 @@ pub record IsData (t : Turn) (walk : List Entry) (pa : ℕ) (op : Op) (kind : Ki
   pub place : (x : Values) (p : ℕ) → place_of (question x p) ≡ Word (word_address p)
   pub free : (x : Values) (p v : ℕ) → is_free_entry t (entry (question x p) v) ≡ is_free_entry t (entry (question x p) 0)
   pub access : (x : Values) (p v : ℕ) → (y : Access) × (access_of (question x p) v ≡ Some y) × (is_data y.role ≡ true) × (y.addr ≡ p)
+  pub addressed : has_address (row_of op) ≡ true
   pub no_operand : has_csr_operand (row_of op) ≡ false
   pub asks : AsksAll t op
   pub cause : (number_of misaligned == 2) ≡ false
@@ -287,16 +290,24 @@ walks_of t walk pa leaf op kind x outcome reaches r log e end labels w late =
       second_is = r.second ∙ ap (λ (z : List Entry). new_value t.known (labelled z DataSecond)) w.split ∙ ap (λ (o : Option Entry). new_value t.known o) (label_before log e DataSecond (differs DataSecond (omega arith)));
     }
 
+-- the address is in the pages
+in_pages : (t : Turn) (walk : List Entry) (pa : ℕ) (leaf : List Atom) (op : Op) (kind : Kind) (misaligned : Cause) (question : Values → ℕ → Question) (apart : Values → ℕ → Bool) → IsData t walk pa op kind misaligned question apart
+    → (x : Values) → IsOf op x → HasAddress op x → (outcome : ℕ) (reaches : Bool) (pages : ℕ → Bool) → HasPages t leaf pages → (outcome == 2) ≡ false → IsAddressed t leaf (shape_with op outcome reaches) x → pages (x slots.Ea) ≡ true
+in_pages t walk pa leaf op kind misaligned question apart d x is ea outcome reaches pages has_pages kept inside =
+    has_pages (x slots.Ea) (d.small x ea) (inside (and_from _ _ d.addressed (and_from _ _ (sym (d.asks x is) ∙ address_asks (row_of op) t.fixed (instr_in x) d.addressed) (ap not kept))))
+
 does_reach : (t : Turn) (walk : List Entry) (pa : ℕ) (leaf : List Atom) (op : Op) (kind : Kind) (misaligned : Cause) (question : Values → ℕ → Question) (apart : Values → ℕ → Bool) (d : IsData t walk pa op kind misaligned question apart)
-    (rows : List EntryRow) → AreRows t kind rows → (x : Values) → IsOf op x → HasAddress op x → is_aligned op x ≡ true → (outcome : ℕ) (reaches : Bool) (r : DoesRest t walk pa leaf (shape_with op outcome reaches) x)
-    (log : List Entry) (p : ℕ) → Walked t pa kind x r.log log (data_entry t question x p ∷ []) (At p) → HasWay op (data_ways t pa leaf op kind misaligned question apart rows) x outcome reaches
-does_reach t walk pa leaf op kind misaligned question apart d rows are x is ea al outcome reaches r log p w =
+    (pages : ℕ → Bool) (rows : List EntryRow) → HasPages t leaf pages → AreRows t pages kind rows → (x : Values) → IsOf op x → HasAddress op x → is_aligned op x ≡ true → (outcome : ℕ) (reaches : Bool) (r : DoesRest t walk pa leaf (shape_with op outcome reaches) x)
+    → IsAddressed t leaf (shape_with op outcome reaches) x → (log : List Entry) (p : ℕ) → Walked t pa kind x r.log log (data_entry t question x p ∷ []) (At p) → HasWay op (data_ways t pa leaf op kind misaligned question apart rows) x outcome reaches
+does_reach t walk pa leaf op kind misaligned question apart d pages rows has_pages are x is ea al outcome reaches r inside log p w =
     let k : Known = t.known in
     let e : Entry = data_entry t question x p in
     let number : question_number e.question ≡ 8 = ap label_number (d.label x p) in
     let same = same_done r.log (log ++ e ∷ []) r.change (d.change x p (told_of (question x p) e.value)) (sym r.plays ∙ reach_plays t walk pa op kind misaligned question apart d x is ea al log p w.plays) in
     let walks = walks_of t walk pa leaf op kind x outcome reaches r log e (At p) d.labels w (omega (arith, number)) in
-    let has = are.complete (x slots.Ea) (x slots.FirstPte) (x slots.SecondPte) log (At p) (d.small x ea) walks in
+    let ends : 255 ≡ outcome = sym (d.outcome x p (told_of (question x p) e.value)) ∙ ap (λ (c : Change). outcome_in (outcome_of t.fixed c.control)) (sym same.1) ∙ r.outcome in
+    let page = in_pages t walk pa leaf op kind misaligned question apart d x is ea outcome reaches pages has_pages (ap (λ (n : ℕ). n == 2) (sym ends)) inside in
+    let has = are.complete (x slots.Ea) (x slots.FirstPte) (x slots.SecondPte) log (At p) (d.small x ea) page walks in
     let row : EntryRow = has.0 in
     let leads = leads_to row.end (x slots.Ea) p has.3 in
     let to : ℕ → ℕ = leads.0 in
@@ -349,19 +360,22 @@ does_reach t walk pa leaf op kind misaligned question apart d rows are x is ea a
         holds = and_from _ _ (and_from _ _ al has.2) (and_from _ _ w.keeps
             (subst (λ (n : ℕ). (data_keeps t pa leaf question (data_walk t kind x) x n && apart x n) ≡ true) (sym p_is) (and_from _ _ keeps free_apart)));
       };
-      outcome_is = sym (d.outcome x p (told_of (question x p) e.value)) ∙ ap (λ (c : Change). outcome_in (outcome_of t.fixed c.control)) (sym same.1) ∙ r.outcome;
+      outcome_is = ends;
       reaches_is = sym reach.0;
     }
 
 does_fault : (t : Turn) (walk : List Entry) (pa : ℕ) (leaf : List Atom) (op : Op) (kind : Kind) (misaligned : Cause) (question : Values → ℕ → Question) (apart : Values → ℕ → Bool) (d : IsData t walk pa op kind misaligned question apart)
-    (rows : List EntryRow) → AreRows t kind rows → (x : Values) → IsOf op x → HasAddress op x → is_aligned op x ≡ true → (outcome : ℕ) (reaches : Bool) (r : DoesRest t walk pa leaf (shape_with op outcome reaches) x)
-    (log : List Entry) (cause : Cause) → Walked t pa kind x r.log log (vector_entry t x cause ∷ []) (Fails cause) → HasWay op (data_ways t pa leaf op kind misaligned question apart rows) x outcome reaches
-does_fault t walk pa leaf op kind misaligned question apart d rows are x is ea al outcome reaches r log cause w =
+    (pages : ℕ → Bool) (rows : List EntryRow) → HasPages t leaf pages → AreRows t pages kind rows → (x : Values) → IsOf op x → HasAddress op x → is_aligned op x ≡ true → (outcome : ℕ) (reaches : Bool) (r : DoesRest t walk pa leaf (shape_with op outcome reaches) x)
+    → IsAddressed t leaf (shape_with op outcome reaches) x → (log : List Entry) (cause : Cause) → Walked t pa kind x r.log log (vector_entry t x cause ∷ []) (Fails cause) → HasWay op (data_ways t pa leaf op kind misaligned question apart rows) x outcome reaches
+does_fault t walk pa leaf op kind misaligned question apart d pages rows has_pages are x is ea al outcome reaches r inside log cause w =
     let k : Known = t.known in
     let e : Entry = vector_entry t x cause in
     let same = same_done r.log (log ++ e ∷ []) r.change (trap_change t x cause (x slots.Ea)) (sym r.plays ∙ fault_plays t walk pa op kind misaligned question apart d x is ea al log cause w.plays) in
     let walks = walks_of t walk pa leaf op kind x outcome reaches r log e (Fails cause) d.labels w (omega arith) in
-    let has = are.complete (x slots.Ea) (x slots.FirstPte) (x slots.SecondPte) log (Fails cause) (d.small x ea) walks in
+    let ends : number_of cause ≡ outcome = ap (λ (c : Change). outcome_in (outcome_of t.fixed c.control)) (sym same.1) ∙ r.outcome in
+    let plain : (number_of cause == 2) ≡ false = plain_end (data_script t kind x) (by_answers k (given_by x)) log (Fails cause) (translated_plain t.fixed.ram (data_view t.fixed) kind (x slots.Ea)) w.plays in
+    let page = in_pages t walk pa leaf op kind misaligned question apart d x is ea outcome reaches pages has_pages (ap (λ (n : ℕ). n == 2) (sym ends) ∙ plain) inside in
+    let has = are.complete (x slots.Ea) (x slots.FirstPte) (x slots.SecondPte) log (Fails cause) (d.small x ea) page walks in
     let row : EntryRow = has.0 in
     let end_is : row.end ≡ Faults cause = faults_by row.end (x slots.Ea) cause has.3 in
     let way : Way = way_to t pa leaf op kind question apart row (Faults cause) in
@@ -391,15 +405,15 @@ does_fault t walk pa leaf op kind misaligned question apart d rows are x is ea a
         });
         holds = and_from _ _ (and_from _ _ al has.2) w.keeps;
       };
-      outcome_is = ap (λ (c : Change). outcome_in (outcome_of t.fixed c.control)) (sym same.1) ∙ r.outcome;
+      outcome_is = ends;
       reaches_is = sym (reach_not (all_tests t leaf vars.Pa) reaches (subst (λ (o : Option ℕ). IsReach (all_tests t leaf vars.Pa) reaches o) address r.reach));
     }
 
 does_row : (t : Turn) (walk : List Entry) (pa : ℕ) (leaf : List Atom) (op : Op) (kind : Kind) (misaligned : Cause) (question : Values → ℕ → Question) (apart : Values → ℕ → Bool) (d : IsData t walk pa op kind misaligned question apart)
-    (rows : List EntryRow) → AreRows t kind rows → (x : Values) → IsOf op x → HasAddress op x → is_aligned op x ≡ true → (outcome : ℕ) (reaches : Bool) → DoesRest t walk pa leaf (shape_with op outcome reaches) x
-    → HasWay op (data_ways t pa leaf op kind misaligned question apart rows) x outcome reaches
+    (pages : ℕ → Bool) (rows : List EntryRow) → HasPages t leaf pages → AreRows t pages kind rows → (x : Values) → IsOf op x → HasAddress op x → is_aligned op x ≡ true → (outcome : ℕ) (reaches : Bool) → DoesRest t walk pa leaf (shape_with op outcome reaches) x
+    → IsAddressed t leaf (shape_with op outcome reaches) x → HasWay op (data_ways t pa leaf op kind misaligned question apart rows) x outcome reaches
 unfolding trap
-does_row t walk pa leaf op kind misaligned question apart d rows are x is ea al outcome reaches r =
+does_row t walk pa leaf op kind misaligned question apart d pages rows has_pages are x is ea al outcome reaches r inside =
     let tell : Teller = by_answers t.known (given_by x) in
     let next : ℕ → Script Change = λ p. Ask (question x p) (λ v. Done (d.change x p v)) in
     let parts = then_done (data_script t kind x) (arriving t.fixed (word_of (instr_in x)) (x slots.Ea) next) tell r.log r.change (ap (λ (s : Script Change). answer_told tell s) (sym (d.reached x is ea al)) ∙ r.plays) in
@@ -423,11 +437,11 @@ does_row t walk pa leaf op kind misaligned question apart d rows are x is ea al 
         → HasWay op (data_ways t pa leaf op kind misaligned question apart rows) x outcome reaches
     go (At p) log second h k l =
         let s = same_done (data_entry t question x p ∷ []) second (d.change x p (told_of (question x p) (data_entry t question x p).value)) r.change (sym (asks t.known (given_by x) (question x p) (λ v. Done (d.change x p v))) ∙ k) in
-        does_reach t walk pa leaf op kind misaligned question apart d rows are x is ea al outcome reaches r log p (walked log (data_entry t question x p ∷ []) (At p) h (l ∙ ap (λ (z : List Entry). log ++ z) (sym s.0)))
+        does_reach t walk pa leaf op kind misaligned question apart d pages rows has_pages are x is ea al outcome reaches r inside log p (walked log (data_entry t question x p ∷ []) (At p) h (l ∙ ap (λ (z : List Entry). log ++ z) (sym s.0)))
     go (Fails cause) log second h k l =
         let s = same_done (vector_entry t x cause ∷ []) second (trap_change t x cause (x slots.Ea)) r.change
         (sym (asks t.known (given_by x) (OfCsr FromVector (vector_at t.fixed cause)) (λ v. Done (went (word_of (instr_in x)) None (Trap (number_of cause) (x slots.Ea)) v))) ∙ k) in
-        does_fault t walk pa leaf op kind misaligned question apart d rows are x is ea al outcome reaches r log cause (walked log (vector_entry t x cause ∷ []) (Fails cause) h (l ∙ ap (λ (z : List Entry). log ++ z) (sym s.0)))
+        does_fault t walk pa leaf op kind misaligned question apart d pages rows has_pages are x is ea al outcome reaches r inside log cause (walked log (vector_entry t x cause ∷ []) (Fails cause) h (l ∙ ap (λ (z : List Entry). log ++ z) (sym s.0)))
 
 -- THE WAYS OF A LOAD OR STORE
 misses_traps : (t : Turn) (walk : List Entry) (pa : ℕ) (op : Op) (kind : Kind) (misaligned : Cause) (question : Values → ℕ → Question) (apart : Values → ℕ → Bool) → IsData t walk pa op kind misaligned question apart
@@ -445,8 +459,8 @@ way_asks t walk pa leaf op kind misaligned question apart d x is row (Faults cau
     (plain_end (data_script t kind x) (by_answers t.known (entry_answers (x slots.FirstPte) (x slots.SecondPte))) s.0 (Fails cause) (translated_plain t.fixed.ram (data_view t.fixed) kind (x slots.Ea)) s.1.plays) (d.asks x is)
 
 pub data_is_ways : (t : Turn) (walk : List Entry) (pa : ℕ) (leaf : List Atom) (op : Op) (kind : Kind) (misaligned : Cause) (question : Values → ℕ → Question) (apart : Values → ℕ → Bool) → IsFetched t walk pa → IsData t walk pa op kind misaligned question apart
-    → (rows : List EntryRow) → AreRows t kind rows → IsWays t walk pa leaf op (data_ways t pa leaf op kind misaligned question apart rows)
-data_is_ways t walk pa leaf op kind misaligned question apart f d rows are = record {
+    → (pages : ℕ → Bool) (rows : List EntryRow) → HasPages t leaf pages → AreRows t pages kind rows → IsWays t walk pa leaf op (data_ways t pa leaf op kind misaligned question apart rows)
+data_is_ways t walk pa leaf op kind misaligned question apart f d pages rows has_pages are = record {
   does = λ x is ea way i w. elim i [
     | inl e ↦ let v : FitsWay (traps_when t misaligned (λ y. not (is_aligned op y))) x = subst (λ (z : Way). FitsWay z x) (sym e) w in
         subst (λ (z : Way). DoesRest t walk pa leaf (shape_with op z.outcome z.reaches) x) e
@@ -457,8 +471,8 @@ data_is_ways t walk pa leaf op kind misaligned question apart f d rows are = rec
         subst (λ (z : Way). DoesRest t walk pa leaf (shape_with op z.outcome z.reaches) x) m.2
         (row_does t walk pa leaf op kind misaligned question apart d f x is ea row row.end (λ h. are.sound row m.1 (x slots.Ea) (x slots.FirstPte) (x slots.SecondPte) is.small h) v)
   ];
-  fits = λ x is ea outcome reaches r. elim (cases_Bool (is_aligned op x)) [
-    | inl y ↦ does_row t walk pa leaf op kind misaligned question apart d rows are x is ea y outcome reaches r
+  fits = λ x is ea outcome reaches r inside. elim (cases_Bool (is_aligned op x)) [
+    | inl y ↦ does_row t walk pa leaf op kind misaligned question apart d pages rows has_pages are x is ea y outcome reaches r inside
     | inr n ↦ let b = does_trap t walk pa leaf op x misaligned outcome reaches is d.no_operand (misses_traps t walk pa op kind misaligned question apart d x is ea n) r in
         record { way = traps_when t misaligned (λ y. not (is_aligned op y)); is = inl refl; fits = record { each = b.each; holds = ap not n }; outcome_is = b.outcome_is; reaches_is = b.reaches_is }
   ];

@@ -73,6 +73,7 @@ answers_over p cs nodes (answers.Found x) Wanted values places law small is a =
       a.0,
       record {
         is = w;
+        are_values = law.are_values (values_in x) fit;
         least = λ other v before.
             let f = fitting p cs Wanted values places law small is other v in
             let key : Values = values (places (values_in x)) w in
@@ -90,6 +91,6 @@ pub answers_moved : (size room nodes : ℕ) (Before After : Values → Values �
     → size ≡ room → ((one : Known) (v : Wanted one) (two : Known) (w : Wanted two) → After (values one v) (values two w) → Before (values one v) (values two w))
     → IsAnswerOver size nodes Before Wanted values places answer → IsAnswerOver room nodes After Wanted values places answer
 answers_moved size room nodes Before After Wanted values places (answers.Found x) same moves a =
-    (subst (λ (n : ℕ). n ≤ nodes) same a.0, record { is = a.1.is; least = λ other w b. a.1.least other w (moves other w (places (values_in x)) a.1.is b) })
+    (subst (λ (n : ℕ). n ≤ nodes) same a.0, record { is = a.1.is; are_values = a.1.are_values; least = λ other w b. a.1.least other w (moves other w (places (values_in x)) a.1.is b) })
 answers_moved size room nodes Before After Wanted values places answers.NoneFits same moves a = (subst (λ (n : ℕ). n ≤ nodes) same a.0, a.1)
 answers_moved size room nodes Before After Wanted values places answers.Spent same moves a = subst (λ (n : ℕ). nodes < n) same a

@@ -208,7 +208,7 @@ good_fits t walk pa leaf op ways f words plain owed x g op_is =
       old = g.is slots.OldCsr ∙ ap (λ (o : Option Entry). old_csr t.fixed i o) (shown_label FromCsr (omega arith));
       vector = g.is slots.Vector ∙ ap (λ (o : Option Entry). new_value k o) (shown_label FromVector (omega arith));
     } in
-    let has = owed.fits x is ea outcome (is_reached o) does in
+    let has = owed.fits x is ea outcome (is_reached o) does (j.tested vars.Ea) in
     let way : Way = has.way in
     let e : shape_of op way ≡ s = ap (λ (n : ℕ). shape_with op n way.reaches) has.outcome_is ∙ ap (λ (b : Bool). shape_with op outcome b) has.reaches_is in
     let asks : AsksUsed t s x = subst (λ (z : Shape). AsksUsed t z x) e (owed.asks x is way has.is has.fits) in

@@ -312,7 +312,7 @@ csr_is_ways t walk pa leaf op f h = record {
         let v : FitsWay (ends_when (granted_test t op)) x = subst (λ (z : Way). FitsWay z x) (sym e) w in
         subst (λ (z : Way). DoesRest t walk pa leaf (shape_with op z.outcome z.reaches) x) e (granted x is v.each (access_in t.fixed (instr_in x)) refl v.holds)
   ];
-  fits = λ x is ea outcome reaches d. done x is outcome reaches d (access_in t.fixed (instr_in x)) refl;
+  fits = λ x is ea outcome reaches d inside. done x is outcome reaches d (access_in t.fixed (instr_in x)) refl;
   asks = λ x is way i w. elim i [
     | inl e ↦ let v : FitsWay (traps_when t Illegal (denied_test t)) x = subst (λ (z : Way). FitsWay z x) (sym e) w in
         subst (λ (z : Way). AsksUsed t (shape_with op z.outcome z.reaches) x) e (asks_by t op x 2 h is (ap is_granted (denied_is (access_in t.fixed (instr_in x)) v.holds)))

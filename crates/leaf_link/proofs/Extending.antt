@@ -14,6 +14,7 @@ use Rattle.rv_isa.specs.declared.operation.Op.{Op}
 use Rattle.rv_isa.specs.declared.operation.TheConstants.{OPS}
 use Rattle.rv_script.specs.Folds.{Answer, Entry}
 use Rattle.sv_walk.specs.declared.entry.Kind.TheVariants.{Load as ForLoad, Store as ForStore}
+use Rattle.addr_rows.specs.Walks.{EntryRow}
 use Rattle.rv_hart.specs.declared.record.Change.{Change}
 use Rattle.tpl_admit.specs.Variables.{Moment}
 use Rattle.tpl_ast.specs.declared.template.Atom.{Atom}
@@ -39,7 +40,7 @@ use Rattle.leaf_link.specs.Cases.{Fits, all_tests, code_at}
 use Rattle.leaf_link.specs.KindLaws.{IsPosed}
 use Rattle.leaf_link.specs.Answers.{values_in}
 use Rattle.leaf_link.specs.Problems.{bias_cut}
-use Rattle.leaf_link.specs.Reaching.{AreRows, EntryRow}
+use Rattle.leaf_link.specs.Reaching.{AreRows, HasPages}
 use Rattle.leaf_link.specs.AllWays.{leaf_cases, ways_of}
 use Rattle.leaf_link.specs.Firsts.{AreFirsts, IsFirst, IsFirstOf, first_domain, in_first_word, is_allowed}
 use Rattle.leaf_link.specs.Extras.{AreAdded, ArePlain, ExtrasAreBiases, ExtrasStay, IsExtraOf, PassesExtra, met_by, met_in, passes_cuts}
@@ -194,16 +195,20 @@ posed_more t walk pa leaf bias p plain = record {
   plain = λ atom i. elim (has_either leaf bias atom i) [ inl h ↦ p.plain atom h | inr h ↦ plain atom h ];
 }
 
-pub leaf_good : (t : Turn) (walk : List Entry) (pa : ℕ) (leaf : List Atom) (loads stores : List EntryRow) (x : Values) → IsPosed t walk pa leaf → AreRows t ForLoad loads → AreRows t ForStore stores → Fits (leaf_cases t walk pa leaf loads stores) x → Good t leaf x
-leaf_good t walk pa leaf loads stores x p l s f =
+-- more atoms let fewer addresses be the virtual one
+pub pages_more : (t : Turn) (leaf bias : List Atom) (pages : ℕ → Bool) → HasPages t leaf pages → HasPages t (leaf ++ bias) pages
+pages_more t leaf bias pages h ea less tested = h ea less (and_parts (all_tests t leaf vars.Ea ea) (all_tests t bias vars.Ea ea) (sym (tests_more t leaf bias vars.Ea ea) ∙ tested)).0
+
+pub leaf_good : (t : Turn) (walk : List Entry) (pa : ℕ) (leaf : List Atom) (pages : ℕ → Bool) (loads stores : List EntryRow) (x : Values) → IsPosed t walk pa leaf → HasPages t leaf pages → AreRows t pages ForLoad loads → AreRows t pages ForStore stores → Fits (leaf_cases t walk pa leaf loads stores) x → Good t leaf x
+leaf_good t walk pa leaf pages loads stores x p h l s f =
     let ways = ways_of t walk pa leaf loads stores in
     let o = one_of t walk pa leaf ways OPS x f in
-    (fits_good t walk pa leaf o.0 (ways o.0) p.fetched p.plain (every_op t walk pa leaf loads stores p.fetched l s o.0) x o.1).0
+    (fits_good t walk pa leaf o.0 (ways o.0) p.fetched p.plain (every_op t walk pa leaf pages loads stores p.fetched h l s o.0) x o.1).0
 
-pub good_leaf : (t : Turn) (walk : List Entry) (pa : ℕ) (leaf : List Atom) (loads stores : List EntryRow) (x : Values) → IsPosed t walk pa leaf → AreRows t ForLoad loads → AreRows t ForStore stores → Good t leaf x → Fits (leaf_cases t walk pa leaf loads stores) x
-good_leaf t walk pa leaf loads stores x p l s g =
+pub good_leaf : (t : Turn) (walk : List Entry) (pa : ℕ) (leaf : List Atom) (pages : ℕ → Bool) (loads stores : List EntryRow) (x : Values) → IsPosed t walk pa leaf → HasPages t leaf pages → AreRows t pages ForLoad loads → AreRows t pages ForStore stores → Good t leaf x → Fits (leaf_cases t walk pa leaf loads stores) x
+good_leaf t walk pa leaf pages loads stores x p h l s g =
     let op : Op = (instr_in x).op in
-    of_one t walk pa leaf (ways_of t walk pa leaf loads stores) OPS x op (op_listed op) (good_fits t walk pa leaf op (ways_of t walk pa leaf loads stores op) p.fetched p.words p.plain (every_op t walk pa leaf loads stores p.fetched l s op) x g refl)
+    of_one t walk pa leaf (ways_of t walk pa leaf loads stores) OPS x op (op_listed op) (good_fits t walk pa leaf op (ways_of t walk pa leaf loads stores op) p.fetched p.words p.plain (every_op t walk pa leaf pages loads stores p.fetched h l s op) x g refl)
 
 good_met : (t : Turn) (leaf bias : List Atom) (x : Values) → (g : Good t leaf x) → met_by t bias x ≡ all_met t (moment_of t g.log g.change) bias
 good_met t leaf bias x g = ap (λ (r : Answer Entry Change). met_in t bias r) g.plays
@@ -310,7 +315,8 @@ firsts_extended t pa leaf bias e p shape is firsts op = elim (same_found t bias 
 
 -- LAWS
 pub extras_are_biases : ExtrasAreBiases
-extras_are_biases t walk pa leaf bias loads stores draws p e posed plain l s is extra =
+extras_are_biases t walk pa leaf bias pages loads stores draws p e posed plain h l s is extra =
+    let wide : HasPages t (leaf ++ bias) pages = pages_more t leaf bias pages h in
     let more : IsPosed t walk pa (leaf ++ bias) = posed_more t walk pa leaf bias posed plain in
     record {
       shape = whole e p is.shape;
@@ -322,10 +328,10 @@ extras_are_biases t walk pa leaf bias loads stores draws p e posed plain l s is 
         same = λ x words. (
           λ f.
               let r = any_less t bias e e.cases p.cases x words is.shape extra.added f in
-              good_leaf t walk pa (leaf ++ bias) loads stores (values_in x) more l s (good_more t leaf bias (values_in x) (leaf_good t walk pa leaf loads stores (values_in x) posed l s ((is.cases.same x words).0 r.0)) r.1),
+              good_leaf t walk pa (leaf ++ bias) pages loads stores (values_in x) more wide l s (good_more t leaf bias (values_in x) (leaf_good t walk pa leaf pages loads stores (values_in x) posed h l s ((is.cases.same x words).0 r.0)) r.1),
           λ f.
-              let g = good_less t leaf bias (values_in x) (leaf_good t walk pa (leaf ++ bias) loads stores (values_in x) more l s f) in
-              any_more t bias e e.cases p.cases x words is.shape extra.added ((is.cases.same x words).1 (good_leaf t walk pa leaf loads stores (values_in x) posed l s g.0)) g.1,
+              let g = good_less t leaf bias (values_in x) (leaf_good t walk pa (leaf ++ bias) pages loads stores (values_in x) more wide l s f) in
+              any_more t bias e e.cases p.cases x words is.shape extra.added ((is.cases.same x words).1 (good_leaf t walk pa leaf pages loads stores (values_in x) posed h l s g.0)) g.1,
         );
       };
     }

@@ -33,7 +33,7 @@ use Rattle.leaf_link.specs.Candidates.{IsCandidate}
 use Rattle.leaf_link.specs.Cases.{Fits, FitsCase, Shape, Way, all_judged, all_tests, code_at, in_word, is_judged, is_some_word, or_no, shape_of, tests, unless, uses, base_domain, case_at}
 use Rattle.leaf_link.specs.KindLaws.{IsPosed}
 use Rattle.leaf_link.specs.Problems.{key_of}
-use Rattle.leaf_link.specs.Reaching.{AreRows, EntryRow, Faults, Leads, RowEnd, Walks, data_ways, end_at, entry_answers, in_row, is_aligned, load_question, store_apart, store_question, way_of, way_to}
+use Rattle.leaf_link.specs.Reaching.{AreRows, HasPages, Walks, data_ways, in_row, is_aligned, load_question, store_apart, store_question, way_of, way_to}
 use Rattle.leaf_link.specs.Controls.{access_in, csr_ways, return_ways, grants, is_denied, operand_in}
 use Rattle.leaf_link.specs.AllWays.{leaf_cases, ways_of}
 use Rattle.leaf_link.specs.Kinds.{retires, traps}
@@ -55,6 +55,7 @@ use Rattle.rv_script.specs.declared.place.Place.{Place}
 use Rattle.sv_walk.specs.declared.entry.Kind.{Kind}
 use Rattle.sv_walk.specs.Entry.{access_cause}
 use Rattle.sv_walk.specs.Translation.{Reached, Fails, arrived, from_root, is_in_ram, is_translated, root_address, root_label, translated}
+use Rattle.addr_rows.specs.Walks.{EntryRow, Faults, Leads, RowEnd, end_at, entry_answers}
 use Rattle.rv_hart.specs.Machine.{data_view}
 use Rattle.rv_hart.specs.Privileged.{is_withheld, lazy_address}
 use Rattle.fd_prob.specs.Slots.{slot_number}
@@ -251,7 +252,7 @@ row_holds : (t : Turn) (pa : ℕ) (leaf : List Atom) (op : Op) (kind : Kind) (qu
 row_holds t pa leaf op kind question apart row (Leads to) x h = (and_parts (is_aligned op x) _ (and_parts (in_row op row x) _ h).0).1
 row_holds t pa leaf op kind question apart row (Faults cause) x h = (and_parts (is_aligned op x) _ (and_parts (in_row op row x) _ h).0).1
 
-data_unwalked : (t : Turn) (pa : ℕ) (leaf : List Atom) (op : Op) (kind : Kind) (misaligned : Cause) (question : Values → ℕ → Question) (apart : Values → ℕ → Bool) (rows : List EntryRow) → AreRows t kind rows
+data_unwalked : (t : Turn) (pa : ℕ) (leaf : List Atom) (op : Op) (kind : Kind) (misaligned : Cause) (question : Values → ℕ → Question) (apart : Values → ℕ → Bool) {pages : ℕ → Bool} (rows : List EntryRow) → AreRows t pages kind rows
     → is_translated (data_view t.fixed) ≡ false → (way : Way) → HasItem (data_ways t pa leaf op kind misaligned question apart rows) way → (x : Values) → x slots.Ea < 2 ^ 32
     → ((s : Slot) → way.also s (x s) ≡ true) → way.holds x ≡ true → (x slots.FirstPte ≡ 0) × (x slots.SecondPte ≡ 0)
 data_unwalked t pa leaf op kind misaligned question apart rows are isnt way i x small also holds = elim i [
@@ -266,7 +267,7 @@ data_unwalked t pa leaf op kind misaligned question apart rows are isnt way i x 
       unwalked t kind (x slots.Ea) (x slots.FirstPte) (x slots.SecondPte) w.0 (end_at m.0.end (x slots.Ea)) isnt w.1
 ]
 
-access_unwalked : (t : Turn) (walk : List Entry) (pa : ℕ) (leaf : List Atom) (loads stores : List EntryRow) → AreRows t ForLoad loads → AreRows t ForStore stores → is_translated (data_view t.fixed) ≡ false
+access_unwalked : (t : Turn) (walk : List Entry) (pa : ℕ) (leaf : List Atom) {pages : ℕ → Bool} (loads stores : List EntryRow) → AreRows t pages ForLoad loads → AreRows t pages ForStore stores → is_translated (data_view t.fixed) ≡ false
     → (op : Op) → has_address (row_of op) ≡ true → (way : Way) → HasItem (ways_of t walk pa leaf loads stores op) way → (x : Values) → x slots.Ea < 2 ^ 32
     → ((s : Slot) → way.also s (x s) ≡ true) → way.holds x ≡ true → (x slots.FirstPte ≡ 0) × (x slots.SecondPte ≡ 0)
 access_unwalked t walk pa leaf loads stores l s isnt Lb h way i x = data_unwalked t pa leaf Lb ForLoad LoadMisaligned (load_question Lb) (λ x p. true) loads l isnt way i x
@@ -280,7 +281,7 @@ access_unwalked t walk pa leaf loads stores l s isnt Sw h way i x = data_unwalke
 access_unwalked t walk pa leaf loads stores l s isnt _ h way i x = absurd (cc)
 
 -- where an operation has no walk, no entry is new
-no_entries : (t : Turn) (walk : List Entry) (pa : ℕ) (leaf : List Atom) (loads stores : List EntryRow) → AreRows t ForLoad loads → AreRows t ForStore stores
+no_entries : (t : Turn) (walk : List Entry) (pa : ℕ) (leaf : List Atom) {pages : ℕ → Bool} (loads stores : List EntryRow) → AreRows t pages ForLoad loads → AreRows t pages ForStore stores
     → (op : Op) (way : Way) → HasItem (ways_of t walk pa leaf loads stores op) way → (x : Values) → x slots.Ea < 2 ^ 32 → ((s : Slot) → way.also s (x s) ≡ true) → way.holds x ≡ true
     → has_walk t op ≡ false → (x slots.FirstPte ≡ 0) × (x slots.SecondPte ≡ 0)
 no_entries t walk pa leaf loads stores l s op way i x small also holds isnt = elim (cases_Bool (has_address (row_of op))) [
@@ -300,11 +301,11 @@ record Kept (t : Turn) (walk : List Entry) (pa : ℕ) (leaf : List Atom) (loads 
   judged : all_judged (shape_of op way) leaf ≡ true
   fits : FitsCase (case_at t pa leaf op way) x
 
-kept_by : (t : Turn) (walk : List Entry) (pa : ℕ) (leaf : List Atom) (loads stores : List EntryRow) → IsPosed t walk pa leaf → AreRows t ForLoad loads → AreRows t ForStore stores
+kept_by : (t : Turn) (walk : List Entry) (pa : ℕ) (leaf : List Atom) (pages : ℕ → Bool) (loads stores : List EntryRow) → IsPosed t walk pa leaf → HasPages t leaf pages → AreRows t pages ForLoad loads → AreRows t pages ForStore stores
     → (new : Known) (w : IsCandidate t leaf new) → Kept t walk pa leaf loads stores w.instr.op (key_of t leaf new w)
-kept_by t walk pa leaf loads stores posed l s new w =
+kept_by t walk pa leaf pages loads stores posed h l s new w =
     let x : Values = key_of t leaf new w in
-    let o = (leaf_problems_are_exact t walk pa leaf loads stores posed l s).onto new w in
+    let o = (leaf_problems_are_exact t walk pa leaf pages loads stores posed h l s).onto new w in
     let fit : Fits (leaf_cases t walk pa leaf loads stores) x = subst (λ (z : Values). Fits (leaf_cases t walk pa leaf loads stores) z) (fun_ext o.3) o.1 in
     let c = one_of t walk pa leaf (ways_of t walk pa leaf loads stores) OPS x fit in
     let f = fits_way t walk pa leaf c.0 (ways_of t walk pa leaf loads stores c.0) x c.1 in
@@ -317,10 +318,10 @@ first_field None op slots.Csr v n h = absurd (cc)
 first_field None op _ v n h = h
 
 pub candidates_are_in_domains : CandidatesAreInDomains
-candidates_are_in_domains t walk pa leaf loads stores posed l s new w =
+candidates_are_in_domains t walk pa leaf pages loads stores posed has_pages l s new w =
     let op : Op = w.instr.op in
     let x : Values = key_of t leaf new w in
-    let k = kept_by t walk pa leaf loads stores posed l s new w in
+    let k = kept_by t walk pa leaf pages loads stores posed has_pages l s new w in
     let shape : Shape = shape_of op k.way in
     let also : (r : Slot) → k.way.also r (x r) ≡ true = λ r. (and_parts (base_domain t pa leaf shape r (x r)) _ (k.fits.each r)).1 in
     let base : (r : Slot) → base_domain t pa leaf shape r (x r) ≡ true = λ r. (and_parts (base_domain t pa leaf shape r (x r)) _ (k.fits.each r)).0 in

@@ -36,3 +36,4 @@ mod Heading
 mod FetchAnswering
 mod WalkPossible
 mod InDomains
+mod Serving

@@ -88,6 +88,7 @@ load_is_data t walk pa op f h = record {
   place = λ x p. refl;
   free = λ x p v. refl;
   access = λ x p v. (_, refl, refl, refl);
+  addressed = (load_has (row_of op) h).0;
   no_operand = (load_has (row_of op) h).1;
   asks = all_asked t op (load_has (row_of op) h).1;
   cause = refl;
@@ -99,5 +100,5 @@ load_is_data t walk pa op f h = record {
 }
 
 pub loads_are_exact : LoadsAreExact
-loads_are_exact t walk pa leaf rows p are op h =
-    exact t walk pa leaf op (load_ways t pa leaf op rows) p (data_is_ways t walk pa leaf op ForLoad LoadMisaligned (load_question op) (λ x p. true) p.fetched (load_is_data t walk pa op p.fetched h) rows are)
+loads_are_exact t walk pa leaf pages rows p has_pages are op h =
+    exact t walk pa leaf op (load_ways t pa leaf op rows) p (data_is_ways t walk pa leaf op ForLoad LoadMisaligned (load_question op) (λ x p. true) p.fetched (load_is_data t walk pa op p.fetched h) pages rows has_pages are)

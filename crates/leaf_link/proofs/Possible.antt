@@ -16,6 +16,7 @@ use Rattle.sv_walk.specs.declared.entry.Kind.TheVariants.{Load as ForLoad, Store
 use Rattle.sv_walk.specs.Translation.{Reached, At, Fails, translated, arrived}
 use Rattle.sv_walk.specs.Entry.{access_cause}
 use Rattle.rv_isa.specs.Reading.{decoded}
+use Rattle.addr_rows.specs.Walks.{EntryRow, end_at, entry_answers}
 use Rattle.rv_hart.specs.Machine.{at_address, data_view, fetched_at, immediate_row, instruction, load_at, load_row, script, store_at, store_row}
 use Rattle.rv_hart.specs.Privileged.{csr_granted, csr_row, mret_row, trap}
 use Rattle.tpl_ast.specs.declared.template.Atom.{Atom}
@@ -33,7 +34,7 @@ use Rattle.leaf_link.specs.Candidates.{IsCandidate}
 use Rattle.leaf_link.specs.Cases.{Case, Fits, FitsCase, HasSources, cases_of}
 use Rattle.tpl_ast.specs.Leaves.{IsPlain}
 use Rattle.leaf_link.specs.KindLaws.{IsPosed}
-use Rattle.leaf_link.specs.Reaching.{AreRows, EntryRow, Walks, end_at, entry_answers}
+use Rattle.leaf_link.specs.Reaching.{AreRows, HasPages, Walks}
 use Rattle.leaf_link.specs.AllWays.{ways_of}
 use Rattle.leaf_link.specs.Witnesses.{HavePossible, IsBarePossible, bare_rows, busy_turn, csr_leaf, load_leaf, one_known, plain_leaf, return_leaf, store_leaf, trap_leaf}
 use Rattle.leaf_link.proofs.Both.{each_slot}
@@ -99,7 +100,7 @@ bare_walk : (kind : Kind) (ea first second : ℕ) → ea < 2 ^ 32 → answer_tol
 unfolding translated
 bare_walk kind ea first second less = ap (λ (r : Reached). Does [] r) (arrives kind ea less)
 
-bare_are_rows : (kind : Kind) → AreRows busy_turn kind bare_rows
+bare_are_rows : (kind : Kind) → AreRows busy_turn (λ ea. true) kind bare_rows
 bare_are_rows kind = record {
   sound = λ row i ea first second less h. elim i [
     | inl q ↦ (
@@ -109,7 +110,7 @@ bare_are_rows kind = record {
     )
     | inr j ↦ absurd j
   ];
-  complete = λ ea first second log end less w.
+  complete = λ ea first second log end less page w.
       let same = same_done [] log (At ea) end (sym (bare_walk kind ea first second less) ∙ w.plays) in
       let f : first ≡ 0 = w.first_is ∙ ap (λ (l : List Entry). new_value busy_turn.known (labelled l DataRoot)) (sym same.0) in
       let s : second ≡ 0 = w.second_is ∙ ap (λ (l : List Entry). new_value busy_turn.known (labelled l DataSecond)) (sym same.0) in
@@ -164,10 +165,10 @@ pub fits_by : (c : Case) (x : Values) → x slots.Op ≡ c.op → list_all (λ s
 fits_by c x op each holds = record { op = op; each = every_slot (λ s. c.doms s (x s)) each; holds = holds }
 
 -- what fits the cases of one operation is the values of a candidate
-pub candidate_of : (t : Turn) (walk : List Entry) (pa : ℕ) (leaf : List Atom) (loads stores : List EntryRow) → IsPosed t walk pa leaf → AreRows t ForLoad loads → AreRows t ForStore stores
+pub candidate_of : (t : Turn) (walk : List Entry) (pa : ℕ) (leaf : List Atom) (pages : ℕ → Bool) (loads stores : List EntryRow) → IsPosed t walk pa leaf → HasPages t leaf pages → AreRows t pages ForLoad loads → AreRows t pages ForStore stores
     → (op : Op) (x : Values) → Fits (cases_of t walk pa leaf op (ways_of t walk pa leaf loads stores op)) x → IsCandidate t leaf (new_places t.fixed t.known x)
-candidate_of t walk pa leaf loads stores posed l s op x f =
-    (leaf_problems_are_exact t walk pa leaf loads stores posed l s).into x (of_one t walk pa leaf (ways_of t walk pa leaf loads stores) OPS x op (every_op op) f)
+candidate_of t walk pa leaf pages loads stores posed h l s op x f =
+    (leaf_problems_are_exact t walk pa leaf pages loads stores posed h l s).into x (of_one t walk pa leaf (ways_of t walk pa leaf loads stores) OPS x op (every_op op) f)
 
 bare_possible : (leaf : List Atom) (op : Op) (x : Values) (place : Place) (v : ℕ) → all_in leaf ≡ true → HasSources busy_turn leaf
     → Fits (cases_of busy_turn [] 0x8000_0000 leaf op (ways_of busy_turn [] 0x8000_0000 leaf bare_rows bare_rows op)) x
@@ -178,7 +179,7 @@ bare_possible leaf op x place v h sources f untouched starts =
       posed = posed;
       sources = sources;
       new = new_places busy_turn.fixed busy_turn.known x;
-      candidate = candidate_of busy_turn [] 0x8000_0000 leaf bare_rows bare_rows posed (bare_are_rows ForLoad) (bare_are_rows ForStore) op x f;
+      candidate = candidate_of busy_turn [] 0x8000_0000 leaf (λ ea. true) bare_rows bare_rows posed (λ ea less tested. refl) (bare_are_rows ForLoad) (bare_are_rows ForStore) op x f;
       untouched = untouched;
       starts = starts;
     }

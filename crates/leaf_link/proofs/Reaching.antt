@@ -8,6 +8,7 @@ use Rattle.rv_script.specs.Folds.{Known, Teller, Answer, Answer.Does, Answer.Mis
 use Rattle.rv_script.proofs.Binds.{bound}
 use Rattle.sv_walk.specs.declared.entry.Kind.{Kind}
 use Rattle.sv_walk.specs.Translation.{Reached, translated, root_label, second_label}
+use Rattle.addr_rows.specs.Walks.{entry_answers}
 use Rattle.rv_hart.specs.Machine.{data_view}
 use Rattle.fd_prob.specs.declared.slot.Slot.TheVariants as slots
 use Rattle.rv_script.specs.Labels.{label_number, question_number}
@@ -15,7 +16,6 @@ use Rattle.rv_script.specs.Logs.{same_place, entry_place, entry_label, answer_to
 use Rattle.leaf_link.specs.Turns.{Turn}
 use Rattle.leaf_link.specs.Values.{Values, given_by}
 use Rattle.leaf_link.specs.Cases.{is_some_word}
-use Rattle.leaf_link.specs.Reaching.{entry_answers}
 use Rattle.rv_script.proofs.Plays.{no_label, numbers_within, play_same, same_is, same_refl, told}
 use Rattle.sv_walk.proofs.Orders.{translated_between}
 use Rattle.leaf_link.proofs.Front.{has_either, label_past, prefixed_done}

@@ -301,7 +301,7 @@ pub retires_ways : (t : Turn) (walk : List Entry) (pa : ℕ) (leaf : List Atom) 
 retires_ways t walk pa leaf op f plain all ends = record {
   does = λ x is ea way i w. let e : retires_when always ≡ way = in_one (retires_when always) way i in
       subst (λ (z : Way). DoesRest t walk pa leaf (shape_with op z.outcome z.reaches) x) e (retires_does t walk pa leaf op x f is plain (ends x is) always (subst (λ (z : Way). FitsWay z x) (sym e) w));
-  fits = λ x is ea outcome reaches d. let r = does_retire t walk pa leaf op x outcome reaches is plain (ends x is) d in
+  fits = λ x is ea outcome reaches d inside. let r = does_retire t walk pa leaf op x outcome reaches is plain (ends x is) d in
       record { way = retires_when always; is = inl refl; fits = record { each = r.each; holds = refl }; outcome_is = r.outcome_is; reaches_is = r.reaches_is };
   asks = λ x is way i w. let e : retires_when always ≡ way = in_one (retires_when always) way i in
       subst (λ (z : Way). AsksUsed t (shape_with op z.outcome z.reaches) x) e (asks_used t op x 255 false refl (all x is));
@@ -313,7 +313,7 @@ pub traps_ways : (t : Turn) (walk : List Entry) (pa : ℕ) (leaf : List Atom) (o
 traps_ways t walk pa leaf op cause f plain all ends = record {
   does = λ x is ea way i w. let e : traps_when t cause always ≡ way = in_one (traps_when t cause always) way i in
       subst (λ (z : Way). DoesRest t walk pa leaf (shape_with op z.outcome z.reaches) x) e (traps_does t walk pa leaf op x cause f is plain (ends x is) always (subst (λ (z : Way). FitsWay z x) (sym e) w));
-  fits = λ x is ea outcome reaches d. let r = does_trap t walk pa leaf op x cause outcome reaches is plain (ends x is) d in
+  fits = λ x is ea outcome reaches d inside. let r = does_trap t walk pa leaf op x cause outcome reaches is plain (ends x is) d in
       record { way = traps_when t cause always; is = inl refl; fits = record { each = r.each; holds = refl }; outcome_is = r.outcome_is; reaches_is = r.reaches_is };
   asks = λ x is way i w. let e : traps_when t cause always ≡ way = in_one (traps_when t cause always) way i in
       subst (λ (z : Way). AsksUsed t (shape_with op z.outcome z.reaches) x) e (all x is);
@@ -334,7 +334,7 @@ forks_ways t walk pa leaf op cause test f plain all apart ends fails = record {
         let v : FitsWay (traps_when t cause (λ y. not (test y))) x = subst (λ (z : Way). FitsWay z x) (sym e) w in
         subst (λ (z : Way). DoesRest t walk pa leaf (shape_with op z.outcome z.reaches) x) e (traps_does t walk pa leaf op x cause f is plain (fails x is (not_true (test x) v.holds)) (λ y. not (test y)) v)
   ];
-  fits = λ x is ea outcome reaches d. elim (cases_Bool (test x)) [
+  fits = λ x is ea outcome reaches d inside. elim (cases_Bool (test x)) [
     | inl y ↦ let r = does_retire t walk pa leaf op x outcome reaches is plain (ends x is y) d in
         record { way = retires_when test; is = inl refl; fits = record { each = r.each; holds = y }; outcome_is = r.outcome_is; reaches_is = r.reaches_is }
     | inr n ↦ let r = does_trap t walk pa leaf op x cause outcome reaches is plain (fails x is n) d in

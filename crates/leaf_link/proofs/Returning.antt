@@ -180,7 +180,7 @@ return_is_ways t walk pa leaf op addr f all asks ends = record {
   does = λ x is ea way i w. let e : ends_when (λ y. is_old t addr (y slots.OldCsr)) ≡ way = in_one _ way i in
       let v : FitsWay (ends_when (λ y. is_old t addr (y slots.OldCsr))) x = subst (λ (z : Way). FitsWay z x) (sym e) w in
       subst (λ (z : Way). DoesRest t walk pa leaf (shape_with op z.outcome z.reaches) x) e (old_does t walk pa leaf op x addr f (asks x is) (ends x is) v.each v.holds);
-  fits = λ x is ea outcome reaches d. let r = does_old t walk pa leaf op x addr outcome reaches (asks x is) (ends x is) d in
+  fits = λ x is ea outcome reaches d inside. let r = does_old t walk pa leaf op x addr outcome reaches (asks x is) (ends x is) d in
       record { way = ends_when (λ y. is_old t addr (y slots.OldCsr)); is = inl refl; fits = record { each = r.each; holds = r.old_is }; outcome_is = r.outcome_is; reaches_is = r.reaches_is };
   asks = λ x is way i w. let e : ends_when (λ y. is_old t addr (y slots.OldCsr)) ≡ way = in_one _ way i in
       subst (λ (z : Way). AsksUsed t (shape_with op z.outcome z.reaches) x) e (all x is);

@@ -242,6 +242,7 @@ store_is_data t walk pa op f h = record {
   place = λ x p. refl;
   free = λ x p v. refl;
   access = λ x p v. (_, refl, refl, refl);
+  addressed = (store_has (row_of op) h).0;
   no_operand = (store_has (row_of op) h).1;
   asks = all_asked t op (store_has (row_of op) h).1;
   cause = refl;
@@ -281,5 +282,5 @@ store_is_data t walk pa op f h = record {
 }
 
 pub stores_are_exact : StoresAreExact
-stores_are_exact t walk pa leaf rows p are op h =
-    exact t walk pa leaf op (store_ways t walk pa leaf op rows) p (data_is_ways t walk pa leaf op ForStore StoreMisaligned (store_question op) (store_apart t walk pa op) p.fetched (store_is_data t walk pa op p.fetched h) rows are)
+stores_are_exact t walk pa leaf pages rows p has_pages are op h =
+    exact t walk pa leaf op (store_ways t walk pa leaf op rows) p (data_is_ways t walk pa leaf op ForStore StoreMisaligned (store_question op) (store_apart t walk pa op) p.fetched (store_is_data t walk pa op p.fetched h) pages rows has_pages are)

@@ -8,6 +8,7 @@ use Rattle.rv_isa.specs.declared.operation.Op.{Op}
 use Rattle.rv_isa.specs.declared.operation.TheConstants.{OPS}
 use Rattle.rv_script.specs.Folds.{Entry}
 use Rattle.rv_script.specs.Lists.{HasItem}
+use Rattle.addr_rows.specs.Walks.{EntryRow}
 use Rattle.tpl_ast.specs.declared.template.Atom.{Atom}
 use Rattle.tpl_ast.specs.declared.template.Var.TheVariants as vars
 use Rattle.fd_prob.specs.declared.problem.Assignment.{Assignment}
@@ -27,7 +28,6 @@ use Rattle.leaf_link.specs.Candidates.{IsCandidate}
 use Rattle.leaf_link.specs.Cases.{Fits, all_tests, code_at, in_word}
 use Rattle.leaf_link.specs.Answers.{ComesBeforeIn}
 use Rattle.leaf_link.specs.Problems.{key_of}
-use Rattle.leaf_link.specs.Reaching.{EntryRow}
 use Rattle.leaf_link.specs.AllWays.{leaf_cases, ways_of}
 use Rattle.leaf_link.specs.Firsts.{AreFirsts, FirstsHoldNothing, HasDraws, HoldNothing, Precedes, TurnAnswersAreExact, first_domain, in_first_word, is_allowed, leaf_pivot, leaf_space, with_cases}
 use Rattle.leaf_link.proofs.Numbers.{op_back}
@@ -102,8 +102,8 @@ before_from t pa leaf draws p x y has firsts allowed number b =
     before_by p x y s b.1 (subst (λ (n : ℕ). rank n (x s) < rank n (y s)) (sym pivot) b.2)
 
 pub turn_answers_are_exact : TurnAnswersAreExact
-turn_answers_are_exact t walk pa leaf loads stores draws p nodes answer posed l s is a =
-    let law = leaf_problems_are_exact t walk pa leaf loads stores posed l s in
+turn_answers_are_exact t walk pa leaf pages loads stores draws p nodes answer posed h l s is a =
+    let law = leaf_problems_are_exact t walk pa leaf pages loads stores posed h l s in
     answers_moved (space p) (leaf_space t pa leaf) nodes (ComesBeforeIn p) (Precedes t pa leaf draws) (IsCandidate t leaf) (key_of t leaf) (new_places t.fixed t.known) answer
     (space_is_exact t pa leaf p is.no_fetch is.pairs is.firsts)
     (λ one v two w before.
@@ -111,4 +111,4 @@ turn_answers_are_exact t walk pa leaf loads stores draws p nodes answer posed l 
     let fit : Fits (leaf_cases t walk pa leaf loads stores) (key_of t leaf one v) = subst (λ (z : Values). Fits (leaf_cases t walk pa leaf loads stores) z) (fun_ext o.3) o.1 in
     before_from t pa leaf draws p (key_of t leaf one v) (key_of t leaf two w) is.draws_are is.firsts (fitting_allowed t walk pa leaf loads stores (key_of t leaf one v) fit)
     (number_back t walk pa leaf loads stores (key_of t leaf one v) fit) before)
-    (leaf_answers_are_exact t walk pa leaf loads stores p nodes answer posed l s is.cases a)
+    (leaf_answers_are_exact t walk pa leaf pages loads stores p nodes answer posed h l s is.cases a)

@@ -22,6 +22,7 @@ use Rattle.sv_walk.specs.declared.entry.Kind.TheVariants.{Fetch as ForFetch, Loa
 use Rattle.sv_walk.specs.declared.entry.View.{View}
 use Rattle.sv_walk.specs.Entry.{access_cause, is_closed, page_cause}
 use Rattle.sv_walk.specs.Translation.{Reached, At, Fails, arrived, translated, from_pointer, from_root, root_address, root_label, second_address, second_end, second_label}
+use Rattle.addr_rows.specs.Walks.{EntryRow, end_at, entry_answers}
 use Rattle.rv_hart.specs.Machine.{at_address, data_view, fetch_view, fetched_at, instruction, load_at, load_row, script}
 use Rattle.rv_hart.specs.Privileged.{trap}
 use Rattle.fd_prob.specs.Relations.{op_numbered}
@@ -29,7 +30,7 @@ use Rattle.fd_prob.specs.declared.slot.Slot.TheVariants as slots
 use Rattle.leaf_link.specs.Turns.{in_frames, is_second_form, may_start}
 use Rattle.leaf_link.specs.Values.{Values, fixed_value, given_by, new_places, op_number}
 use Rattle.leaf_link.specs.KindLaws.{IsPosed}
-use Rattle.leaf_link.specs.Reaching.{AreRows, EntryRow, Walks, end_at, entry_answers}
+use Rattle.leaf_link.specs.Reaching.{AreRows, Walks}
 use Rattle.leaf_link.specs.Fetches.{fetch_places, fetch_script}
 use Rattle.leaf_link.specs.FetchRows.{AreFetchRows, FetchRow, FetchWalks, entry_values}
 use Rattle.leaf_link.specs.Witnesses.{IsPossible, load_leaf}
@@ -262,7 +263,7 @@ page_walks kind ea first second is_data less f s =
     new_is true e = ap (λ (c : Bool). if c then 0 else page) (sym e)
     new_is false e = s
 
-pages_are_rows : (kind : Kind) → root_label kind ≡ DataRoot → AreRows load_turn kind page_rows
+pages_are_rows : (kind : Kind) → root_label kind ≡ DataRoot → AreRows load_turn (λ ea. true) kind page_rows
 pages_are_rows kind is_data = record {
   sound = λ row i ea first second less h. elim i [
     | inl q ↦
@@ -273,7 +274,7 @@ pages_are_rows kind is_data = record {
         )
     | inr j ↦ absurd j
   ];
-  complete = λ ea first second log end less w.
+  complete = λ ea first second log end less page_is w.
       let given : Label → ℕ = entry_answers first second in
       let same = same_done (walked kind given ea) log _ end (sym (walk_is kind given ea less) ∙ w.plays) in
       let f : first ≡ 0 = w.first_is ∙ ap (λ (l : List Entry). new_value paged_known (labelled l DataRoot)) (sym same.0) ∙ first_new kind given ea less is_data in
@@ -304,7 +305,7 @@ load_possible = record {
   posed = posed;
   sources = λ v. refl;
   new = new_places load_turn.fixed load_turn.known load_values;
-  candidate = candidate_of load_turn load_fetch 0x8000_0000 (load_leaf 1) page_rows page_rows posed (pages_are_rows ForLoad refl) (pages_are_rows ForStore refl) Lw load_values (inl (fits_by _ _ refl refl refl));
+  candidate = candidate_of load_turn load_fetch 0x8000_0000 (load_leaf 1) (λ ea. true) page_rows page_rows posed (λ ea less tested. refl) (pages_are_rows ForLoad refl) (pages_are_rows ForStore refl) Lw load_values (inl (fits_by _ _ refl refl refl));
   untouched = refl;
   starts = refl;
 }

@@ -1,10 +1,11 @@
 -- The ways of every operation, and the problem that a leaf poses.
-use Rattle.std.specs.Prelude.{ℕ, List}
+use Rattle.std.specs.Prelude.{ℕ, Bool, List}
 use Rattle.rv_isa.specs.declared.operation.Op.{Op}
 use Rattle.rv_isa.specs.declared.operation.Op.TheVariants.{Jal, Jalr, Beq, Bne, Blt, Bge, Bltu, Bgeu, Lb, Lh, Lw, Lbu, Lhu, Sb, Sh, Sw, Ecall, Ebreak, Csrrw, Csrrs, Csrrc, Csrrwi, Csrrsi, Csrrci, Mret, Sret, SfenceVma, Illegal}
 use Rattle.rv_csr.specs.declared.cause.Cause.TheVariants.{FetchMisaligned, Illegal as IllegalCause, Breakpoint}
 use Rattle.rv_script.specs.Folds.{Entry}
 use Rattle.sv_walk.specs.declared.entry.Kind.TheVariants.{Load as ForLoad, Store as ForStore}
+use Rattle.addr_rows.specs.Walks.{EntryRow}
 use Rattle.rv_hart.specs.Privileged.{call_cause}
 use Rattle.tpl_ast.specs.declared.template.Atom.{Atom}
 use Rattle.fd_prob.specs.declared.problem.Problem.{Problem}
@@ -17,7 +18,7 @@ use Rattle.leaf_link.specs.Cases.{Case, Fits, Way}
 use Rattle.leaf_link.specs.Kinds.{branch_goes, far_is_target, forks, near_is_target, retires, traps}
 use Rattle.leaf_link.specs.KindLaws.{IsPosed, fence_ways}
 use Rattle.leaf_link.specs.Laws.{OneToOne}
-use Rattle.leaf_link.specs.Reaching.{AreRows, EntryRow, load_ways, store_ways}
+use Rattle.leaf_link.specs.Reaching.{AreRows, HasPages, load_ways, store_ways}
 use Rattle.leaf_link.specs.Controls.{csr_ways, mret_ways, sret_ways}
 use Rattle.leaf_link.specs.Answers.{IsProblemOf}
 use Rattle.leaf_link.specs.Problems.{IsAnswerOverCandidates, cases}
@@ -61,11 +62,11 @@ leaf_cases t walk pa leaf loads stores = cases t walk pa leaf (ways_of t walk pa
 -- what fits a leaf's problem stands one to one for the candidates, and each is the values of its candidate
 abbrev pub LeafProblemsAreExact : Type 0
 LeafProblemsAreExact =
-    (t : Turn) (walk : List Entry) (pa : ℕ) (leaf : List Atom) (loads stores : List EntryRow) → IsPosed t walk pa leaf → AreRows t ForLoad loads → AreRows t ForStore stores
+    (t : Turn) (walk : List Entry) (pa : ℕ) (leaf : List Atom) (pages : ℕ → Bool) (loads stores : List EntryRow) → IsPosed t walk pa leaf → HasPages t leaf pages → AreRows t pages ForLoad loads → AreRows t pages ForStore stores
     → OneToOne (Fits (leaf_cases t walk pa leaf loads stores)) (IsCandidate t leaf) (new_places t.fixed t.known) (λ new w. assigned t.fixed t.known w.instr w.log)
 
 -- an answer of a leaf's problem is the answer over candidates
 abbrev pub LeafAnswersAreExact : Type 0
 LeafAnswersAreExact =
-    (t : Turn) (walk : List Entry) (pa : ℕ) (leaf : List Atom) (loads stores : List EntryRow) (p : Problem) (nodes : ℕ) (answer : Solved) → IsPosed t walk pa leaf → AreRows t ForLoad loads → AreRows t ForStore stores
+    (t : Turn) (walk : List Entry) (pa : ℕ) (leaf : List Atom) (pages : ℕ → Bool) (loads stores : List EntryRow) (p : Problem) (nodes : ℕ) (answer : Solved) → IsPosed t walk pa leaf → HasPages t leaf pages → AreRows t pages ForLoad loads → AreRows t pages ForStore stores
     → IsProblemOf p (leaf_cases t walk pa leaf loads stores) → IsAnswer p nodes answer → IsAnswerOverCandidates p nodes t leaf answer

@@ -3,6 +3,7 @@ use Rattle.std.specs.Prelude.{◌≡◌, ℕ, ◌<◌, ◌≤◌, ◌↔◌, tru
 use Rattle.rv_script.specs.Folds.{Known}
 use Rattle.fd_prob.specs.declared.problem.Assignment.{Assignment}
 use Rattle.fd_prob.specs.declared.problem.Problem.{Problem}
+use Rattle.fd_prob.specs.declared.slot.Slot.{Slot}
 use Rattle.fd_prob.specs.declared.slot.Slot.TheVariants as slots
 use Rattle.fd_prob.specs.Fitting.{fits}
 use Rattle.fd_prob.specs.Order.{ComesBefore, IsAssignment}
@@ -29,13 +30,14 @@ pub record IsProblemOf (p : Problem) (cs : List Case) : Type 0 where
 abbrev pub ComesBeforeIn : Problem → Values → Values → Type 0
 ComesBeforeIn p x y = ComesBefore p (assignment_of x) (assignment_of y)
 
--- wanted places, and no others that are wanted have values that come before theirs
-pub record IsLeastOf (Before : Values → Values → Type 0) (Wanted : Known → Type 0) (values : (new : Known) → Wanted new → Values) (new : Known) : Type 0 where
+-- values are those of wanted places, and no others that are wanted have values that come before them
+pub record IsLeastOf (Before : Values → Values → Type 0) (Wanted : Known → Type 0) (values : (new : Known) → Wanted new → Values) (new : Known) (x : Values) : Type 0 where
   pub is : Wanted new
+  pub are_values : (s : Slot) → x s ≡ values new is s
   pub least : (other : Known) (w : Wanted other) → Before (values other w) (values new is) → ⊥
 
--- the answer under a budget: that it is spent where the space exceeds it, and else the least places that are wanted, or that there are none
+-- the answer under a budget: that it is spent where the space exceeds it, and else the values of the least places that are wanted, or that there are none
 abbrev pub IsAnswerOver : ℕ → ℕ → (Values → Values → Type 0) → (Wanted : Known → Type 0) → ((new : Known) → Wanted new → Values) → (Values → Known) → Solved → Type 0
-IsAnswerOver space nodes Before Wanted values places (answers.Found x) = (space ≤ nodes) × IsLeastOf Before Wanted values (places (values_in x))
+IsAnswerOver space nodes Before Wanted values places (answers.Found x) = (space ≤ nodes) × IsLeastOf Before Wanted values (places (values_in x)) (values_in x)
 IsAnswerOver space nodes Before Wanted values places answers.NoneFits = (space ≤ nodes) × ((new : Known) → Wanted new → ⊥)
 IsAnswerOver space nodes Before Wanted values places answers.Spent = nodes < space

@@ -4,6 +4,7 @@ use Rattle.rv_script.specs.Folds.{Known, Entry}
 use Rattle.rv_script.specs.Script.{Label.DataRoot, Label.DataSecond, Label.FromVector}
 use Rattle.rv_script.specs.Logs.{entry_place, labelled}
 use Rattle.sv_walk.specs.declared.entry.Kind.TheVariants.{Load as ForLoad, Store as ForStore}
+use Rattle.addr_rows.specs.Walks.{EntryRow}
 use Rattle.tpl_ast.specs.declared.template.Atom.{Atom}
 use Rattle.fd_prob.specs.declared.slot.Slot.{Slot}
 use Rattle.fd_prob.specs.declared.slot.Slot.TheVariants as slots
@@ -12,7 +13,7 @@ use Rattle.leaf_link.specs.Candidates.{IsCandidate}
 use Rattle.leaf_link.specs.Cases.{is_some_word}
 use Rattle.leaf_link.specs.KindLaws.{IsPosed}
 use Rattle.leaf_link.specs.Problems.{key_of}
-use Rattle.leaf_link.specs.Reaching.{AreRows, EntryRow}
+use Rattle.leaf_link.specs.Reaching.{AreRows, HasPages}
 use Rattle.leaf_link.specs.Firsts.{first_domain}
 
 -- a question was asked whose place was not known
@@ -33,5 +34,5 @@ is_bounded t log _ = true
 -- each has a value in its domain, cut by the atoms
 abbrev pub CandidatesAreInDomains : Type 0
 CandidatesAreInDomains =
-    (t : Turn) (walk : List Entry) (pa : ℕ) (leaf : List Atom) (loads stores : List EntryRow) → IsPosed t walk pa leaf → AreRows t ForLoad loads → AreRows t ForStore stores
+    (t : Turn) (walk : List Entry) (pa : ℕ) (leaf : List Atom) (pages : ℕ → Bool) (loads stores : List EntryRow) → IsPosed t walk pa leaf → HasPages t leaf pages → AreRows t pages ForLoad loads → AreRows t pages ForStore stores
     → (new : Known) (w : IsCandidate t leaf new) (s : Slot) → is_bounded t w.log s ≡ true → first_domain t pa leaf w.instr.op s (key_of t leaf new w s) ≡ true

@@ -6,6 +6,7 @@ use Rattle.rv_isa.specs.declared.operation.Op.{Op}
 use Rattle.rv_script.specs.Lists.{HasItem}
 use Rattle.rv_script.specs.Folds.{Answer, Answer.Does, Answer.Missing, Answer.Nowhere, Entry}
 use Rattle.sv_walk.specs.declared.entry.Kind.TheVariants.{Load as ForLoad, Store as ForStore}
+use Rattle.addr_rows.specs.Walks.{EntryRow}
 use Rattle.rv_hart.specs.declared.record.Change.{Change}
 use Rattle.rv_hart.specs.Machine.{script}
 use Rattle.tpl_ast.specs.declared.template.Atom.{Atom}
@@ -35,7 +36,7 @@ use Rattle.tpl_ast.specs.Leaves.{IsPlain}
 use Rattle.leaf_link.specs.KindLaws.{IsPosed}
 use Rattle.leaf_link.specs.Answers.{values_in}
 use Rattle.leaf_link.specs.Problems.{FitsPosed, MeetsBias, bias_cut}
-use Rattle.leaf_link.specs.Reaching.{AreRows, EntryRow}
+use Rattle.leaf_link.specs.Reaching.{AreRows, HasPages}
 use Rattle.leaf_link.specs.Firsts.{IsPosedProblem, IsTurnAnswer}
 
 abbrev pub ArePlain : List Atom → Type 0
@@ -111,8 +112,8 @@ ArePosedExtras t (bias ∷ biases) p [] = ⊥
 -- the problem with an Extra is the problem of the leaf with the bias, its first cases too
 abbrev pub ExtrasAreBiases : Type 0
 ExtrasAreBiases =
-    (t : Turn) (walk : List Entry) (pa : ℕ) (leaf bias : List Atom) (loads stores : List EntryRow) (draws : List ℕ) (p : Problem) (e : Extra)
-    → IsPosed t walk pa leaf → ArePlain bias → AreRows t ForLoad loads → AreRows t ForStore stores
+    (t : Turn) (walk : List Entry) (pa : ℕ) (leaf bias : List Atom) (pages : ℕ → Bool) (loads stores : List EntryRow) (draws : List ℕ) (p : Problem) (e : Extra)
+    → IsPosed t walk pa leaf → ArePlain bias → HasPages t leaf pages → AreRows t pages ForLoad loads → AreRows t pages ForStore stores
     → IsPosedProblem t walk pa leaf loads stores draws p → IsExtraOf t bias e p → IsPosedProblem t walk pa (leaf ++ bias) loads stores draws (extended e p)
 
 -- what is its atoms stays so, whatever was kept before
@@ -144,7 +145,7 @@ IsTurnLeafAnswer t pa leaf biases draws nodes answer =
 -- a solver's answer with biases is the answer over candidates
 abbrev pub BiasesAreKept : Type 0
 BiasesAreKept =
-    (t : Turn) (walk : List Entry) (pa : ℕ) (leaf : List Atom) (biases : List (List Atom)) (loads stores : List EntryRow) (draws : List ℕ) (p : Problem) (es : List Extra) (nodes : ℕ) (answer : LeafAnswer)
-    → IsPosed t walk pa leaf → AllPlain biases → AreRows t ForLoad loads → AreRows t ForStore stores
+    (t : Turn) (walk : List Entry) (pa : ℕ) (leaf : List Atom) (biases : List (List Atom)) (pages : ℕ → Bool) (loads stores : List EntryRow) (draws : List ℕ) (p : Problem) (es : List Extra) (nodes : ℕ) (answer : LeafAnswer)
+    → IsPosed t walk pa leaf → AllPlain biases → HasPages t leaf pages → AreRows t pages ForLoad loads → AreRows t pages ForStore stores
     → IsPosedProblem t walk pa leaf loads stores draws p → ArePosedExtras t biases p es
     → IsLeafAnswer p es nodes answer → IsTurnLeafAnswer t pa leaf biases draws nodes answer

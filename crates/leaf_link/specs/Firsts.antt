@@ -15,6 +15,7 @@ use Rattle.rv_script.specs.Folds.{Entry}
 use Rattle.sv_walk.specs.declared.entry.Kind.TheVariants.{Load as ForLoad, Store as ForStore}
 use Rattle.sv_walk.specs.declared.entry.View.{View}
 use Rattle.sv_walk.specs.Translation.{is_translated}
+use Rattle.addr_rows.specs.Walks.{EntryRow}
 use Rattle.rv_hart.specs.Machine.{data_view}
 use Rattle.tpl_ast.specs.declared.template.Atom.{Atom}
 use Rattle.tpl_ast.specs.declared.template.Var.TheVariants as vars
@@ -39,7 +40,7 @@ use Rattle.leaf_link.specs.Cases.{Case, all_tests, code_at, in_format, in_read, 
 use Rattle.leaf_link.specs.KindLaws.{IsPosed}
 use Rattle.leaf_link.specs.Answers.{IsAnswerOver, IsProblemOf}
 use Rattle.leaf_link.specs.Problems.{key_of}
-use Rattle.leaf_link.specs.Reaching.{AreRows, EntryRow}
+use Rattle.leaf_link.specs.Reaching.{AreRows, HasPages}
 use Rattle.leaf_link.specs.AllWays.{leaf_cases}
 
 -- DOMAINS
@@ -232,7 +233,7 @@ IsTurnAnswer t pa leaf draws nodes answer = IsAnswerOver (leaf_space t pa leaf) 
 -- an answer of the problem of a leaf is the answer of the turn
 abbrev pub TurnAnswersAreExact : Type 0
 TurnAnswersAreExact =
-    (t : Turn) (walk : List Entry) (pa : ℕ) (leaf : List Atom) (loads stores : List EntryRow) (draws : List ℕ) (p : Problem) (nodes : ℕ) (answer : Solved) → IsPosed t walk pa leaf → AreRows t ForLoad loads → AreRows t ForStore stores
+    (t : Turn) (walk : List Entry) (pa : ℕ) (leaf : List Atom) (pages : ℕ → Bool) (loads stores : List EntryRow) (draws : List ℕ) (p : Problem) (nodes : ℕ) (answer : Solved) → IsPosed t walk pa leaf → HasPages t leaf pages → AreRows t pages ForLoad loads → AreRows t pages ForStore stores
     → IsPosedProblem t walk pa leaf loads stores draws p → IsAnswer p nodes answer → IsTurnAnswer t pa leaf draws nodes answer
 
 -- A PROBLEM WITH THESE FIRST CASES

@@ -24,3 +24,4 @@ pub mod FaultRows
 pub mod FetchAnswers
 pub mod WalkWitnesses
 pub mod Domains
+pub mod Served

@@ -13,11 +13,12 @@ use Rattle.rv_script.specs.declared.place.Place.{Place}
 use Rattle.rv_script.specs.declared.place.Place.TheVariants.{Word}
 use Rattle.rv_script.specs.Bytes.{covers, word_address}
 use Rattle.rv_script.specs.Lists.{HasItem}
-use Rattle.rv_script.specs.Script.{Label, Label.DataRoot, Label.DataSecond, Label.DataWord, Question, Question.OfMemory, Question.ToMemory}
+use Rattle.rv_script.specs.Script.{Label.DataRoot, Label.DataSecond, Label.DataWord, Question, Question.OfMemory, Question.ToMemory}
 use Rattle.rv_script.specs.Folds.{Answer.Does, Entry}
 use Rattle.sv_walk.specs.declared.entry.Kind.{Kind}
 use Rattle.sv_walk.specs.declared.entry.Kind.TheVariants.{Load as ForLoad, Store as ForStore}
-use Rattle.sv_walk.specs.Translation.{Reached, At, Fails, translated}
+use Rattle.sv_walk.specs.Translation.{Reached, translated}
+use Rattle.addr_rows.specs.Walks.{EntryRow, Faults, Leads, RowEnd, end_at, entry_answers}
 use Rattle.rv_hart.specs.Machine.{data_view, size_of}
 use Rattle.tpl_ast.specs.declared.template.Atom.{Atom}
 use Rattle.tpl_ast.specs.declared.template.Var.TheVariants as vars
@@ -33,12 +34,6 @@ use Rattle.leaf_link.specs.KindLaws.{IsExact, IsPosed}
 
 -- WHAT IS KNOWN OF PAGE TABLES: THE ROWS
 
--- the answers to the two questions of a data access's translation
-abbrev pub entry_answers : ℕ → ℕ → Label → ℕ
-entry_answers first second DataRoot = first
-entry_answers first second DataSecond = second
-entry_answers first second _ = 0
-
 -- with these new entries, 0 where one is not new, the translation of an address is done; the new entries are of the forms, in table frames and distinct
 pub record Walks (t : Turn) (kind : Kind) (ea first second : ℕ) (log : List Entry) (end : Reached) : Type 0 where
   pub plays : answer_told (by_answers t.known (entry_answers first second)) (translated t.fixed.ram (data_view t.fixed) kind ea) ≡ Does log end
@@ -47,24 +42,14 @@ pub record Walks (t : Turn) (kind : Kind) (ea first second : ℕ) (log : List En
   pub first_is : first ≡ new_value t.known (labelled log DataRoot)
   pub second_is : second ≡ new_value t.known (labelled log DataSecond)
 
--- where a row leads: to an address by the virtual one, or to a fault
-pub data RowEnd : Type 0 where
-  Leads : (ℕ → ℕ) → RowEnd
-  Faults : Cause → RowEnd
-
-abbrev pub end_at : RowEnd → ℕ → Reached
-end_at (Leads to) ea = At (to ea)
-end_at (Faults cause) ea = Fails cause
-
--- some addresses with new entries, and where they lead
-pub record EntryRow : Type 0 where
-  pub holds : ℕ → ℕ → ℕ → Bool
-  pub end : RowEnd
-
--- each address with new entries of the forms is in a row, with the end that the translation has; a row holds nothing else
-pub record AreRows (t : Turn) (kind : Kind) (rows : List EntryRow) : Type 0 where
+-- each address of some pages with new entries of the forms is in a row, with the end that the translation has; a row holds nothing else
+pub record AreRows (t : Turn) (pages : ℕ → Bool) (kind : Kind) (rows : List EntryRow) : Type 0 where
   pub sound : (row : EntryRow) → HasItem rows row → (ea first second : ℕ) → ea < 2 ^ 32 → row.holds ea first second ≡ true → (log : List Entry) × Walks t kind ea first second log (end_at row.end ea)
-  pub complete : (ea first second : ℕ) (log : List Entry) (end : Reached) → ea < 2 ^ 32 → Walks t kind ea first second log end → (row : EntryRow) × HasItem rows row × (row.holds ea first second ≡ true) × (end_at row.end ea ≡ end)
+  pub complete : (ea first second : ℕ) (log : List Entry) (end : Reached) → ea < 2 ^ 32 → pages ea ≡ true → Walks t kind ea first second log end → (row : EntryRow) × HasItem rows row × (row.holds ea first second ≡ true) × (end_at row.end ea ≡ end)
+
+-- the pages have every address that the atoms let the virtual one be
+abbrev pub HasPages : Turn → List Atom → (ℕ → Bool) → Type 0
+HasPages t leaf pages = (ea : ℕ) → ea < 2 ^ 32 → all_tests t leaf vars.Ea ea ≡ true → pages ea ≡ true
 
 -- WAYS
 
@@ -146,7 +131,9 @@ abbrev pub load_ways : Turn → ℕ → List Atom → Op → List EntryRow → L
 load_ways t pa leaf op rows = data_ways t pa leaf op ForLoad LoadMisaligned (load_question op) (λ x p. true) rows
 
 abbrev pub LoadsAreExact : Type 0
-LoadsAreExact = (t : Turn) (walk : List Entry) (pa : ℕ) (leaf : List Atom) (rows : List EntryRow) → IsPosed t walk pa leaf → AreRows t ForLoad rows → (op : Op) → is_load (row_of op) ≡ true → IsExact t walk pa leaf op (load_ways t pa leaf op rows)
+LoadsAreExact =
+    (t : Turn) (walk : List Entry) (pa : ℕ) (leaf : List Atom) (pages : ℕ → Bool) (rows : List EntryRow) → IsPosed t walk pa leaf → HasPages t leaf pages → AreRows t pages ForLoad rows
+    → (op : Op) → is_load (row_of op) ≡ true → IsExact t walk pa leaf op (load_ways t pa leaf op rows)
 
 -- STORES
 abbrev pub store_question : Op → Values → ℕ → Question
@@ -165,4 +152,6 @@ abbrev pub store_ways : Turn → List Entry → ℕ → List Atom → Op → Lis
 store_ways t walk pa leaf op rows = data_ways t pa leaf op ForStore StoreMisaligned (store_question op) (store_apart t walk pa op) rows
 
 abbrev pub StoresAreExact : Type 0
-StoresAreExact = (t : Turn) (walk : List Entry) (pa : ℕ) (leaf : List Atom) (rows : List EntryRow) → IsPosed t walk pa leaf → AreRows t ForStore rows → (op : Op) → is_store (row_of op) ≡ true → IsExact t walk pa leaf op (store_ways t walk pa leaf op rows)
+StoresAreExact =
+    (t : Turn) (walk : List Entry) (pa : ℕ) (leaf : List Atom) (pages : ℕ → Bool) (rows : List EntryRow) → IsPosed t walk pa leaf → HasPages t leaf pages → AreRows t pages ForStore rows
+    → (op : Op) → is_store (row_of op) ≡ true → IsExact t walk pa leaf op (store_ways t walk pa leaf op rows)

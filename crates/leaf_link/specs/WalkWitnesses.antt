@@ -8,8 +8,9 @@ use Rattle.rv_script.specs.Script.{Label.FetchRoot, Label.FetchSecond, Question.
 use Rattle.rv_script.specs.Folds.{Known, Entry}
 use Rattle.sv_walk.specs.declared.entry.Kind.TheVariants.{Load as ForLoad, Store as ForStore}
 use Rattle.sv_walk.specs.Translation.{At, Fails}
+use Rattle.addr_rows.specs.Walks.{EntryRow, Leads}
 use Rattle.leaf_link.specs.Turns.{Turn}
-use Rattle.leaf_link.specs.Reaching.{AreRows, EntryRow, Leads}
+use Rattle.leaf_link.specs.Reaching.{AreRows}
 use Rattle.leaf_link.specs.Fetches.{IsFetchCandidate}
 use Rattle.leaf_link.specs.FetchRows.{AreFetchRows, FetchRow}
 use Rattle.leaf_link.specs.Faults.{IsFaultCandidate}
@@ -92,8 +93,8 @@ pub record IsFaultPossible : Type 0 where
   pub vector : new (Csr 0x305) ≡ Some 0x8000_0200
 
 pub record HaveWalks : Type 0 where
-  pub loads : AreRows load_turn ForLoad page_rows
-  pub stores : AreRows load_turn ForStore page_rows
+  pub loads : AreRows load_turn (λ ea. true) ForLoad page_rows
+  pub stores : AreRows load_turn (λ ea. true) ForStore page_rows
   -- the second entry of the address in x1
   pub load : IsPossible load_turn load_fetch 0x8000_0000 (load_leaf 1) (Word 0x8000_2004) page
   pub fetches : AreFetchRows fetch_turn fetch_page_rows

@@ -25,7 +25,7 @@ use Rattle.rv_script.specs.Logs.{entry_place, entry_label, answer_told, labelled
 use Rattle.leaf_link.specs.Turns.{Turn, may_start, is_free_entry}
 use Rattle.leaf_link.specs.Values.{Values, instr_in, has_address, address_if, given_by, old_csr}
 use Rattle.leaf_link.specs.Candidates.{accesses_in}
-use Rattle.leaf_link.specs.Cases.{Shape, Way, uses_rs1, uses_rs2, all_tests, fetch_entry}
+use Rattle.leaf_link.specs.Cases.{Shape, Way, uses_address, uses_rs1, uses_rs2, all_tests, fetch_entry}
 use Rattle.rv_hart.specs.Rests.{asks_rs1, rest}
 
 -- the translation of the fetch is settled: it asks for known entries alone, and leads to a physical address; the pc is a multiple of 4
@@ -99,7 +99,12 @@ pub record HasWay (op : Op) (ways : List Way) (x : Values) (outcome : ℕ) (reac
   pub outcome_is : way.outcome ≡ outcome
   pub reaches_is : way.reaches ≡ reaches
 
+-- where it uses an address, the atoms let it be the virtual one
+abbrev pub IsAddressed : Turn → List Atom → Shape → Values → Type 0
+IsAddressed t leaf s x = uses_address s ≡ true → all_tests t leaf vars.Ea (x slots.Ea) ≡ true
+
+-- the ways are what the rest of an operation does, where the atoms let its address be the virtual one
 pub record IsWays (t : Turn) (walk : List Entry) (pa : ℕ) (leaf : List Atom) (op : Op) (ways : List Way) : Type 0 where
   pub does : (x : Values) → IsOf op x → HasAddress op x → (way : Way) → HasItem ways way → FitsWay way x → DoesRest t walk pa leaf (shape_with op way.outcome way.reaches) x
-  pub fits : (x : Values) → IsOf op x → HasAddress op x → (outcome : ℕ) (reaches : Bool) → DoesRest t walk pa leaf (shape_with op outcome reaches) x → HasWay op ways x outcome reaches
+  pub fits : (x : Values) → IsOf op x → HasAddress op x → (outcome : ℕ) (reaches : Bool) → DoesRest t walk pa leaf (shape_with op outcome reaches) x → IsAddressed t leaf (shape_with op outcome reaches) x → HasWay op ways x outcome reaches
   pub asks : (x : Values) → IsOf op x → (way : Way) → HasItem ways way → FitsWay way x → AsksUsed t (shape_with op way.outcome way.reaches) x

@@ -7,6 +7,7 @@ use Rattle.rv_script.specs.declared.place.Place.{Place}
 use Rattle.rv_script.specs.declared.place.Place.TheVariants.{Reg, Csr, Word}
 use Rattle.rv_script.specs.Folds.{Known, Entry}
 use Rattle.sv_walk.specs.declared.entry.Kind.TheVariants.{Load as ForLoad, Store as ForStore}
+use Rattle.addr_rows.specs.Walks.{EntryRow, Leads}
 use Rattle.tpl_ast.specs.declared.template.Atom.{Atom}
 use Rattle.tpl_ast.specs.declared.template.Atom.TheVariants as atoms
 use Rattle.tpl_ast.specs.declared.template.Var.TheVariants as vars
@@ -15,7 +16,7 @@ use Rattle.leaf_link.specs.Values.{op_number}
 use Rattle.leaf_link.specs.Candidates.{IsCandidate}
 use Rattle.leaf_link.specs.Cases.{HasSources}
 use Rattle.leaf_link.specs.KindLaws.{IsPosed}
-use Rattle.leaf_link.specs.Reaching.{AreRows, EntryRow, Leads}
+use Rattle.leaf_link.specs.Reaching.{AreRows}
 
 -- x1 holds an address in the pool
 abbrev pub one_known : Known
@@ -80,8 +81,8 @@ abbrev pub IsBarePossible : List Atom → Place → ℕ → Type 0
 IsBarePossible leaf place v = IsPossible busy_turn [] 0x8000_0000 leaf place v
 
 pub record HavePossible : Type 0 where
-  pub loads : AreRows busy_turn ForLoad bare_rows
-  pub stores : AreRows busy_turn ForStore bare_rows
+  pub loads : AreRows busy_turn (λ ea. true) ForLoad bare_rows
+  pub stores : AreRows busy_turn (λ ea. true) ForStore bare_rows
   -- the word at the pc, addi x5, x0, 7
   pub plain : IsBarePossible plain_leaf (Word 0x8000_0000) 0x0070_0293
   -- the data word, x2, and the word of a store

@@ -6,8 +6,8 @@ ghost use Rattle.leaf_link.specs.Problems.{AnswersAreExact, ProblemIsExact};
 ghost use Rattle.leaf_link.specs.Started.{OrderIsKept};
 
 /// Does nothing. Its contract says that what fits the problem of a leaf stands one to one for the candidates, and
-/// that an answer of the problem is the answer over candidates: that the budget is spent, the least candidate, or
-/// that there is none.
+/// that an answer of the problem is the answer over candidates: that the budget is spent, the values of the least
+/// candidate, or that there is none.
 pub fn problems_are_exact()
     ensures problem { ProblemIsExact }
     ensures answers { AnswersAreExact }
@@ -15,7 +15,7 @@ pub fn problems_are_exact()
 
 /// Does nothing. Its contract says that the problem of a leaf, over all operations, is exact: what fits it stands
 /// one to one for the candidates, and its answer is the answer over candidates. Of page tables it takes that the
-/// rows are those of the translation.
+/// rows are those of the translation, for all addresses that the atoms let be the virtual one.
 pub fn leaf_problems_are_exact()
     ensures problems { LeafProblemsAreExact }
     ensures answers { LeafAnswersAreExact }

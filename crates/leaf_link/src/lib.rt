@@ -8,6 +8,7 @@ mod bias_laws;
 mod fetch_laws;
 mod leaf_laws;
 mod operation_laws;
+mod row_laws;
 mod truth_laws;
 mod witness_laws;
 
@@ -21,5 +22,6 @@ pub use leaf_laws::{
     problems_are_exact, spaces_are_exact, turn_answers_are_exact,
 };
 pub use operation_laws::{accesses_are_exact, operations_are_exact, ways_are_exact};
+pub use row_laws::rows_serve_leaves;
 pub use truth_laws::{leaves_are_true, met_atoms_are_true};
 pub use witness_laws::{leaves_are_possible, walks_are_possible};

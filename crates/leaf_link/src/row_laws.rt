@@ -1,0 +1,12 @@
+// That the rows of addresses are those of leaves.
+ghost use Rattle.leaf_link.specs.Served.{EntriesAreLet, FetchRowsServe, LoadRowsServe, StoreRowsServe};
+
+/// Does nothing. Its contract says that the rows of some pages' addresses, where they are what the translation's script
+/// does with the entries that a turn may start, are the rows of a leaf's loads, of its stores and of its fetch; and that
+/// the turn lets just the forms be entries.
+pub fn rows_serve_leaves()
+    ensures entries { EntriesAreLet }
+    ensures loads { LoadRowsServe }
+    ensures stores { StoreRowsServe }
+    ensures fetches { FetchRowsServe }
+{}
