@@ -8,14 +8,14 @@ use Rattle.rv_script.specs.Lists.{HasItem}
 use Rattle.rv_script.specs.Script.{Label}
 use Rattle.rv_script.specs.Folds.{Known, Entry}
 use Rattle.sv_walk.specs.Translation.{Reached, At, Fails, arrived, is_translated}
-use Rattle.addr_rows.specs.declared.row.Row.{Row}
-use Rattle.addr_rows.specs.declared.row.RowEnd.{RowEnd as CodeEnd}
-use Rattle.addr_rows.specs.declared.row.RowEnd.TheVariants.{Pa, Fault, Outside}
-use Rattle.addr_rows.specs.Rows.{End, Reaches, Leaves, is_of, when, found, has, ends_in, end_at as code_end}
+use Rattle.row_parts.specs.declared.row.Row.{Row}
+use Rattle.row_parts.specs.declared.row.RowEnd.{RowEnd as CodeEnd}
+use Rattle.row_parts.specs.declared.row.RowEnd.TheVariants.{Pa, Fault, Outside}
+use Rattle.row_parts.specs.Rows.{End, Reaches, Leaves, is_of, when, found, has, ends_in, end_at as code_end, Adds}
 use Rattle.rv_mem.specs.declared.words.Seen.TheVariants.{Known as KnownWord, Untouched, Vacant}
 use Rattle.sv_walk.specs.Entry.{is_closed, is_invalid, is_pointer, is_reserved, is_unaligned, page_number}
-use Rattle.addr_rows.specs.Classes.{entry_at}
-use Rattle.addr_rows.specs.Combinations.{Setting, is_table, is_own_entry, root_frame, no, second_reaches, access_fault, page_fault, at_second, pointed, rooted, at_root, ways, Adds}
+use Rattle.row_parts.specs.Classes.{entry_at}
+use Rattle.addr_rows.specs.Combinations.{Setting, is_table, is_own_entry, root_frame, no, second_reaches, access_fault, page_fault, at_second, pointed, rooted, at_root, ways}
 use Rattle.addr_rows.specs.Walks.{LetsEntries, AreWordForms, Shows, Walks, EntryRow, RowEnd, Leads, Faults, end_at, AreRows, value_of, has_value, row_holds, entry_row, entry_rows}
 use Rattle.addr_rows.proofs.Walking.{both_true, true_both, from_script, from_ways}
 

@@ -1,22 +1,13 @@
 -- New entries, as the ends that the definitions give.
-use Rattle.std.proofs.Common.{◌≡◌, ℕ, ◌/◌, ◌^◌, ◌<◌, ◌≤◌, Bool, true, false, not, ◌&&◌, List, [], ◌∷◌, ◌++◌, Option, Some, None, length, drop, refl, sym, ap, ◌∙◌, arith}
+use Rattle.std.proofs.Common.{◌≡◌, ℕ, ◌/◌, ◌^◌, ◌<◌, Bool, true, false, not, ◌&&◌, List, [], ◌∷◌, Option, Some, None, refl, sym, ap, ◌∙◌, arith}
 use Rattle.rv_mem.specs.declared.words.Seen.{Seen}
 use Rattle.rv_mem.specs.declared.words.Seen.TheVariants.{Untouched}
-use Rattle.dom_set.specs.Counting.{one}
-use Rattle.addr_rows.specs.Classes.{same, any_seen, entry_at, has_class, is_kind, TableOf, EachOnce}
-use Rattle.addr_rows.specs.Rows.{End, when}
+use Rattle.row_parts.specs.Classes.{same, entry_at, has_class, has_index, is_kind, TableOf}
+use Rattle.row_parts.specs.Rows.{End, when}
 use Rattle.addr_rows.specs.Combinations.{Setting, at_root, at_second, is_table, root_frame, rooted, second_reaches}
-use Rattle.addr_rows.specs.Items.{by_items, by_kind}
-use Rattle.addr_rows.specs.Alike.{by_word}
-use Rattle.addr_rows.proofs.Items.{done, kind_one}
-use Rattle.addr_rows.proofs.SeenOnce.{same_self}
-use Rattle.std.proofs.lemmas.List.Folds.{list_any_at}
-use Rattle.std.proofs.lemmas.Option.{get_or_from_slice_get}
-
--- the end of a loop over items
-pub finished : {X : Type 0} (test : X → Bool) (f : X → List End) (xs : List X) (i : ℕ) (b : Bool) (old new : List End) → length xs ≤ i
-    → new ++ when b (by_items test (drop i xs) f) ≡ old ++ when b (by_items test xs f) → new ≡ old ++ when b (by_items test xs f)
-finished test f xs i b old new le h = done test f xs i b new le ∙ h
+use Rattle.row_parts.specs.Items.{by_kind, GivesEach}
+use Rattle.row_parts.specs.declared.alike.Group.{Group}
+use Rattle.row_parts.specs.Alike.{by_groups, by_word}
 
 -- new second entries, by the word that is given
 pub seconds : (st : Setting) (x : ℕ) (leaf : Option ℕ) → by_word st.second leaf (λ w. second_reaches st x w ∷ []) ≡ at_second st true x Untouched leaf
@@ -34,6 +25,18 @@ roots at st x (Some w) leaf may = more (is_table st.tables (root_frame st.view))
     more : (b c : Bool) (es : List End) → b ≡ true → when c es ≡ when (b && c) es
     more true c es h = refl
     more false c es h = absurd (cc h)
+
+-- groups of new root entries give the ends of the word that is given
+pub root_groups : (at : ℕ → Seen) (st : Setting) (gs : List Group) (first end x : ℕ) (root leaf : Option ℕ) (set : Bool)
+    → by_groups gs root (λ w. when (has_index first end x) (rooted at st true w x leaf)) ≡ by_word st.first root (λ w. when (has_index first end x) (rooted at st true w x leaf))
+    → (set ≡ true → has_index first end x ≡ true) → is_table st.tables (root_frame st.view) ≡ true
+    → when (set && true) (by_groups gs root (λ w. rooted at st true w x leaf)) ≡ when set (at_root at st x Untouched root leaf)
+root_groups at st gs first end x root leaf false ends there may = refl
+root_groups at st gs first end x root leaf true ends there may =
+    ap (λ (b : Bool). by_groups gs root (λ w. when b (rooted at st true w x leaf))) (sym (there refl))
+    ∙ ends
+    ∙ ap (λ (b : Bool). by_word st.first root (λ w. when b (rooted at st true w x leaf))) (there refl)
+    ∙ roots at st x root leaf may
 
 -- where the second entry would be the new root entry, none is new
 pub apart_second : (st : Setting) (x : ℕ) (leaf : Option ℕ) (apart set word equal : Bool) → apart ≡ (set && not equal)
@@ -69,15 +72,10 @@ not_own true true equal h = absurd (cc h)
 not_own true false equal h = refl
 not_own false frame equal h = refl
 
-listed : (at : ℕ → Seen) (frame : ℕ) (table : List Seen) (i : ℕ) → TableOf at frame table → i < 1024 → any_seen table (entry_at at frame i) ≡ true
-listed at frame table i is small =
-    let s : Seen = entry_at at frame i in
-    list_any_at (λ k. same k s) table i s (omega (arith, is.size, small)) (ap (λ (k : Seen). same k s) (get_or_from_slice_get table i s s (is.entries i small)) ∙ same_self s)
-
 -- the kinds that a table has give the ends of the entry
-pub kinds_end : (at : ℕ → Seen) (frame : ℕ) (table kinds : List Seen) (i : ℕ) (f : Seen → List End) → TableOf at frame table → i < 1024 → EachOnce table kinds
+pub kinds_end : (at : ℕ → Seen) (frame : ℕ) (table kinds : List Seen) (i : ℕ) (f : Seen → List End) → TableOf at frame table → i < 1024 → GivesEach table kinds
     → by_kind kinds (entry_at at frame i) f ≡ f (entry_at at frame i)
-kinds_end at frame table kinds i f is small once = kind_one kinds (entry_at at frame i) f (once (entry_at at frame i) ∙ ap one (listed at frame table i is small))
+kinds_end at frame table kinds i f is small each = each i (entry_at at frame i) f (is.entries i small)
 
 top : (x : ℕ) → x < 2 ^ 32 → x / 2 ^ 22 < 1024
 top x small = omega (arith, small)
@@ -86,7 +84,7 @@ with_true : (b : Bool) (es : List End) → when (b && true) es ≡ when b es
 with_true true es = refl
 with_true false es = refl
 
-pub root_end : (at : ℕ → Seen) (frame : ℕ) (table kinds : List Seen) (x : ℕ) (f : Seen → List End) (set : Bool) → x < 2 ^ 32 → TableOf at frame table → EachOnce table kinds
+pub root_end : (at : ℕ → Seen) (frame : ℕ) (table kinds : List Seen) (x : ℕ) (f : Seen → List End) (set : Bool) → x < 2 ^ 32 → TableOf at frame table → GivesEach table kinds
     → when (set && true) (by_kind kinds (entry_at at frame (x / 2 ^ 22)) f) ≡ when set (f (entry_at at frame (x / 2 ^ 22)))
-root_end at frame table kinds x f set small is once =
-    with_true set (by_kind kinds (entry_at at frame (x / 2 ^ 22)) f) ∙ ap (λ (es : List End). when set es) (kinds_end at frame table kinds (x / 2 ^ 22) f is (top x small) once)
+root_end at frame table kinds x f set small is each =
+    with_true set (by_kind kinds (entry_at at frame (x / 2 ^ 22)) f) ∙ ap (λ (es : List End). when set es) (kinds_end at frame table kinds (x / 2 ^ 22) f is (top x small) each)

@@ -3,10 +3,10 @@ use Rattle.std.proofs.Common.{◌≡◌, ℕ, ◌+◌, ◌*◌, ◌/◌, ◌%◌
 use Rattle.std.proofs.lemmas.List.{append-nil}
 use Rattle.dom_set.specs.Elements.{is_in}
 use Rattle.rv_mem.specs.declared.words.Seen.{Seen}
-use Rattle.addr_rows.specs.Classes.{has_class}
+use Rattle.row_parts.specs.Classes.{has_class}
 use Rattle.sv_walk.specs.declared.entry.Kind.{Kind}
 use Rattle.sv_walk.specs.Translation.{arrived}
-use Rattle.addr_rows.specs.Rows.{End, Reaches, when, found}
+use Rattle.row_parts.specs.Rows.{End, Reaches, when, found}
 
 pub grouped : (a b c : Bool) (e : End) → found (a && (b && c)) e ≡ when (a && b) (found c e)
 grouped true true c e = refl

@@ -1,16 +1,6 @@
-pub mod Members
-pub mod Cuts
-pub mod EndLists
-pub mod Regions
-pub mod Indices
-pub mod Lists
-pub mod SeenOnce
-pub mod Reaching
 pub mod Groups
-pub mod Between
-pub mod Items
+pub mod Loops
 pub mod Fresh
-pub mod Sharing
 pub mod Leading
 pub mod OnePage
 pub mod Settings

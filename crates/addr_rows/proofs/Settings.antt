@@ -1,5 +1,5 @@
 -- The setting of a call is that of what the code keeps.
-use Rattle.std.proofs.Common.{◌≡◌, ◌==◌, ℕ, ◌+◌, Bool, true, false, ◌||◌, List, [], ◌∷◌, refl, sym, ap, ◌∙◌, arith}
+use Rattle.std.proofs.Common.{◌≡◌, ◌==◌, ℕ, ◌+◌, ◌≤◌, Bool, true, false, ◌||◌, List, [], ◌∷◌, refl, sym, ap, ◌∙◌, arith}
 use Rattle.std.specs.List.{list_any}
 use Rattle.std.proofs.Math.Path.{fun_ext}
 use Rattle.rv_mem.specs.Ram.{in_ram}
@@ -7,11 +7,15 @@ use Rattle.dom_set.specs.Counting.{one}
 use Rattle.dom_set.specs.Elements.{is_in}
 use Rattle.sv_walk.specs.declared.entry.Kind.{Kind}
 use Rattle.sv_walk.specs.declared.entry.View.{View}
-use Rattle.addr_rows.specs.Times.{times_by}
-use Rattle.addr_rows.specs.Forms.{IsOnce}
-use Rattle.addr_rows.specs.declared.alike.Group.{Group}
-use Rattle.addr_rows.specs.Alike.{times_held, is_held}
+use Rattle.row_parts.specs.Times.{times_by}
+use Rattle.row_parts.specs.Forms.{IsOnce}
+use Rattle.row_parts.specs.declared.alike.Group.{Group}
+use Rattle.row_parts.specs.Alike.{times_held, is_held}
 use Rattle.addr_rows.specs.Combinations.{Setting}
+
+pub at_most_one : (b : Bool) (n : ℕ) → n ≡ one b → n ≤ 1
+at_most_one true n h = omega (arith, h)
+at_most_one false n h = omega (arith, h)
 
 by_count : (b c : Bool) (n : ℕ) (d : Bool) → one b + n ≡ one d → (n ≡ one false → c ≡ false) → (n ≡ one true → c ≡ true) → (b || c) ≡ d
 by_count true c n true h none some = refl

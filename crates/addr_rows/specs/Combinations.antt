@@ -1,5 +1,5 @@
 -- Where an address leads with new page table entries.
-use Rattle.std.specs.Prelude.{◌≡◌, ℕ, ◌+◌, ◌*◌, ◌/◌, ◌%◌, ◌^◌, ◌<◌, ◌==◌, if◌then◌else◌, Bool, true, false, not, ◌&&◌, ◌||◌, List, [], ◌++◌, Option, Some, None}
+use Rattle.std.specs.Prelude.{ℕ, ◌+◌, ◌*◌, ◌/◌, ◌%◌, ◌^◌, ◌==◌, if◌then◌else◌, Bool, true, false, not, ◌&&◌, ◌||◌, List, [], Option, Some, None}
 use Rattle.std.specs.List.{list_any}
 use Rattle.rv_mem.specs.declared.words.Seen.{Seen}
 use Rattle.rv_mem.specs.declared.words.Seen.TheVariants.{Known, Untouched, Vacant}
@@ -7,9 +7,9 @@ use Rattle.sv_walk.specs.declared.entry.Kind.{Kind}
 use Rattle.sv_walk.specs.declared.entry.View.{View}
 use Rattle.sv_walk.specs.Entry.{page_number, is_invalid, is_pointer, is_reserved, is_unaligned, is_closed, page_cause, access_cause}
 use Rattle.sv_walk.specs.Translation.{Fails, arrived, second_end, is_translated}
-use Rattle.addr_rows.specs.Classes.{entry_at}
-use Rattle.addr_rows.specs.declared.row.Row.{Row}
-use Rattle.addr_rows.specs.Rows.{End, Reaches, Leaves, is_of, when, found, ends_in}
+use Rattle.row_parts.specs.Classes.{entry_at}
+use Rattle.row_parts.specs.Gaps.{are_indices_equal}
+use Rattle.row_parts.specs.Rows.{End, Reaches, Leaves, is_of, when, found}
 
 -- what a translation depends on beside memory, and what new entries may be
 pub record Setting : Type 0 where
@@ -30,10 +30,6 @@ is_table tables frame = list_any (λ t. t / 4096 == frame) tables
 
 abbrev pub root_frame : View → ℕ
 root_frame v = v.satp % 2 ^ 22
-
--- the index in the root table, bits 31:22, is that in the second one, bits 21:12
-abbrev pub are_indices_equal : ℕ → Bool
-are_indices_equal x = x / 2 ^ 22 == x / 2 ^ 12 % 2 ^ 10
 
 -- the second entry of an address is the word that its new root entry is
 abbrev pub is_own_entry : Setting → Bool → ℕ → ℕ → Bool
@@ -79,7 +75,3 @@ unfoldable pub ways : (ℕ → Seen) → Setting → ℕ → Option ℕ → Opti
 ways at st x root leaf =
     if is_translated st.view then at_root at st x (entry_at at (root_frame st.view) (x / 2 ^ 22)) root leaf
     else found (no root && no leaf) (Reaches (arrived st.ram st.kind x))
-
--- rows were appended that have just these ends
-abbrev pub Adds : List Row → List Row → (ℕ → Option ℕ → Option ℕ → List End) → Type 0
-Adds old new group = (x : ℕ) (root leaf : Option ℕ) → x < 2 ^ 32 → ends_in new x root leaf ≡ ends_in old x root leaf ++ group x root leaf

@@ -1,13 +1,4 @@
-pub mod Times
-pub mod Blocks
-pub mod Classes
-pub mod Forms
-pub mod Rows
-pub mod Items
-pub mod Alike
-pub mod Targets
 pub mod Combinations
 pub mod Scenes
-pub mod Gaps
 pub mod Walks
 pub mod Laws

@@ -13,9 +13,9 @@ use Rattle.rv_script.specs.Bytes.{word_address}
 use Rattle.rv_script.specs.Folds.{Known, Answer.Does, Answer.Nowhere, Entry}
 use Rattle.sv_walk.specs.Translation.{Reached, At, Fails, translated, root_address, root_label, second_label}
 use Rattle.dom_set.specs.Elements.{is_in}
-use Rattle.addr_rows.specs.declared.row.Row.{Row}
-use Rattle.addr_rows.specs.declared.row.RowEnd.{RowEnd as CodeEnd}
-use Rattle.addr_rows.specs.declared.row.RowEnd.TheVariants.{Pa, Fault, Outside}
+use Rattle.row_parts.specs.declared.row.Row.{Row}
+use Rattle.row_parts.specs.declared.row.RowEnd.{RowEnd as CodeEnd}
+use Rattle.row_parts.specs.declared.row.RowEnd.TheVariants.{Pa, Fault, Outside}
 use Rattle.addr_rows.specs.Combinations.{Setting}
 use Rattle.rv_script.specs.Logs.{entry_place, entry_label, answer_told, labelled, by_answers, where_unknown, new_value, Coherent}
 

@@ -3,24 +3,13 @@
 //! translation then ends. Each address with such a choice is in exactly one row.
 #![tactic(auto)]
 
-mod alike;
-mod blocks;
-mod classes;
-mod forms;
 mod laws;
 mod making;
-mod off_diagonal;
-mod pages;
-mod ram_part;
 mod root_entries;
-mod row;
 mod scene;
 mod second_entries;
-mod splitting;
-mod target;
 
 pub use dom_set::OutOfMemory;
-pub use forms::Forms;
 pub use laws::rows_are_walks;
 pub use making::rows;
-pub use row::{Row, RowEnd};
+pub use row_parts::{Forms, Row, RowEnd};

@@ -5,24 +5,20 @@ ghost use Rattle.rv_mem.specs.Ram.{in_ram};
 ghost use Rattle.rv_mem.specs.Seen.{is_there};
 ghost use Rattle.sv_walk.specs.Translation.{is_translated};
 ghost use Rattle.rv_mem.specs.declared.words.Seen.TheVariants.{Untouched};
-ghost use Rattle.addr_rows.specs.Alike.{by_groups, by_word};
-ghost use Rattle.addr_rows.specs.Classes.{entry_at, same, TableOf};
-ghost use Rattle.addr_rows.specs.Items.{by_kind};
-ghost use Rattle.addr_rows.specs.Rows.{end_at, ends_in, found, is_of, when};
-ghost use Rattle.addr_rows.specs.Combinations.{Adds, at_root, at_second, is_own_entry, is_table, pointed, root_frame, rooted, second_reaches, ways};
-ghost use Rattle.addr_rows.specs.Scenes.{setting_of, setting_with, AreKept, is_some};
+ghost use Rattle.row_parts.specs.Alike.{by_groups, by_word};
+ghost use Rattle.row_parts.specs.Classes.{entry_at, same, TableOf};
+ghost use Rattle.row_parts.specs.Items.{by_kind};
+ghost use Rattle.row_parts.specs.Rows.{Adds, end_at, ends_in, found, is_of, when};
+ghost use Rattle.addr_rows.specs.Combinations.{at_root, at_second, is_own_entry, is_table, root_frame, rooted, second_reaches, ways};
+ghost use Rattle.addr_rows.specs.Scenes.{setting_of, setting_with, AreKept, AddsPointed, AddsTranslated, is_some};
 
-use crate::alike::{Group, grouped};
-use crate::blocks::chosen;
-use crate::classes::{ClassPart, Level, kinds_of, table_in, word_at};
-use crate::forms::Forms;
-use crate::off_diagonal::off_diagonal;
-use crate::pages::{indices_of, page_of};
 use crate::root_entries::RootEntries;
-use crate::row::{News, Row, RowEnd, copy_of, is_empty};
 use crate::scene::Scene;
-use crate::splitting::{push_all, push_reached};
 use dom_set::{OutOfMemory, Set};
+use row_parts::{
+    ClassPart, Forms, Group, Level, News, Row, RowEnd, chosen, copy_of, grouped, indices_of,
+    is_empty, kinds_of, off_diagonal, page_of, push_all, push_reached, table_in, word_at,
+};
 use rv_csr::Priv;
 use rv_mem::{Ram, Seen, Words};
 use std::alloc::Global;
@@ -230,7 +226,7 @@ impl Scene {
     ) -> Result<(), OutOfMemory>
         requires kept { AreKept self.now }
         requires frame { frame < 2 ^ 22 }
-        ensures { OnOk result (Adds rows.old.items rows.new.items (λ x root leaf. when (is_in set.now x && is_of own.now root) (pointed (M.at m.now) (setting_of self.now) (is_some own.now) frame x leaf))) }
+        ensures { OnOk result (AddsPointed (M.at m.now) self.now rows.old.items rows.new.items set.now own.now frame) }
     {
         let table = table_in(alloc, m, frame)?;
         let kinds = kinds_of(alloc, &table)?;
@@ -251,7 +247,7 @@ impl Scene {
     ) -> Result<(), OutOfMemory>
         requires kept { AreKept self.now }
         requires frame { frame < 2 ^ 22 }
-        ensures { OnOk result (Adds rows.old.items rows.new.items (λ x root leaf. when (is_in set.now x && is_of own.now root) (pointed (M.at m.now) (setting_of self.now) (is_some own.now) frame x leaf))) }
+        ensures { OnOk result (AddsPointed (M.at m.now) self.now rows.old.items rows.new.items set.now own.now frame) }
     {
         match page_of(alloc, set)? {
             Some(page) => {
@@ -466,7 +462,7 @@ impl Scene {
         set: &Set,
     ) -> Result<(), OutOfMemory>
         requires { AreKept self.now }
-        ensures { OnOk result (Adds rows.old.items rows.new.items (λ x root leaf. when (is_in set.now x) (at_root (M.at m.now) (setting_of self.now) x (entry_at (M.at m.now) (root_frame self.now.view) (x / 2 ^ 22)) root leaf))) }
+        ensures { OnOk result (AddsTranslated (M.at m.now) self.now rows.old.items rows.new.items set.now) }
     {
         let table = table_in(alloc, m, self.root_frame())?;
         let kinds = kinds_of(alloc, &table)?;
@@ -483,7 +479,7 @@ impl Scene {
         set: &Set,
     ) -> Result<(), OutOfMemory>
         requires { AreKept self.now }
-        ensures { OnOk result (Adds rows.old.items rows.new.items (λ x root leaf. when (is_in set.now x) (at_root (M.at m.now) (setting_of self.now) x (entry_at (M.at m.now) (root_frame self.now.view) (x / 2 ^ 22)) root leaf))) }
+        ensures { OnOk result (AddsTranslated (M.at m.now) self.now rows.old.items rows.new.items set.now) }
     {
         match page_of(alloc, set)? {
             Some(page) => {

@@ -1,14 +1,11 @@
 // What new root entries lead to.
 ghost use Rattle.std.specs.Prelude.{◌≡◌, ℕ, ◌<◌, ◌≤◌, true, Option};
-ghost use Rattle.addr_rows.specs.Classes.{entry_at, has_index};
+ghost use Rattle.row_parts.specs.Classes.{entry_at, has_index};
 ghost use Rattle.addr_rows.specs.Combinations.{pointed};
 ghost use Rattle.addr_rows.specs.Scenes.{setting_of};
 
-use crate::alike::Entries;
-use crate::classes::{is_same, word_at};
-use crate::pages::Indices;
 use crate::scene::Scene;
-use crate::target::{Target, is_same_target, root_target};
+use row_parts::{Entries, Indices, Target, is_same, is_same_target, root_target, word_at};
 use rv_mem::Words;
 
 /// New root entries of addresses that have these indices in their second tables, with what their ends
@@ -55,8 +52,8 @@ impl<'a, M: Words> RootEntries<'a, M> {
 
 impl<'a, M: Words> Entries for RootEntries<'a, M> {
     ghost use Rattle.std.specs.Prelude.{true};
-    ghost use Rattle.addr_rows.specs.Classes.{has_index};
-    ghost use Rattle.addr_rows.specs.Rows.{when};
+    ghost use Rattle.row_parts.specs.Classes.{has_index};
+    ghost use Rattle.row_parts.specs.Rows.{when};
     ghost use Rattle.addr_rows.specs.Combinations.{rooted};
     ghost use Rattle.addr_rows.specs.Scenes.{setting_of};
 

@@ -3,10 +3,9 @@ ghost use Rattle.std.specs.Prelude.{◌≡◌, ◌==◌, ℕ, ◌≤◌, IfOk};
 ghost use Rattle.addr_rows.specs.Combinations.{is_table, root_frame};
 ghost use Rattle.addr_rows.specs.Scenes.{setting_of, setting_with, AreKept};
 
-use crate::alike::{Group, grouped};
-use crate::forms::Forms;
 use crate::second_entries::SecondEntries;
 use dom_set::OutOfMemory;
+use row_parts::{Forms, Group, grouped};
 use rv_mem::Ram;
 use std::alloc::Global;
 use sv_walk::{Kind, View};

@@ -1,6 +1,5 @@
 // What new second entries lead to.
-use crate::alike::Entries;
-use crate::target::{is_same_target, second_target};
+use row_parts::{Entries, is_same_target, second_target};
 use rv_mem::Ram;
 use sv_walk::{Kind, View};
 
@@ -16,7 +15,7 @@ impl<'a> Entries for SecondEntries<'a> {
     ghost use Rattle.std.specs.Prelude.{[], ◌∷◌};
     ghost use Rattle.rv_mem.specs.Ram.{in_ram};
     ghost use Rattle.sv_walk.specs.Translation.{second_end};
-    ghost use Rattle.addr_rows.specs.Rows.{Reaches};
+    ghost use Rattle.row_parts.specs.Rows.{Reaches};
 
     ghost ends = { λ s w x leaf. Reaches (second_end (in_ram s.ram.now) s.view s.kind x w) ∷ [] };
 

@@ -12,3 +12,6 @@ pub mod Halving
 pub mod Masks
 pub mod Raising
 pub mod Ends
+pub mod Pages
+pub mod Walks
+pub mod Lasts

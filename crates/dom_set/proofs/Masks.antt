@@ -125,7 +125,7 @@ turned_bits b k =
       other d (inr some) = rw some refl
 
 -- the numbers' bits under a mask with the bit, and with those below it
-and_above : (x d m k : ℕ) → m < 2 ^ k → bit_and x (d * 2 ^ k + m) ≡ bit_and (x / 2 ^ k) d * 2 ^ k + bit_and (x % 2 ^ k) m
+pub and_above : (x d m k : ℕ) → m < 2 ^ k → bit_and x (d * 2 ^ k + m) ≡ bit_and (x / 2 ^ k) d * 2 ^ k + bit_and (x % 2 ^ k) m
 and_above x d m k lt =
     ap (λ (n : ℕ). bit_and n (d * 2 ^ k + m)) (sym (shr_split x k)) ∙ and_block k (x / 2 ^ k) d (x % 2 ^ k) m (mod_below x (2 ^ k) (pow_pos k)) lt
 

@@ -40,7 +40,7 @@ joined_is s low high low' high' x pos l h ordered after touching = same_tests _ 
     ])
 
 -- a number below the first is not held
-below_first : (p : Piece) (x : ℕ) → x < p.low → in_piece p x ≡ false
+pub below_first : (p : Piece) (x : ℕ) → x < p.low → in_piece p x ≡ false
 unfolding in_piece
 below_first p x lt = false_from_ne_true _ (λ h. let t = passes (matches p.pattern) p.low p.high x h in omega (arith, t.above))
 

@@ -12,13 +12,13 @@ use Rattle.std.proofs.lemmas.Map.Keys.{sorted_from_strictly_increasing}
 use Rattle.dom_set.specs.declared.piece.Piece.{Piece}
 use Rattle.dom_set.specs.Elements.{elements_of, is_in, first_cyclic, is_signed_lt}
 use Rattle.dom_set.specs.Counting.{one, total}
-use Rattle.dom_set.specs.Pieces.{holds, times, IsApart, IsFirstFrom}
+use Rattle.dom_set.specs.Pieces.{holds, HasPage, times, IsApart, IsFirstFrom}
 use Rattle.dom_set.proofs.Totals.{total_same}
 use Rattle.dom_set.proofs.Members.{members, members_same, filter_both, is_in-members, is_in-Contains, Contains-is_in, length-members, slice_get-members, first_is_found, find_none, find_first, members_ascend, members_below}
 use Rattle.dom_set.proofs.Ascending.{same_members}
 use Rattle.dom_set.proofs.Times.{holds_is, holds_once, times_is, times_past}
 
-elements_is : (t : ℕ → Bool) → elements_of t ≡ members t (2 ^ 32)
+pub elements_is : (t : ℕ → Bool) → elements_of t ≡ members t (2 ^ 32)
 unfolding elements_of
 elements_is t = refl
 
@@ -70,17 +70,20 @@ found t from v lt is =
 none_found : (t : ℕ → Bool) (from : ℕ) → IsFirstFrom t from None → find (leb from) (elements_of t) ≡ None
 none_found t from none = ap (find (leb from)) (elements_is t) ∙ find_none (leb from) t (2 ^ 32) (λ x lt h. none x (leb-true from x h))
 
-held_word : (ps : List Piece) (v : ℕ) → holds ps v ≡ true → v < 2 ^ 32
+pub held_word : (ps : List Piece) (v : ℕ) → holds ps v ≡ true → v < 2 ^ 32
 held_word ps v h = elim (cases_lt v (2 ^ 32)) [
   | inl lt ↦ lt
   | inr past ↦ absurd (false≢true (sym (holds_is ps v ∙ ap (ltb 0) (times_past ps v past)) ∙ h))
 ]
 
+pub page_in : (ps : List Piece) (q : ℕ) → HasPage (holds ps) q → HasPage (is_in (elements_of (holds ps))) q
+page_in ps q (y, h, e) = (y, is_in-elements (holds ps) y (held_word ps y h) ∙ h, e)
+
 pub cyclic_here : (ps : List Piece) (pivot v : ℕ) → IsFirstFrom (holds ps) pivot (Some v) → Some v ≡ first_cyclic (elements_of (holds ps)) pivot
 cyclic_here ps pivot v is =
     sym (ap (λ (o : Option ℕ). option_or o (slice_get (elements_of (holds ps)) 0)) (found (holds ps) pivot v (held_word ps v is.0) is))
 
-first_of_all : (ps : List Piece) (o : Option ℕ) → IsFirstFrom (holds ps) 0 o → slice_get (elements_of (holds ps)) 0 ≡ o
+pub first_of_all : (ps : List Piece) (o : Option ℕ) → IsFirstFrom (holds ps) 0 o → slice_get (elements_of (holds ps)) 0 ≡ o
 first_of_all ps None is = first_is_found (elements_of (holds ps)) ∙ none_found (holds ps) 0 is
 first_of_all ps (Some v) is = first_is_found (elements_of (holds ps)) ∙ found (holds ps) 0 v (held_word ps v is.0) is
 
@@ -152,6 +155,9 @@ clip_is ps out from end u h same = filter_is (holds ps) u (holds out) (λ x lt.
 
 pub below_same : (x y : ℕ) → ltb y x ≡ (leb 0 y && ltb y x)
 below_same x y = ap (λ (b : Bool). b && ltb y x) (sym (le-leb 0 y (omega arith)))
+
+pub from_same : (x y : ℕ) → y < 2 ^ 32 → leb x y ≡ (leb x y && ltb y (2 ^ 32))
+from_same x y lt = grind (arith, nat_tests)
 
 as_pos : (n : ℕ) → n < 2 ^ 31 → cast_signed w32 n ≡ pos n
 as_pos n lt = to_z_pos w32 n lt

@@ -1,5 +1,5 @@
 -- Ranges of numbers of which those count that match a pattern, and lists of such pieces.
-use Rattle.std.specs.Prelude.{◌≡◌, ℕ, ◌+◌, ◌-◌, ◌%◌, ◌^◌, ◌<◌, ◌≤◌, Bool, true, false, ◌&&◌, nat_le, min, List, [], ◌∷◌, Option, Some, None, MatchOption}
+use Rattle.std.specs.Prelude.{◌≡◌, ℕ, ◌+◌, ◌-◌, ◌/◌, ◌%◌, ◌^◌, ◌<◌, ◌≤◌, Bool, true, false, ◌&&◌, nat_le, min, max, List, [], ◌∷◌, length, drop, get_or, Option, Some, None, MatchOption}
 use Rattle.std.specs.List.{list_any}
 use Rattle.dom_set.specs.Counting.{one}
 use Rattle.dom_set.specs.Patterns.{matches}
@@ -33,11 +33,39 @@ times (p ∷ ps) x = one (in_piece p x) + times ps x
 abbrev pub IsApart : List Piece → Type 0
 IsApart ps = (x : ℕ) → times ps x ≤ 1
 
+-- a number of the page of 4,096 with this number passes the test
+abbrev pub HasPage : (ℕ → Bool) → ℕ → Type 0
+HasPage test q = (y : ℕ) × (test y ≡ true) × (y / 4096 ≡ q)
+
 -- the first number from the given one up that passes the test, if any does
 abbrev pub IsFirstFrom : (ℕ → Bool) → ℕ → Option ℕ → Type 0
 IsFirstFrom test from o =
     MatchOption o ((x : ℕ) → from ≤ x → test x ≡ false)
     (λ v. (test v ≡ true) × (from ≤ v) × ((x : ℕ) → from ≤ x → x < v → test x ≡ false))
+
+-- the last number up to the given one that passes the test, if any does
+abbrev pub IsLastTo : (ℕ → Bool) → ℕ → Option ℕ → Type 0
+IsLastTo test to o =
+    MatchOption o ((x : ℕ) → x ≤ to → test x ≡ false)
+    (λ v. (test v ≡ true) × (v ≤ to) × ((x : ℕ) → v < x → x ≤ to → test x ≡ false))
+
+-- the last number of all that passes the test, if any does
+abbrev pub IsLast : (ℕ → Bool) → Option ℕ → Type 0
+IsLast test o = MatchOption o ((x : ℕ) → test x ≡ false) (λ v. (test v ≡ true) × ((x : ℕ) → v < x → test x ≡ false))
+
+-- from each piece on they hold no number below its lowest
+abbrev pub Ascends : List Piece → Type 0
+Ascends ps = (k : ℕ) (d : Piece) → k < length ps → (x : ℕ) → x < (get_or ps k d).low → times (drop k ps) x ≡ 0
+
+-- the pieces before the place hold no number from the given one on
+abbrev pub IsPassed : List Piece → ℕ → ℕ → Type 0
+IsPassed ps place from = (x : ℕ) → from ≤ x → times (drop place ps) x ≡ times ps x
+
+-- the greater of two numbers that may be missing
+abbrev pub greater : Option ℕ → Option ℕ → Option ℕ
+greater None b = b
+greater (Some x) None = Some x
+greater (Some x) (Some y) = Some (max x y)
 
 -- the lesser of two numbers that may be missing
 abbrev pub lesser : Option ℕ → Option ℕ → Option ℕ

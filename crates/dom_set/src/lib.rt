@@ -20,6 +20,10 @@
 //! have no number in common. Nothing of the kind is said of sets that are shifted by different
 //! distances or that `from_patterns` made, nor of a result that is taken off: `minus` of two results can
 //! keep pieces in the order of n m, and its time can be more than quadratic in n + m.
+//!
+//! `and` and `minus` look for each piece only at those of the other set from the first one that reaches it to the
+//! first one that begins behind it, where the other's pieces begin in ascending order, as those of `from_ranges`
+//! and `shift` do, and those that `and` and `minus` make of such sets. So each goes through both lists about once.
 #![tactic(auto)]
 
 mod error;

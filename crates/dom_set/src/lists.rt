@@ -3,7 +3,7 @@ ghost use Rattle.std.specs.Prelude.{◌≡◌, ℕ, ◌+◌, ◌-◌, ◌*◌, �
 ghost use Rattle.dom_set.specs.Counting.{one, total};
 ghost use Rattle.dom_set.specs.Elements.{is_matching};
 ghost use Rattle.dom_set.specs.Patterns.{matches};
-ghost use Rattle.dom_set.specs.Pieces.{in_span, in_piece, is_held, times, holds, IsApart, IsFirstFrom, lesser};
+ghost use Rattle.dom_set.specs.Pieces.{in_span, in_piece, is_held, times, holds, Ascends, HasPage, IsApart, IsFirstFrom, IsLast, IsPassed, greater, lesser};
 
 use crate::error::OutOfMemory;
 use crate::piece::Piece;
@@ -72,6 +72,42 @@ pub fn first_from(pieces: &[Piece], from: u32) -> Option<u32>
     nearest
 }
 
+/// The greater of two numbers that may be missing.
+fn greater(a: Option<u32>, b: Option<u32>) -> Option<u32>
+    ensures { result ≡ greater a b }
+{
+    match (a, b) {
+        (Some(x), Some(y)) => Some(x.max(y)),
+        (Some(x), None) => Some(x),
+        (None, b) => b,
+    }
+}
+
+/// The last number that they hold.
+pub fn last(pieces: &[Piece]) -> Option<u32>
+    ensures { IsLast (holds pieces.now) result }
+{
+    let mut furthest = None;
+    for p in pieces {
+        furthest = greater(furthest, p.last());
+    }
+    furthest
+}
+
+/// A page from the given one on, so that each page before it, from the given one on, has one of the numbers.
+pub fn pages_end(pieces: &[Piece], page: u32) -> u32
+    requires { page ≤ 2 ^ 20 }
+    ensures reached { page ≤ result }
+    ensures most { result ≤ 2 ^ 20 }
+    ensures held { (q : ℕ) → page ≤ q → q < result → HasPage (holds pieces.now) q }
+{
+    let mut end = page;
+    for p in pieces {
+        end = end.max(p.pages_end(page));
+    }
+    end
+}
+
 /// Appends a piece, if there is one.
 #[tactic(auto, using(crate::proofs::Times::times_push))]
 fn push_piece(out: &mut Vec<Piece>, piece: Option<Piece>) -> Result<(), OutOfMemory>
@@ -101,13 +137,49 @@ pub fn push_clipped(
     Ok(())
 }
 
-/// Appends what the piece and those of the list have in common.
-fn push_common(out: &mut Vec<Piece>, p: Piece, others: &[Piece]) -> Result<(), OutOfMemory>
+/// Whether each piece begins no lower than the one before it.
+fn ascend(pieces: &[Piece]) -> bool
+    ensures { IsTrue result → Ascends pieces.now }
+{
+    for i in 1..pieces.len() {
+        if pieces[i].low < pieces[i - 1].low {
+            return false;
+        }
+    }
+    true
+}
+
+/// A place before which no piece reaches from a number on. The pieces before the given place do not reach from
+/// the old number on.
+fn next_place(pieces: &[Piece], place: usize, old: u32, from: u32) -> usize
+    requires { IsPassed pieces.now place old }
+    ensures { IsPassed pieces.now result from }
+{
+    let mut next = if old <= from { place } else { 0 };
+    while next < pieces.len() && pieces[next].high < from {
+        next += 1;
+    }
+    next
+}
+
+/// Appends what the piece and those of the list have in common. Those before the place do not reach it.
+fn push_common(
+    out: &mut Vec<Piece>,
+    p: Piece,
+    others: &[Piece],
+    place: usize,
+    ascending: bool,
+) -> Result<(), OutOfMemory>
+    requires passed { IsPassed others.now place p.low }
+    requires ascending { IsTrue ascending → Ascends others.now }
     ensures { OnOk result ((x : ℕ) → times out.new.items x ≡
         times out.old.items x + one (in_piece p x) * times others.now x) }
 {
-    for q in others {
-        push_piece(out, p.common(*q))?;
+    for i in place..others.len() {
+        if ascending && p.high < others[i].low {
+            return Ok(());
+        }
+        push_piece(out, p.common(others[i]))?;
     }
     Ok(())
 }
@@ -118,8 +190,13 @@ pub fn common(alloc: Global, pieces: &[Piece], others: &[Piece]) -> Result<Vec<P
         times v.items x ≡ times pieces.now x * times others.now x) }
 {
     let mut out = Vec::new(alloc);
+    let ascending = ascend(others);
+    let mut place = 0;
+    let mut low = 0;
     for p in pieces {
-        push_common(&mut out, *p, others)?;
+        place = next_place(others, place, low, p.low);
+        low = p.low;
+        push_common(&mut out, *p, others, place, ascending)?;
     }
     Ok(out)
 }
@@ -186,8 +263,8 @@ fn push_less(out: &mut Vec<Piece>, p: Piece, q: Piece) -> Result<(), OutOfMemory
         }
         Some(_) => {
             push_piece(out, p.clipped(0, u64::from(q.low)))?;
-            push_piece(out, p.clipped(u64::from(q.high) + 1, END))?;
             push_missed(out, p, q)?;
+            push_piece(out, p.clipped(u64::from(q.high) + 1, END))?;
             Ok(())
         }
     }
@@ -205,16 +282,57 @@ fn without(alloc: Global, pieces: &[Piece], q: Piece) -> Result<Vec<Piece>, OutO
     Ok(out)
 }
 
+/// What the list leaves of the piece. Those before the place do not reach it.
+fn left_of(
+    alloc: Global,
+    p: Piece,
+    others: &[Piece],
+    place: usize,
+    ascending: bool,
+) -> Result<Vec<Piece>, OutOfMemory>
+    requires passed { IsPassed others.now place p.low }
+    requires ascending { IsTrue ascending → Ascends others.now }
+    ensures { IfOk result (λ v. (x : ℕ) →
+        times v.items x ≡ (if holds others.now x then 0 else one (in_piece p x))) }
+{
+    let mut left = Vec::new(alloc);
+    left.push(p)?;
+    for i in place..others.len() {
+        if ascending && p.high < others[i].low {
+            return Ok(left);
+        }
+        left = without(alloc, &left, others[i])?;
+    }
+    Ok(left)
+}
+
+/// Appends the pieces.
+fn push_all(out: &mut Vec<Piece>, pieces: &[Piece]) -> Result<(), OutOfMemory>
+    ensures { OnOk result ((x : ℕ) →
+        times out.new.items x ≡ times out.old.items x + times pieces.now x) }
+{
+    for p in pieces {
+        push_piece(out, Some(*p))?;
+    }
+    Ok(())
+}
+
 /// What the second list leaves of the first.
 pub fn minus(alloc: Global, pieces: &[Piece], others: &[Piece]) -> Result<Vec<Piece>, OutOfMemory>
     ensures { IfOk result (λ v. (x : ℕ) →
         times v.items x ≡ (if holds others.now x then 0 else times pieces.now x)) }
 {
-    let mut left = Vec::from_slice(alloc, pieces)?;
-    for q in others {
-        left = without(alloc, &left, *q)?;
+    let mut out = Vec::new(alloc);
+    let ascending = ascend(others);
+    let mut place = 0;
+    let mut low = 0;
+    for p in pieces {
+        place = next_place(others, place, low, p.low);
+        low = p.low;
+        let left = left_of(alloc, *p, others, place, ascending)?;
+        push_all(&mut out, &left)?;
     }
-    Ok(left)
+    Ok(out)
 }
 
 /// Appends each number plus the distance, modulo 2^32. Numbers a power of two apart are so still;
@@ -253,6 +371,8 @@ pub fn shifted(alloc: Global, pieces: &[Piece], distance: u32) -> Result<Vec<Pie
     for p in pieces {
         push_shifted(&mut out, Some(*p), distance)?;
     }
+    // What goes on from 0 comes behind the rest.
+    out.sort_unstable_by_key(|p| p.low);
     Ok(out)
 }
 

@@ -1,7 +1,7 @@
 // Numbers that have given bits under a mask.
 ghost use Rattle.std.specs.Prelude.{◌≡◌, bit_and};
 
-use crate::steps::low_bits;
+use crate::steps::{END, low_bits};
 
 /// The numbers whose bits under the mask are `bits`.
 #[derive(Clone, Copy, PartialEq, Eq)]
@@ -15,6 +15,7 @@ impl Pattern {
     ghost use Rattle.std.specs.Prelude.{◌≡◌, ℕ, ◌+◌, ◌-◌, ◌*◌, ◌/◌, ◌^◌, ◌<◌, ◌≤◌, ◌↔◌, ◌&&◌, true, false, not, IfSome, IsNone};
     ghost use Rattle.dom_set.specs.Counting.{one, total};
     ghost use Rattle.dom_set.specs.Patterns.{is_matched, matches, matches_below, IsStep};
+    ghost use Rattle.dom_set.specs.Pieces.{IsLastTo};
 
     /// Whether the number matches.
     pub fn matches(self, x: u32) -> bool
@@ -65,6 +66,9 @@ impl Pattern {
         if self.mask == 0 {
             return from;
         }
+        if from < END && self.matches(from as u32) {
+            return from;
+        }
         let half = self.half();
         if self.mask % 2 == 0 {
             let next = half.next_from(from / 2);
@@ -73,6 +77,28 @@ impl Pattern {
             2 * half.next_from((from + 1) / 2)
         } else {
             2 * half.next_from(from / 2) + 1
+        }
+    }
+
+    /// The pattern of the numbers whose distances to the greatest number match.
+    fn mirrored(self) -> Pattern
+        ensures { (x : ℕ) → x < 2 ^ 32 → matches result (2 ^ 32 - 1 - x) ≡ matches self x }
+    {
+        Pattern {
+            mask: self.mask,
+            bits: self.mask & !self.bits,
+        }
+    }
+
+    /// The last number up to the given one that matches.
+    pub fn last_to(self, to: u32) -> Option<u32>
+        ensures { IsLastTo (matches self) to result }
+    {
+        let first = self.mirrored().next_from(END - 1 - u64::from(to));
+        if first < END {
+            Some((END - 1 - first) as u32)
+        } else {
+            None
         }
     }
 

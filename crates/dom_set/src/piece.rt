@@ -18,7 +18,7 @@ impl Piece {
     ghost use Rattle.std.specs.Prelude.{◌≡◌, ℕ, ◌+◌, ◌-◌, ◌^◌, ◌<◌, ◌≤◌, ◌&&◌, ◌==◌, not, nat_lt, nat_le, bit_and, IfSome};
     ghost use Rattle.dom_set.specs.Counting.{one, total};
     ghost use Rattle.dom_set.specs.Patterns.{matches, matches_below, IsStep};
-    ghost use Rattle.dom_set.specs.Pieces.{in_span, in_piece, is_held, HoldsSome, IsFirstFrom};
+    ghost use Rattle.dom_set.specs.Pieces.{in_span, in_piece, is_held, HasPage, HoldsSome, IsFirstFrom, IsLast};
 
     /// The numbers whose bits under the mask are these, if it has them all. Where the highest bits are among
     /// them, the ends tell these, and the pattern those below the highest bit that the mask lacks.
@@ -86,11 +86,36 @@ impl Piece {
     pub fn first_from(self, from: u32) -> Option<u32>
         ensures { IsFirstFrom (in_piece self) from result }
     {
+        if self.high < from {
+            return None;
+        }
         let first = self.pattern.next_from(u64::from(from.max(self.low)));
         if first <= u64::from(self.high) {
             Some(first as u32)
         } else {
             None
+        }
+    }
+
+    /// Its last number.
+    pub fn last(self) -> Option<u32>
+        ensures { IsLast (in_piece self) result }
+    {
+        let last = self.pattern.last_to(self.high)?;
+        if self.low <= last { Some(last) } else { None }
+    }
+
+    /// A page from the given one on, so that each page before it, from the given one on, has one of the numbers.
+    pub fn pages_end(self, page: u32) -> u32
+        requires { page ≤ 2 ^ 20 }
+        ensures reached { page ≤ result }
+        ensures most { result ≤ 2 ^ 20 }
+        ensures held { (q : ℕ) → page ≤ q → q < result → HasPage (in_piece self) q }
+    {
+        if self.pattern.mask < 4096 && u64::from(self.low) <= u64::from(page) * 4096 {
+            page.max(self.high / 4096)
+        } else {
+            page
         }
     }
 
@@ -112,6 +137,9 @@ impl Piece {
         ensures held { (x : ℕ) → is_held result x ≡ (in_piece self x && in_piece other x) }
         ensures some { IfSome result HoldsSome }
     {
+        if self.high < other.low || other.high < self.low {
+            return None;
+        }
         match self.pattern.both(other.pattern) {
             Some(pattern) => {
                 let both = self.with_pattern(pattern);

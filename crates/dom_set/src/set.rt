@@ -1,7 +1,8 @@
 // Sets of 32-bit numbers.
-ghost use Rattle.std.specs.Prelude.{◌≡◌, ℕ, ◌+◌, ◌-◌, ◌^◌, ◌%◌, ◌<◌, ◌≤◌, ◌↔◌, ◌==◌, ◌&&◌, [], length, filter, not, nat_lt, Some, slice_get, IfOk, IsTrue, IsNone, All, Contains};
+ghost use Rattle.std.specs.Prelude.{◌≡◌, ℕ, ◌+◌, ◌-◌, ◌^◌, ◌%◌, ◌<◌, ◌≤◌, ◌↔◌, ◌==◌, ◌&&◌, [], length, filter, not, nat_lt, nat_le, Some, slice_get, ◌≢◌, ◌∷◌, MatchOption, IfOk, IsTrue, IsNone, All, Contains};
 ghost use Rattle.std.specs.List.Sorted.{IsStrictlyIncreasing};
 ghost use Rattle.std.specs.Int.{IsPowerOfTwo};
+ghost use Rattle.dom_set.specs.Pieces.{HasPage};
 ghost use Rattle.dom_set.specs.Elements.{elements_of, is_in, is_within, is_matching, is_signed_lt, first_cyclic};
 
 use crate::error::OutOfMemory;
@@ -103,6 +104,72 @@ impl Set {
             Some(x) => Some(x),
             None => lists::first_from(&self.pieces, 0),
         }
+    }
+
+    /// Does nothing. Its contract says that the elements ascend and are words.
+    pub fn element_laws(&self)
+        ensures ascending { IsStrictlyIncreasing self.now }
+        ensures words { All (λ x. x < 2 ^ 32) self.now }
+    {
+        let _ = self.pieces.len();
+    }
+
+    /// Whether there is no element.
+    pub fn is_empty(&self) -> bool
+        ensures { IsTrue result ↔ (self.now ≡ []) }
+    {
+        self.first_from(0).is_none()
+    }
+
+    /// The least element.
+    pub fn least(&self) -> Option<u32>
+        ensures { result ≡ slice_get self.now 0 }
+    {
+        lists::first_from(&self.pieces, 0)
+    }
+
+    /// The greatest element.
+    pub fn greatest(&self) -> Option<u32>
+        ensures greatest { result ≡ slice_get self.now (length self.now - 1) }
+        ensures none { IsNone result ↔ (self.now ≡ []) }
+    {
+        lists::last(&self.pieces)
+    }
+
+    /// The element, where there is just one.
+    pub fn only(&self) -> Option<u32>
+        ensures { MatchOption result (length self.now ≢ 1) (λ x. self.now ≡ x ∷ []) }
+    {
+        let least = lists::first_from(&self.pieces, 0)?;
+        let greatest = lists::last(&self.pieces)?;
+        if least == greatest { Some(least) } else { None }
+    }
+
+    /// Whether there is just one element.
+    pub fn is_single(&self) -> bool
+        ensures { IsTrue result ↔ (length self.now ≡ 1) }
+    {
+        self.only().is_some()
+    }
+
+    /// A page of 4,096 numbers from the given one on, so that each page before it, from the given one on, has an
+    /// element.
+    pub fn pages_end(&self, page: u32) -> u32
+        requires { page ≤ 2 ^ 20 }
+        ensures reached { page ≤ result }
+        ensures most { result ≤ 2 ^ 20 }
+        ensures held { (q : ℕ) → page ≤ q → q < result → HasPage (is_in self.now) q }
+    {
+        lists::pages_end(&self.pieces, page)
+    }
+
+    /// The elements that are no less than the number.
+    pub fn from_on(&self, alloc: Global, x: u32) -> Result<Set, OutOfMemory>
+        ensures { IfOk result (λ s. s ≡ filter (λ y. nat_le x y) self.now) }
+    {
+        let mut pieces = Vec::new(alloc);
+        lists::push_clipped(&mut pieces, &self.pieces, u64::from(x), END)?;
+        Ok(Set { pieces })
     }
 
     /// The common elements.

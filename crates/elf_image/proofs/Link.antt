@@ -8,7 +8,8 @@ use Rattle.tpl_ast.specs.Laws.{TemplatesKeepLimits}
 use Rattle.tpl_admit.specs.declared.certificate.Cert.{Cert}
 use Rattle.tpl_ast.specs.declared.template.HartState.{HartState}
 use Rattle.tpl_admit.specs.Sizes.{runs_behind, run_count, file_size}
-use Rattle.tpl_admit.specs.WellFormed.{IsState, IsWellFormed}
+use Rattle.tpl_admit.specs.WellFormed.{IsWellFormed}
+use Rattle.tpl_ast.specs.States.{IsState}
 use Rattle.elf_headers.specs.declared.runs.Run.{Run}
 use Rattle.elf_headers.specs.declared.reading.Head.{Head}
 use Rattle.elf_headers.specs.declared.reading.Table.{Table}

@@ -11,7 +11,8 @@ use Rattle.rv_hart.specs.declared.record.Record.{Record}
 use Rattle.tpl_ast.specs.declared.template.HartState.{HartState}
 use Rattle.tpl_admit.specs.declared.dropped.Dropped.{Dropped}
 use Rattle.tpl_admit.specs.Sizes.{note_bytes}
-use Rattle.tpl_admit.specs.WellFormed.{IsWord, IsState, IsRecord}
+use Rattle.tpl_admit.specs.WellFormed.{IsRecord}
+use Rattle.tpl_ast.specs.States.{IsWord, IsState}
 use Rattle.byte_format.specs.Numbers.{word, padding}
 use Rattle.byte_format.specs.Readers.{◌>>=◌, whole}
 use Rattle.byte_format.proofs.Bytes.{IsBytes, bytes_rest, bytes_front, bind_some}

@@ -6,7 +6,8 @@ use Rattle.std.specs.declared.option.Option.{Option}
 use Rattle.std.proofs.lemmas.Bool.{ltb-true, ltb-false, lt-ltb, le-ltb}
 use Rattle.tpl_ast.specs.declared.template.NameDecl.{NameDecl}
 use Rattle.tpl_admit.specs.declared.dropped.Dropped.{Dropped}
-use Rattle.tpl_admit.specs.WellFormed.{IsWord, IsNamed, AreNamed, AreDropped, drop_place}
+use Rattle.tpl_admit.specs.WellFormed.{IsNamed, AreNamed, AreDropped, drop_place}
+use Rattle.tpl_ast.specs.States.{IsWord}
 use Rattle.byte_format.proofs.Laws.{Reads, reads_word, reads_both, reads_where}
 use Rattle.byte_format.proofs.Groups.{AreCountable, reads_counted}
 use Rattle.elf_image.specs.Notes.{rest_desc}

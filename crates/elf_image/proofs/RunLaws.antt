@@ -6,8 +6,8 @@ use Rattle.std.proofs.lemmas.Bool.{cases_eq, ltb-true, ltb-false, le-ltb, lt-ltb
 use Rattle.std.proofs.lemmas.List.{length-append, length-map}
 use Rattle.std.proofs.lemmas.List.Sums.{sum_by-cons}
 use Rattle.tpl_ast.specs.declared.template.Region.{Region}
-use Rattle.tpl_ast.specs.Laws.{IsFramed}
-use Rattle.tpl_admit.specs.Starts.{is_in, AreStartWords}
+use Rattle.tpl_ast.specs.Templates.{IsFramed}
+use Rattle.tpl_ast.specs.States.{is_in, AreStartWords}
 use Rattle.byte_format.proofs.Groups.{FitChain}
 use Rattle.elf_headers.specs.declared.runs.Run.{Run}
 use Rattle.elf_headers.specs.Runs.{address_of, runs_from, runs_of, addresses, addresses_of, total_words}

@@ -12,8 +12,8 @@ use Rattle.tpl_ast.specs.declared.template.HartState.{HartState}
 use Rattle.tpl_ast.specs.declared.template.NameDecl.{NameDecl}
 use Rattle.tpl_ast.specs.Parsing.{Said}
 use Rattle.tpl_admit.specs.declared.dropped.Dropped.{Dropped}
-use Rattle.tpl_admit.specs.Starts.{is_key, is_in}
-use Rattle.tpl_admit.specs.WellFormed.{is_legal_place, drop_place}
+use Rattle.tpl_ast.specs.States.{is_key, is_in, is_legal_place}
+use Rattle.tpl_admit.specs.WellFormed.{drop_place}
 use Rattle.elf_headers.specs.declared.runs.Run.{Run}
 use Rattle.elf_headers.specs.declared.reading.Head.{Head}
 use Rattle.elf_headers.specs.declared.reading.Table.{Table}

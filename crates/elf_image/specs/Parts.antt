@@ -7,8 +7,8 @@ use Rattle.tpl_ast.specs.declared.template.Template.{Template}
 use Rattle.tpl_ast.specs.Parsing.{Parses}
 use Rattle.tpl_admit.specs.declared.certificate.Cert.{Cert}
 use Rattle.tpl_ast.specs.declared.template.HartState.{HartState}
-use Rattle.tpl_admit.specs.Starts.{AreStartWords}
-use Rattle.tpl_admit.specs.WellFormed.{IsWord, IsState, IsRecord, AreNamed, AreDropped}
+use Rattle.tpl_ast.specs.States.{AreStartWords, IsWord, IsState}
+use Rattle.tpl_admit.specs.WellFormed.{IsRecord, AreNamed, AreDropped}
 use Rattle.elf_headers.specs.declared.runs.Run.{Run}
 use Rattle.elf_headers.specs.declared.reading.Head.{Head}
 use Rattle.elf_headers.specs.declared.reading.Table.{Table}

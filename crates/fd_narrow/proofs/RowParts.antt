@@ -1,14 +1,19 @@
 -- What rows say of variables.
-use Rattle.std.proofs.Common.{◌≡◌, ℕ, ◌&&◌, not, Bool, true, false, List, IsTrue, refl, sym, ap, ◌∙◌, subst}
+use Rattle.std.proofs.Common.{◌≡◌, ℕ, ◌+◌, ◌<◌, ◌&&◌, ◌||◌, ◌⊎◌, inl, inr, ⊎_elim, not, Bool, true, false, List, [], ◌∷◌, length, get_or, take, IsTrue, refl, sym, ap, ◌∙◌, subst}
+use Rattle.std.specs.List.{list_any}
+use Rattle.std.proofs.lemmas.List.Folds.{list_any_more}
+use Rattle.fd_narrow.specs.Narrowing.{IsInside}
+use Rattle.fd_narrow.specs.Steps.{IsValueOutside, Leaves}
 use Rattle.std.specs.List.{filter}
 use Rattle.dom_set.specs.Elements.{is_in}
 use Rattle.fd_prob.specs.declared.problem.Assignment.{Assignment}
 use Rattle.fd_prob.specs.declared.relation.Quad.{Quad}
+use Rattle.fd_prob.specs.declared.slot.Slot.{Slot}
 use Rattle.fd_prob.specs.declared.slot.Slot.TheVariants as slots
 use Rattle.fd_prob.specs.Relations.{is_in_row, value_of}
 use Rattle.fd_narrow.specs.declared.rows.Part.{Part}
 use Rattle.fd_narrow.specs.declared.rows.Part.TheVariants.{Address, Root, Leaf, Word}
-use Rattle.fd_narrow.specs.Parts.{IsLess, part_of, slot_of}
+use Rattle.fd_narrow.specs.Parts.{IsLess, IsMissed, part_of, slot_of}
 use Rattle.set_sums.proofs.Members.{is_in-filter, left, right}
 
 pub row_part : (part : Part) (x : Assignment) (row : Quad) → IsTrue (is_in_row x row) → IsTrue (is_in (part_of part row) (value_of x (slot_of part)))
@@ -37,3 +42,42 @@ less_taken doms part row set old new at is = record {
   lacks = λ v h. ap (λ (d : List ℕ). is_in d v) is ∙ is_in-filter (λ w. not (is_in set w)) old v ∙ lost (not (is_in set v)) (is_in old v) h;
   misses = λ x inside h. ap (λ (d : List ℕ). is_in d (value_of x (slot_of part))) is ∙ is_in-filter (λ w. not (is_in set w)) old (value_of x (slot_of part)) ∙ refused (is_in set (value_of x (slot_of part))) (is_in old (value_of x (slot_of part))) (subst (λ (d : List ℕ). IsTrue (is_in d (value_of x (slot_of part)))) (sym at) (row_part part x row h));
 }
+
+-- of all four parts
+pub less_all : (doms : List (List ℕ)) (row old new : Quad) → new.ea ≡ filter (λ v. not (is_in row.ea v)) old.ea → new.root ≡ filter (λ v. not (is_in row.root v)) old.root → new.leaf ≡ filter (λ v. not (is_in row.leaf v)) old.leaf → new.word ≡ filter (λ v. not (is_in row.word v)) old.word → (part : Part) → IsLess doms part row (part_of part old) (part_of part new)
+less_all doms row old new ea root leaf word Address = less_taken doms Address row row.ea old.ea new.ea refl ea
+less_all doms row old new ea root leaf word Root = less_taken doms Root row row.root old.root new.root refl root
+less_all doms row old new ea root leaf word Leaf = less_taken doms Leaf row row.leaf old.leaf new.leaf refl leaf
+less_all doms row old new ea root leaf word Word = less_taken doms Word row row.word old.word new.word refl word
+
+-- a row that can't hold takes nothing
+pub less_none : (doms : List (List ℕ)) (row : Quad) (rest : Quad) → ((x : Assignment) → IsInside doms x → IsTrue (is_in_row x row) → ⊥) → (part : Part) → IsLess doms part row (part_of part rest) (part_of part rest)
+less_none doms row rest never part = record { lacks = λ v h. h; misses = λ x inside h. absurd (never x inside h) }
+
+-- nothing was looked at yet
+pub missed_first : (doms : List (List ℕ)) (part : Part) (rows : List Quad) (set : List ℕ) → IsMissed doms part (take 0 rows) set
+missed_first doms part [] set x inside h = absurd (cc h)
+missed_first doms part (row ∷ rows) set x inside h = absurd (cc h)
+
+either : (a b : Bool) → IsTrue (a || b) → IsTrue a ⊎ IsTrue b
+either true b h = inl refl
+either false b h = inr h
+
+-- one more row was looked at
+pub missed_more : (doms : List (List ℕ)) (part : Part) (rows : List Quad) (i : ℕ) (row : Quad) (old new : List ℕ) → i < length rows → row ≡ get_or rows i row → IsMissed doms part (take i rows) old → IsLess doms part row old new → IsMissed doms part (take (i + 1) rows) new
+missed_more doms part rows i row old new lt is before less x inside h = ⊎_elim
+    (λ earlier. less.lacks (value_of x (slot_of part)) (before x inside earlier))
+    (λ here. less.misses x inside (subst (λ (r : Quad). IsTrue (is_in_row x r)) (sym is) here))
+    (either (list_any (is_in_row x) (take i rows)) (is_in_row x (get_or rows i row)) (subst (λ (b : Bool). IsTrue b) (list_any_more (is_in_row x) rows i row lt) h))
+
+-- the variable loses what no row has
+pub rest_taken : (doms now new : List (List ℕ)) (part : Part) (rows : List Quad) (rest : List ℕ) → Leaves (λ x. IsTrue (list_any (is_in_row x) rows)) doms now → IsMissed doms part rows rest → Leaves (IsValueOutside (slot_of part) rest) now new → Leaves (λ x. IsTrue (list_any (is_in_row x) rows)) doms new
+rest_taken doms now new part rows rest before missed taken = record {
+  within = λ x inside. before.within x (taken.within x inside);
+  keeps = λ x inside h. taken.keeps x (before.keeps x inside h) (λ word. missed x inside h);
+}
+
+pub part_taken : (doms now new : List (List ℕ)) (part : Part) (rows : List Quad) (rest : Quad) (slot : Slot) (set : List ℕ) → slot ≡ slot_of part → set ≡ part_of part rest → Leaves (λ x. IsTrue (list_any (is_in_row x) rows)) doms now → ((p : Part) → IsMissed doms p rows (part_of p rest)) → Leaves (IsValueOutside slot set) now new → Leaves (λ x. IsTrue (list_any (is_in_row x) rows)) doms new
+part_taken doms now new part rows rest slot set slot_is set_is before missed taken =
+    rest_taken doms now new part rows (part_of part rest) before (missed part)
+    (subst (λ (s : Slot). Leaves (IsValueOutside s (part_of part rest)) now new) slot_is (subst (λ (d : List ℕ). Leaves (IsValueOutside slot d) now new) set_is taken))

@@ -79,7 +79,7 @@ impl Domains {
 
     /// Whether a variable has no value left.
     pub(crate) fn has_empty(&self) -> bool {
-        self.sets.iter().any(|set| set.size() == 0)
+        self.sets.iter().any(|set| set.is_empty())
     }
 
     /// The sum of the domains' sizes.
@@ -91,11 +91,9 @@ impl Domains {
     pub(crate) fn single(&self, slot: Slot) -> Option<u32>
         ensures { IfSome result (IsOnly self.now slot) }
     {
-        let domain = self.domain(slot);
-        if domain.size() == 1 {
-            Some(domain.nth(0))
-        } else {
-            None
+        match self.domain(slot).only() {
+            Some(value) => Some(value),
+            None => None,
         }
     }
 
@@ -106,7 +104,8 @@ impl Domains {
         // `count` says that there is a domain at the variable's place.
         self.count();
         let domain = self.domain(slot);
-        if domain.size() > 0 {
+        domain.element_laws();
+        if !domain.is_empty() {
             let left = domain.and(alloc, set)?;
             self.set(slot, left);
         }
@@ -120,7 +119,8 @@ impl Domains {
         // `count` says that there is a domain at the variable's place.
         self.count();
         let domain = self.domain(slot);
-        if domain.size() > 0 {
+        domain.element_laws();
+        if !domain.is_empty() {
             let left = domain.minus(alloc, set)?;
             self.set(slot, left);
         }

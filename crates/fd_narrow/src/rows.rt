@@ -3,7 +3,7 @@ ghost use Rattle.std.specs.Prelude.{◌≡◌, ℕ, true, false, IfOk, IsTrue, O
 ghost use Rattle.std.specs.List.{list_any};
 ghost use Rattle.dom_set.specs.Elements.{is_in};
 ghost use Rattle.fd_prob.specs.Relations.{is_in_row, value_of};
-ghost use Rattle.fd_narrow.specs.Narrowing.{IsInside};
+ghost use Rattle.fd_narrow.specs.Narrowing.{IsInside, domain_in};
 ghost use Rattle.fd_narrow.specs.Parts.{IsLess, IsMissed, part_of, slot_of};
 ghost use Rattle.fd_narrow.specs.Steps.{Leaves};
 ghost use Rattle.fd_prob.specs.declared.problem.Assignment.{Assignment};
@@ -64,55 +64,60 @@ impl Domains {
         Ok(true)
     }
 
-    /// What the row does not have of the set, where the row may hold.
-    fn less_row(
-        &self,
-        alloc: Global,
-        part: Part,
-        row: &Quad,
-        rest: &Set,
-    ) -> Result<Set, OutOfMemory>
-        ensures { IfOk result (IsLess self.now part row.now rest.now) }
+    /// The domains of the four parts' variables.
+    fn row_domains(&self, alloc: Global) -> Result<Quad, OutOfMemory>
+        ensures { IfOk result (λ all. (part : Part) → part_of part all ≡ domain_in self.now (slot_of part)) }
     {
-        if self.may_hold(alloc, row)? {
-            let less = rest.minus(alloc, part.of(row))?;
-            return Ok(less);
-        }
-        let same = rest.copy(alloc)?;
-        Ok(same)
+        let ea = self.domain(Slot::Ea).copy(alloc)?;
+        let root = self.domain(Slot::FirstPte).copy(alloc)?;
+        let leaf = self.domain(Slot::SecondPte).copy(alloc)?;
+        let word = self.domain(Slot::DataWord).copy(alloc)?;
+        Ok(Quad {
+            ea,
+            root,
+            leaf,
+            word,
+        })
     }
 
-    /// What no row that may hold has of the variable's domain.
-    fn rest_of(&self, alloc: Global, part: Part, rows: &[Quad]) -> Result<Set, OutOfMemory>
-        ensures { IfOk result (IsMissed self.now part rows.now) }
+    /// What the row does not have of the four sets, where the row may hold.
+    fn less_row(&self, alloc: Global, row: &Quad, rest: Quad) -> Result<Quad, OutOfMemory>
+        ensures { IfOk result (λ less. (part : Part) → IsLess self.now part row.now (part_of part rest) (part_of part less)) }
     {
-        let mut rest = self.domain(part.slot()).copy(alloc)?;
+        if !self.may_hold(alloc, row)? {
+            return Ok(rest);
+        }
+        let ea = rest.ea.minus(alloc, &row.ea)?;
+        let root = rest.root.minus(alloc, &row.root)?;
+        let leaf = rest.leaf.minus(alloc, &row.leaf)?;
+        let word = rest.word.minus(alloc, &row.word)?;
+        Ok(Quad {
+            ea,
+            root,
+            leaf,
+            word,
+        })
+    }
+
+    /// What no row that may hold has of the four variables' domains.
+    fn rest_of(&self, alloc: Global, rows: &[Quad]) -> Result<Quad, OutOfMemory>
+        ensures { IfOk result (λ rest. (part : Part) → IsMissed self.now part rows.now (part_of part rest)) }
+    {
+        let mut rest = self.row_domains(alloc)?;
         for row in rows {
-            rest = self.less_row(alloc, part, row, &rest)?;
+            rest = self.less_row(alloc, row, rest)?;
         }
         Ok(rest)
-    }
-
-    /// Cuts one variable to what the rows that may hold have for it.
-    fn narrow_part_of_rows(
-        &mut self,
-        alloc: Global,
-        part: Part,
-        rows: &[Quad],
-    ) -> Result<(), OutOfMemory>
-        ensures { OnOk result (Leaves (λ x. IsTrue (list_any (is_in_row x) rows.now)) self.old self.new) }
-    {
-        let rest = self.rest_of(alloc, part, rows)?;
-        self.take(alloc, part.slot(), &rest)
     }
 
     /// One of the rows has the address and the words.
     pub(crate) fn narrow_rows(&mut self, alloc: Global, rows: &[Quad]) -> Result<(), OutOfMemory>
         ensures { OnOk result (Leaves (λ x. IsTrue (list_any (is_in_row x) rows.now)) self.old self.new) }
     {
-        // Each part is cut anew: what an earlier one lost may rule out rows for a later one.
+        // What one part loses may rule out rows for the next: that is left to a later pass.
+        let rest = self.rest_of(alloc, rows)?;
         for part in PARTS {
-            self.narrow_part_of_rows(alloc, part, rows)?;
+            self.take(alloc, part.slot(), part.of(&rest))?;
         }
         Ok(())
     }

@@ -54,8 +54,8 @@ impl Domains {
         ensures value { (x : Assignment) → IsInside self.now x → CanBe result (value_of x slot) }
         ensures word { (x : Assignment) → IsInside self.now x → value_of x slot < 2 ^ 32 }
     {
-        // `size` also says that the elements are words.
-        self.domain(slot).size();
+        // That the elements are words is said by their laws.
+        self.domain(slot).element_laws();
         self.single(slot)
     }
 

@@ -5,7 +5,10 @@ use Rattle.std.proofs.lemmas.Bool.Decides.{nat_tests}
 use Rattle.std.proofs.lemmas.Option.{same_Some}
 use Rattle.fd_prob.proofs.Firsts.{passes}
 use Rattle.std.proofs.lemmas.List.Elements.{filter-append}
-use Rattle.dom_set.specs.Elements.{numbers_below}
+use Rattle.std.proofs.lemmas.Bool.{eq-eqb, eqb-true}
+use Rattle.std.proofs.lemmas.List.Folds.{Any-from_list_any, list_any_at}
+use Rattle.dom_set.specs.Elements.{is_in, numbers_below}
+use Rattle.dom_set.specs.Pieces.{HasPage}
 use Rattle.fd_prob.specs.Spaces.{has_page, pages_below}
 
 abbrev tail : List ℕ → ℕ → ℕ
@@ -115,3 +118,23 @@ ending xs page within is =
 pub starting : (xs : List ℕ) → pages_below 0 xs ≡ 0
 unfolding numbers_below
 starting xs = refl
+
+page_tested : (xs : List ℕ) (q : ℕ) → HasPage (is_in xs) q → has_page xs q ≡ true
+page_tested xs q (y, h, e) =
+    let at = Any-from_list_any (λ z. z == y) xs h in
+    let same : at.1 ≡ y = eqb-true at.1 y at.4 in
+    list_any_at (λ z. z / 4096 == q) xs at.0 at.1 at.2 (eq-eqb _ _ (ap (λ (z : ℕ). z / 4096) (at.3 ∙ same) ∙ e))
+
+-- pages each of which has an address
+pub run : (xs : List ℕ) (n k : ℕ) → ((q : ℕ) → n ≤ q → q < n + k → HasPage (is_in xs) q) → pages_below (n + k) xs ≡ pages_below n xs + k
+run xs n zero all = let e : n + 0 ≡ n = omega arith in ap (λ (m : ℕ). pages_below m xs) e ∙ omega arith
+run xs n (suc k) all =
+    let e : n + suc k ≡ suc (n + k) = omega arith in
+    let more : pages_below (suc (n + k)) xs ≡ pages_below (n + k) xs + 1 = next_held xs (n + k) (page_tested xs (n + k) (all (n + k) (omega arith) (omega arith))) in
+    let before : pages_below (n + k) xs ≡ pages_below n xs + k = run xs n k (λ q low high. all q low (omega (arith, high))) in
+    ap (λ (m : ℕ). pages_below m xs) e ∙ omega (arith, more, before)
+
+pub run_to : (xs : List ℕ) (n end : ℕ) → n ≤ end → ((q : ℕ) → n ≤ q → q < end → HasPage (is_in xs) q) → pages_below end xs ≡ pages_below n xs + (end - n)
+run_to xs n end up all =
+    let whole : n + (end - n) ≡ end = omega (arith, up) in
+    sym (ap (λ (m : ℕ). pages_below m xs) whole) ∙ run xs n (end - n) (λ q low high. all q low (omega (arith, high, up)))

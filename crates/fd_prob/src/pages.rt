@@ -28,8 +28,10 @@ pub fn pages_of(set: &Set) -> u64
         let Some(x) = first_not_below(set, page * 4096) else {
             return pages;
         };
-        pages += 1;
-        page = x / 4096 + 1;
+        // The page of the element, and then those that the set is known to have without a look at each.
+        let next = x / 4096 + 1;
+        page = set.pages_end(next);
+        pages += 1 + u64::from(page - next);
     }
     pages
 }

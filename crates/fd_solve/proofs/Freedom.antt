@@ -22,19 +22,19 @@ use Rattle.fd_prob.proofs.Places.{place_below, same_slot}
 use Rattle.fd_solve.proofs.Searching.{found, members_same}
 
 -- the value that was put, and the others
-put_here : (x : Assignment) (s : Slot) (v : ℕ) → IsAssignment x → value_of (put x s v) s ≡ v
+pub put_here : (x : Assignment) (s : Slot) (v : ℕ) → IsAssignment x → value_of (put x s v) s ≡ v
 put_here x s v is = get_or-set_same x.values (slot_number s) v 0 (omega (arith, is.length, place_below s))
 
-put_there : (x : Assignment) (s t : Slot) (v : ℕ) → slot_number t ≢ slot_number s → value_of (put x s v) t ≡ value_of x t
+pub put_there : (x : Assignment) (s t : Slot) (v : ℕ) → slot_number t ≢ slot_number s → value_of (put x s v) t ≡ value_of x t
 put_there x s t v ne = get_or-set_other x.values (slot_number s) (slot_number t) v 0 ne
 
-put_word : (x : Assignment) (s : Slot) (v : ℕ) → v < 2 ^ 32 → IsAssignment x → IsAssignment (put x s v)
+pub put_word : (x : Assignment) (s : Slot) (v : ℕ) → v < 2 ^ 32 → IsAssignment x → IsAssignment (put x s v)
 put_word x s v word is = record {
   length = length-set x.values (slot_number s) v ∙ is.length;
   words = All-set (λ u. u < 2 ^ 32) x.values (slot_number s) v word is.words;
 }
 
-put_inside : (doms : List (List ℕ)) (x : Assignment) (s : Slot) (v : ℕ) → IsAssignment x → IsInside doms x → is_in (domain_in doms s) v ≡ true → IsInside doms (put x s v)
+pub put_inside : (doms : List (List ℕ)) (x : Assignment) (s : Slot) (v : ℕ) → IsAssignment x → IsInside doms x → is_in (domain_in doms s) v ≡ true → IsInside doms (put x s v)
 put_inside doms x s v is inside element t = ⊎_elim
     (λ e. let P : Slot → Type 0 = λ u. is_in (domain_in doms u) (value_of (put x s v) u) ≡ true in
     subst P (sym (same_slot t s e)) (subst (λ (w : ℕ). is_in (domain_in doms s) w ≡ true) (sym (put_here x s v is)) element))

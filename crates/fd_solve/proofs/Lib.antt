@@ -14,3 +14,4 @@ pub mod Extensions
 pub mod Biases
 pub mod Mentions
 pub mod Freedom
+pub mod Leaving

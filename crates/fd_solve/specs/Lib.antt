@@ -3,3 +3,4 @@ pub mod Laws
 pub mod Search
 pub mod Taking
 pub mod Free
+pub mod Easier

@@ -30,7 +30,8 @@ fn copy_rows(alloc: Global, rows: &[Quad]) -> Result<Vec<Quad>, OutOfMemory>
     Ok(made)
 }
 
-fn copy_rel(alloc: Global, rel: &Rel) -> Result<Rel, OutOfMemory>
+/// The same relation, in memory of its own.
+pub fn copy_rel(alloc: Global, rel: &Rel) -> Result<Rel, OutOfMemory>
     ensures { IfOk result (λ made. made ≡ rel.now) }
 {
     match rel {

@@ -16,7 +16,7 @@ fn is_slot(s: Slot, t: Slot) -> bool
 }
 
 /// Whether the relation may look at the value of the variable, by what the operation is.
-fn mentions(rel: &Rel, v: Slot) -> bool
+pub fn mentions(rel: &Rel, v: Slot) -> bool
     ensures { result ≡ mentions rel.now v }
 {
     match rel {
@@ -54,7 +54,7 @@ fn is_settled(doms: &Domains, slot: Slot, rel: &Rel) -> bool
 {
     for i in 0..14 {
         let other = slot_at(i);
-        if !is_slot(other, slot) && mentions(rel, other) && doms.domain(other).size() != 1 {
+        if !is_slot(other, slot) && mentions(rel, other) && !doms.domain(other).is_single() {
             return false;
         }
     }
@@ -107,8 +107,7 @@ pub fn first_passing(
 ) -> Option<u32>
     ensures { IsFirstPassing (λ w. own_hold op (put base.now slot w) slot rels.now) domain.now pivot result }
 {
-    // `size` also says that the elements are words.
-    let _size = domain.size();
+    domain.element_laws();
     let mut k: u64 = 0;
     while let Some(value) = next_from(domain, pivot, k) {
         if own_hold(op, &put(base, slot, value), slot, rels) {

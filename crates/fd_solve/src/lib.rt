@@ -8,6 +8,7 @@
 mod answers;
 mod cases;
 mod copies;
+mod easier;
 mod extended;
 mod free;
 mod laws;

@@ -20,8 +20,7 @@ pub fn rank(pivot: u32, value: u32) -> u32
 pub fn next_from(set: &Set, pivot: u32, k: u64) -> Option<u32>
     ensures { IsNext set.now pivot k result }
 {
-    // `size` also says that the elements ascend and are words.
-    let _size = set.size();
+    set.element_laws();
     let Ok(k) = u32::try_from(k) else {
         return None;
     };

@@ -7,6 +7,7 @@ ghost use Rattle.fd_prob.specs.Fitting.{IsCase};
 ghost use Rattle.fd_prob.specs.Order.{IsAssignment};
 ghost use Rattle.fd_solve.specs.Search.{FixedBelow, IsCut, IsMet, LeastOrNone};
 
+use crate::easier::without;
 use crate::free::{first_passing, is_free};
 use crate::order::{next_from, rank};
 use crate::place::slot_at;
@@ -100,7 +101,7 @@ pub fn search(
     };
     let slot = slot_at(place);
     let domain = doms.domain(slot);
-    if domain.size() == 1 {
+    if domain.is_single() {
         return search(alloc, case, pivots, doms, place + 1);
     }
     let pivot = pivots[place];
@@ -118,6 +119,14 @@ pub fn search(
         let cut = with_value(alloc, case, doms.copy(alloc)?, slot, value)?;
         if let Some(x) = search(alloc, case, pivots, &cut, place + 1)? {
             return Ok(Some(x));
+        }
+        // Where there is nothing even without the relations that look at the variable, no other value helps.
+        if k == 0 {
+            let easier = without(alloc, case, slot)?;
+            let fixed = with_value(alloc, &easier, doms.copy(alloc)?, slot, value)?;
+            if search(alloc, &easier, pivots, &fixed, place + 1)?.is_none() {
+                return Ok(None);
+            }
         }
         k = u64::from(rank(pivot, value)) + 1;
     }

@@ -1,5 +1,9 @@
 pub mod Orders
 pub mod Members
-pub mod Finding
+pub mod Numbered
+pub mod Kept
+pub mod Entries
 pub mod Races
+pub mod Blocking
+pub mod Room
 pub mod Masks

@@ -8,7 +8,7 @@ use Rattle.foot_map.specs.declared.touch.Touch.{Touch}
 use Rattle.foot_map.specs.declared.clash.Clash.{Clash}
 use Rattle.foot_map.specs.Order.{IsInOrder}
 use Rattle.foot_map.specs.Touches.{has, IsInWord, IsAdded, IsMaskOfNew, IsRemoved}
-use Rattle.foot_map.specs.Races.{breaks, IsRaceFree, IsFootprint, with_access, IsClash}
+use Rattle.foot_map.specs.Races.{breaks, IsRaceFree, IsFootprint, with_access, IsClash, is_blocked, has_race}
 
 -- SETS
 
@@ -70,3 +70,11 @@ ClashRaces =
     (s : List Touch) (did : ℕ → List Access) (k : ℕ) (x : Access) (c : Clash)
     → IsFootprint s did → IsInWord x.addr x.size → IsClash s k x.role x.addr x.size c
     → IsRaceFree (with_access did k x) → ⊥
+
+-- a byte is blocked where the access of that byte clashes
+abbrev pub BlockedWhereClash : Type 0
+BlockedWhereClash = (s : List Touch) (hart : ℕ) (role : Role) (b : ℕ) → (is_blocked s hart role b ≡ true) ↔ ((c : Clash) × IsClash s hart role b 1 c)
+
+-- the footprint of accesses has no race where they are race-free
+abbrev pub NoRaceRaceFree : Type 0
+NoRaceRaceFree = (s : List Touch) (did : ℕ → List Access) → IsFootprint s did → (has_race s ≡ false) ↔ IsRaceFree did

@@ -1,5 +1,5 @@
 pub mod Order
 pub mod Touches
+pub mod Pages
 pub mod Races
-pub mod Search
 pub mod Laws

@@ -1,5 +1,6 @@
 -- Which accesses race.
-use Rattle.std.specs.Prelude.{◌≡◌, ◌≢◌, ℕ, ◌+◌, ◌<◌, ◌≤◌, ◌⊎◌, Bool, true, false, not, nat_eq, if◌then◌else◌, List, [], ◌∷◌, ◌++◌, ◌↔◌}
+use Rattle.std.specs.Prelude.{◌≡◌, ◌≢◌, ℕ, ◌+◌, ◌%◌, ◌<◌, ◌≤◌, ◌⊎◌, Bool, true, false, not, ◌&&◌, nat_eq, if◌then◌else◌, List, [], ◌∷◌, ◌++◌, ◌↔◌}
+use Rattle.std.specs.List.{list_any}
 use Rattle.rv_script.specs.declared.access.Access.{Access}
 use Rattle.rv_script.specs.declared.access.Role.{Role}
 use Rattle.rv_script.specs.declared.access.Role.TheVariants.{Fetch, Walk, Load, Store}
@@ -44,6 +45,14 @@ IsFootprint touches did = (b h : ℕ) (r : Role) → (has touches b h r ≡ true
 abbrev pub with_access : (ℕ → List Access) → ℕ → Access → ℕ → List Access
 with_access did k x j = if nat_eq j k then did k ++ x ∷ [] else did j
 
+-- a triple of the set on the byte breaks with one of the hart's in the role
+abbrev pub is_blocked : List Touch → ℕ → Role → ℕ → Bool
+is_blocked touches hart role b = list_any (λ t. nat_eq t.byte b && breaks (nat_eq t.hart hart) t.role role) touches
+
+-- two triples of the set are on one byte and break
+abbrev pub has_race : List Touch → Bool
+has_race touches = list_any (λ t. is_blocked touches t.hart t.role t.byte) touches
+
 -- a triple of the set that breaks with one that an access would add: hart, role, address, length
 pub record IsClash (touches : List Touch) (hart : ℕ) (role : Role) (addr len : ℕ) (c : Clash) : Type 0 where
   pub held : has touches c.byte c.hart c.role ≡ true
@@ -54,3 +63,8 @@ pub record IsClash (touches : List Touch) (hart : ℕ) (role : Role) (addr len :
 -- in the order of byte, hart and role
 abbrev pub IsNotAfter : Clash → Clash → Type 0
 IsNotAfter c d = (c.byte < d.byte) ⊎ ((c.byte ≡ d.byte) × ((c.hart < d.hart) ⊎ ((c.hart ≡ d.hart) × (rank c.role ≤ rank d.role))))
+
+-- some multiple of a length in a frame, given by its first byte, may be touched whole
+abbrev pub HasRoom : List Touch → ℕ → Role → ℕ → ℕ → Type 0
+HasRoom touches hart role frame len =
+    (a : ℕ) × (frame ≤ a) × (a + len ≤ frame + 4096) × (a % len ≡ 0) × ((c : Clash) → IsClash touches hart role a len c → ⊥)

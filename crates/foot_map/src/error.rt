@@ -18,3 +18,9 @@ impl<T: Drop> From<AllocFailed<T>> for OutOfMemory {
         OutOfMemory
     }
 }
+
+impl From<dom_set::OutOfMemory> for OutOfMemory {
+    fn from(_: dom_set::OutOfMemory) -> Self {
+        OutOfMemory
+    }
+}

@@ -1,5 +1,5 @@
 // The laws of footprints, as contracts of functions that do nothing.
-ghost use Rattle.foot_map.specs.Laws.{SameTriplesSameSet, RemoveUndoesAdd, RaceFreeByTable, FewerAreRaceFree, EmptyFootprint, SameAccessesSameFootprint, AddedFootprint, NoClashRaceFree, ClashRaces};
+ghost use Rattle.foot_map.specs.Laws.{SameTriplesSameSet, RemoveUndoesAdd, RaceFreeByTable, FewerAreRaceFree, EmptyFootprint, SameAccessesSameFootprint, AddedFootprint, NoClashRaceFree, ClashRaces, BlockedWhereClash, NoRaceRaceFree};
 
 /// A set is known by its triples, and `remove` with the mask of `add` gives back the set before.
 pub fn set_laws()
@@ -21,4 +21,10 @@ pub fn footprint_laws()
     ensures added { AddedFootprint }
     ensures joins { NoClashRaceFree }
     ensures races { ClashRaces }
+{}
+
+/// What blocked bytes and races of a set are in the words of clashes and of race-freedom.
+pub fn blocking_laws()
+    ensures blocked { BlockedWhereClash }
+    ensures races { NoRaceRaceFree }
 {}

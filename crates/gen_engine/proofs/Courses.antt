@@ -16,7 +16,8 @@ use Rattle.rv_hart.proofs.Steps.{takes}
 use Rattle.tpl_form.specs.declared.form.Leaf.{Leaf}
 use Rattle.tpl_ast.specs.declared.template.Region.{Region}
 use Rattle.tpl_form.specs.Form.{AreLeavesFit}
-use Rattle.tpl_admit.specs.Starts.{zero_elsewhere, is_in}
+use Rattle.tpl_admit.specs.Starts.{zero_elsewhere}
+use Rattle.tpl_ast.specs.States.{is_in}
 use Rattle.tpl_admit.specs.Solo.{Moment, Solo, solo, solo_on, knows_also, AreInitialised, knows_after}
 use Rattle.rv_isa.proofs.Codec.{encoded_below}
 use Rattle.gen_engine.specs.Plan.{instr_of, leaf_word, leaf_value, leaf_write, fetch_of, records_from, regs_from}

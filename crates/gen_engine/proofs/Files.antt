@@ -14,7 +14,8 @@ use Rattle.tpl_ast.specs.Laws.{TemplatesKeepLimits}
 use Rattle.tpl_ast.specs.Parsing.{Parses, hart_lines, said_by}
 use Rattle.tpl_form.specs.Form.{IsFit, AreLeavesFit, IsAllowed, IsFormOf}
 use Rattle.tpl_admit.specs.Sizes.{runs_behind, run_count, record_bytes, file_size}
-use Rattle.tpl_admit.specs.WellFormed.{IsWord, is_legal_place, IsRecord, IsWritten, IsWellFormed}
+use Rattle.tpl_admit.specs.WellFormed.{IsRecord, IsWritten, IsWellFormed}
+use Rattle.tpl_ast.specs.States.{IsWord, is_legal_place}
 use Rattle.gen_engine.specs.Plan.{instr_of, leaf_word, leaf_value, leaf_write, leaf_record, records_from, regs_from, placed, known_from, planned}
 use Rattle.gen_engine.proofs.Leaves.{encoded}
 use Rattle.gen_engine.proofs.Validity.{planned_valid, places_length, known_length, placed_length, records_length}

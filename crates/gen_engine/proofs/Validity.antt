@@ -21,7 +21,8 @@ use Rattle.tpl_ast.specs.declared.template.Template.{Template}
 use Rattle.tpl_ast.specs.Parsing.{said_by}
 use Rattle.tpl_form.specs.declared.form.Form.{Form}
 use Rattle.tpl_form.specs.Form.{AreLeavesFit, HasTarget, AreFed, IsAllowed, IsFormOf}
-use Rattle.tpl_admit.specs.Starts.{found, is_in, trace_of, word_of, first_hart, first_memory, is_given, start_of, final_of, ArePlaces, AreStartWords}
+use Rattle.tpl_admit.specs.Starts.{found, trace_of, word_of, first_hart, first_memory, is_given, start_of, final_of}
+use Rattle.tpl_ast.specs.States.{is_in, ArePlaces, AreStartWords}
 use Rattle.tpl_admit.specs.Races.{footprint_of}
 use Rattle.tpl_admit.specs.Solo.{solo, solo_run}
 use Rattle.tpl_admit.specs.Validity.{IsHartValid, IsValid}

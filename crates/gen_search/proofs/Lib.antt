@@ -11,3 +11,4 @@ pub mod Items
 pub mod LeafTurns
 pub mod Lawful
 pub mod Forward
+pub mod Templates

@@ -15,6 +15,6 @@ mod walk;
 
 pub use draws::Tally;
 pub use error::OutOfMemory;
-pub use laws::{draw_laws, search_laws};
+pub use laws::{draw_laws, search_laws, template_law};
 pub use partial::{PartialTest, Turn};
 pub use searching::{Answer, search};

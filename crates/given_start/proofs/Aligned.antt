@@ -4,8 +4,8 @@ use Rattle.std.specs.Prelude.{slice_index_or}
 use Rattle.std.specs.List.{AllByRecursion}
 use Rattle.rv_mem.specs.Ram.{AreWhole, IsWhole, in_ram}
 use Rattle.tpl_ast.specs.declared.template.Region.{Region}
-use Rattle.tpl_ast.specs.Laws.{IsFramed}
-use Rattle.tpl_admit.specs.Starts.{is_in}
+use Rattle.tpl_ast.specs.Templates.{IsFramed}
+use Rattle.tpl_ast.specs.States.{is_in}
 use Rattle.given_start.specs.Regions.{AreAligned}
 
 pub same_ram : (ram : List Region) (n : ℕ) → in_ram (map (λ r. (r.low, r.high)) ram) n ≡ is_in ram (n * 4)

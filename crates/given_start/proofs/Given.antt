@@ -3,8 +3,8 @@ use Rattle.std.proofs.Common.{◌≡◌, ◌≢◌, ℕ, ◌+◌, ◌<◌, ◌�
 use Rattle.std.specs.Prelude.{nat_eq}
 use Rattle.std.specs.List.{AllByRecursion}
 use Rattle.std.proofs.lemmas.Bool.{cases_Bool, eqb-true, ne_eqb}
-use Rattle.tpl_admit.specs.Starts.{found, ArePlaces}
-use Rattle.tpl_admit.specs.WellFormed.{is_legal_place}
+use Rattle.tpl_admit.specs.Starts.{found}
+use Rattle.tpl_ast.specs.States.{ArePlaces, is_legal_place}
 
 pub found_below : (from : ℕ) (es : List (ℕ × ℕ)) (key : ℕ) → ArePlaces from es → key < from → found es key ≡ None
 found_below from [] key is below = refl

@@ -10,7 +10,7 @@ use Rattle.rv_csr.specs.declared.table.LazyRegister.TheVariants.{Stvec}
 use Rattle.rv_csr.specs.declared.table.Register.{Register}
 use Rattle.rv_csr.specs.declared.table.Register.TheVariants.{Lazy}
 use Rattle.rv_csr.specs.Table.{address_of, csr_key, lazy_csrs, lazy_registers, register_at, registers, csr_address, first_csr_key}
-use Rattle.tpl_admit.specs.Starts.{is_key}
+use Rattle.tpl_ast.specs.States.{is_key}
 
 -- what a search finds passes
 find_passes : {X : Type 0} (p : X → Bool) (xs : List X) (x : X) → find p xs ≡ Some x → p x ≡ true

@@ -7,7 +7,8 @@ use Rattle.rv_hart.specs.declared.hart.Hart.{Hart}
 use Rattle.rv_hart.specs.Fixed.{Fixed}
 use Rattle.rv_hart.specs.Whole.{WholeHart}
 use Rattle.tpl_ast.specs.declared.template.Region.{Region}
-use Rattle.tpl_admit.specs.Starts.{is_in, zero_elsewhere}
+use Rattle.tpl_admit.specs.Starts.{zero_elsewhere}
+use Rattle.tpl_ast.specs.States.{is_in}
 
 -- the value of the place of a key, where it is known; x0 has no key
 unfoldable pub known_at : List (Option ℕ) → CsrValues → ℕ → Option ℕ

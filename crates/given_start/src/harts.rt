@@ -2,8 +2,8 @@
 ghost use Rattle.std.specs.Prelude.{◌≡◌, ℕ, true, nat_eq, if◌then◌else◌, List};
 ghost use Rattle.std.specs.List.{AllByRecursion};
 ghost use Rattle.tpl_ast.specs.declared.template.Region.{Region as ARegion};
-ghost use Rattle.tpl_admit.specs.Starts.{found, is_key, ArePlaces, fixed_in};
-ghost use Rattle.tpl_admit.specs.WellFormed.{is_legal_place, IsState};
+ghost use Rattle.tpl_admit.specs.Starts.{found, fixed_in};
+ghost use Rattle.tpl_ast.specs.States.{is_key, ArePlaces, is_legal_place, IsState};
 ghost use Rattle.given_start.specs.Knowledge.{known_of, fixed_now};
 
 use rv_csr::{Csrs, FIRST_KEY};

@@ -1,7 +1,7 @@
 // RAM as a template gives it.
 ghost use Rattle.std.specs.Prelude.{◌≡◌, ℕ, ◌*◌, IfOk, map};
 ghost use Rattle.rv_mem.specs.Ram.{in_ram};
-ghost use Rattle.tpl_admit.specs.Starts.{is_in};
+ghost use Rattle.tpl_ast.specs.States.{is_in};
 ghost use Rattle.given_start.specs.Regions.{AreAligned};
 
 use rv_mem::Ram;

@@ -30,7 +30,7 @@ all_slots : (x : Values) → ((s : Slot) → x s < 2 ^ 32) → (ss : List Slot) 
 all_slots x h [] = All-nil (λ (v : ℕ). v < 2 ^ 32)
 all_slots x h (s ∷ ss) = All-cons (λ (v : ℕ). v < 2 ^ 32) (x s) (map x ss) (h s) (all_slots x h ss)
 
-words_all : (x : Values) → ((s : Slot) → x s < 2 ^ 32) → IsAssignment (assignment_of x)
+pub words_all : (x : Values) → ((s : Slot) → x s < 2 ^ 32) → IsAssignment (assignment_of x)
 words_all x h = record {
   length = refl;
   words = all_slots x h (slots.Op ∷ slots.Rs1 ∷ slots.Rs2 ∷ slots.Imm ∷ slots.Rd ∷ slots.Csr ∷ slots.Ea ∷ slots.A ∷ slots.B ∷ slots.FirstPte ∷ slots.SecondPte ∷ slots.DataWord ∷ slots.OldCsr ∷ slots.Vector ∷ []);

@@ -162,7 +162,7 @@ or_right : (a b : Bool) → b ≡ true → (a || b) ≡ true
 or_right true b h = refl
 or_right false b h = h
 
-any_less : (t : Turn) (bias : List Atom) (e : Extra) (stays : List Bool) (cs : List Case) (x : Assignment) → IsAssignment x → All IsCase cs → AreAdded t bias e stays cs → list_any (fits_case x) (extended_cases e stays cs) ≡ true
+pub any_less : (t : Turn) (bias : List Atom) (e : Extra) (stays : List Bool) (cs : List Case) (x : Assignment) → IsAssignment x → All IsCase cs → AreAdded t bias e stays cs → list_any (fits_case x) (extended_cases e stays cs) ≡ true
     → (list_any (fits_case x) cs ≡ true) × (met_by t bias (values_in x) ≡ true)
 any_less t bias e [] [] x words are added h = absurd (cc)
 any_less t bias e (b ∷ bs) (c ∷ cs) x words are added h = elim (or_parts (fits_case x (extended_case e b c)) (list_any (fits_case x) (extended_cases e bs cs)) h) [

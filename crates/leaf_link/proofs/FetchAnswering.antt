@@ -31,27 +31,27 @@ use Rattle.leaf_link.proofs.FetchFits.{fetch_problems_are_exact}
 use Rattle.leaf_link.proofs.FaultFits.{fault_problems_are_exact}
 
 -- WHAT FITS IS WORDS
-abbrev NewSmall : Turn → List Entry → Type 0
+abbrev pub NewSmall : Turn → List Entry → Type 0
 NewSmall t log = (e : Entry) → HasItem log e → t.known (entry_place e) ≡ None → e.value < 2 ^ 32
 
-fetch_values_small : (t : Turn) (log : List Entry) → NewSmall t log → (s : Slot) → fetch_values t log s < 2 ^ 32
+pub fetch_values_small : (t : Turn) (log : List Entry) → NewSmall t log → (s : Slot) → fetch_values t log s < 2 ^ 32
 fetch_values_small t log new slots.FirstPte = new_small t.known log FetchRoot new
 fetch_values_small t log new slots.SecondPte = new_small t.known log FetchSecond new
 fetch_values_small t log new _ = omega arith
 
-fault_values_small : (t : Turn) (log : List Entry) → NewSmall t log → (s : Slot) → fault_values t log s < 2 ^ 32
+pub fault_values_small : (t : Turn) (log : List Entry) → NewSmall t log → (s : Slot) → fault_values t log s < 2 ^ 32
 fault_values_small t log new slots.FirstPte = new_small t.known log FetchRoot new
 fault_values_small t log new slots.SecondPte = new_small t.known log FetchSecond new
 fault_values_small t log new slots.Vector = new_small t.known log FromVector new
 fault_values_small t log new _ = omega arith
 
-fetch_small : (t : Turn) (rows : List FetchRow) → AreFetchRows t rows → (x : Values) → Fits (fetch_cases t rows) x → (s : Slot) → x s < 2 ^ 32
+pub fetch_small : (t : Turn) (rows : List FetchRow) → AreFetchRows t rows → (x : Values) → Fits (fetch_cases t rows) x → (s : Slot) → x s < 2 ^ 32
 fetch_small t rows are x f s =
     let law = fetch_problems_are_exact t rows are in
     let w = law.into x f in
     subst (λ (n : ℕ). n < 2 ^ 32) (sym (law.are_values x f s)) (fetch_values_small t w.log (λ e i n. ltb-true _ _ (and_parts _ _ (w.meets.may (instr_in x) e i n)).0) s)
 
-fault_small : (t : Turn) (causes : ℕ → Bool) (rows : List FetchRow) → AreFetchRows t rows → (x : Values) → Fits (fault_cases t causes rows) x → (s : Slot) → x s < 2 ^ 32
+pub fault_small : (t : Turn) (causes : ℕ → Bool) (rows : List FetchRow) → AreFetchRows t rows → (x : Values) → Fits (fault_cases t causes rows) x → (s : Slot) → x s < 2 ^ 32
 fault_small t causes rows are x f s =
     let law = fault_problems_are_exact t causes rows are in
     let w = law.into x f in

@@ -13,12 +13,12 @@ use Rattle.rv_csr.specs.declared.access.CsrAccess.TheVariants.{Outside as NotMod
 use Rattle.rv_csr.specs.declared.privilege.Priv.{Priv}
 use Rattle.rv_csr.specs.declared.table.Register.{Register}
 use Rattle.rv_csr.specs.Access.{access_of, access_to}
-use Rattle.rv_csr.specs.Table.{address_of, register_at, registers}
+use Rattle.rv_csr.specs.Table.{address_of, is_legal_at, register_at, registers}
 use Rattle.rv_script.specs.Lists.{HasItem}
-use Rattle.rv_script.specs.Script.{Label.FromRs1, Label, Label.DataRoot, Label.DataSecond, Label.FromVector, Question, Question.OfMemory, Script, Script.Ask, Script.Done}
-use Rattle.rv_script.specs.Folds.{Known, Entry, Answer.Does}
+use Rattle.rv_script.specs.Script.{Label.FromRs1, Label, Label.FromCsr, Label.DataRoot, Label.DataSecond, Label.FromVector, Question, Question.OfMemory, Script, Script.Ask, Script.Done}
+use Rattle.rv_script.specs.Folds.{Known, by_known, Entry, Answer.Does}
 use Rattle.rv_script.specs.Labels.{label_number, question_number}
-use Rattle.rv_script.specs.Logs.{value_in, entry_label, entry_place, if_new, labelled, new_value, answer_told, by_answers}
+use Rattle.rv_script.specs.Logs.{value_in, enlarged, entry_label, entry_place, if_new, or_else, labelled, new_value, answer_told, by_answers}
 use Rattle.sv_walk.specs.declared.entry.Kind.TheVariants.{Load as ForLoad, Store as ForStore}
 use Rattle.tpl_ast.specs.declared.template.Atom.{Atom}
 use Rattle.tpl_ast.specs.declared.template.Atom.TheVariants as atoms
@@ -27,8 +27,8 @@ use Rattle.tpl_ast.specs.declared.template.Var.TheVariants as vars
 use Rattle.tpl_ast.specs.Leaves.{same_var}
 use Rattle.fd_prob.specs.declared.slot.Slot.{Slot}
 use Rattle.fd_prob.specs.declared.slot.Slot.TheVariants as slots
-use Rattle.leaf_link.specs.Turns.{Turn, is_first_form, is_second_form, may_start}
-use Rattle.leaf_link.specs.Values.{Values, has_address, instr_in}
+use Rattle.leaf_link.specs.Turns.{Turn, csr_of, holds_address, is_first_form, is_second_form, may_be_old, may_start}
+use Rattle.leaf_link.specs.Values.{Values, has_address, instr_in, old_csr}
 use Rattle.leaf_link.specs.Candidates.{IsCandidate}
 use Rattle.leaf_link.specs.Cases.{Fits, FitsCase, Shape, Way, all_judged, all_tests, code_at, in_word, is_judged, is_some_word, or_no, shape_of, tests, unless, uses, base_domain, case_at}
 use Rattle.leaf_link.specs.KindLaws.{IsPosed}
@@ -37,13 +37,13 @@ use Rattle.leaf_link.specs.Reaching.{AreRows, HasPages, Walks, data_ways, in_row
 use Rattle.leaf_link.specs.Controls.{access_in, csr_ways, return_ways, grants, is_denied, operand_in}
 use Rattle.leaf_link.specs.AllWays.{leaf_cases, ways_of}
 use Rattle.leaf_link.specs.Kinds.{retires, traps}
-use Rattle.leaf_link.specs.Firsts.{first_domain, in_first_word, is_modelled, has_walk}
-use Rattle.leaf_link.specs.Domains.{CandidatesAreInDomains, is_bounded, is_new}
+use Rattle.leaf_link.specs.Firsts.{first_domain, has_old, in_first_word, is_modelled, has_walk}
+use Rattle.leaf_link.specs.Domains.{CandidatesAreInDomains, CandidatesAreWords, OldDomainsAreLet, OldValuesAreInDomains, holds_cause, in_old_domain, is_bounded, is_new}
 use Rattle.leaf_link.proofs.Numbers.{same_op}
 use Rattle.leaf_link.proofs.Truths.{same_var_is}
 use Rattle.leaf_link.proofs.Law.{fits_way, or_from, or_unused, or_used, used}
-use Rattle.leaf_link.proofs.Whole.{one_of}
-use Rattle.leaf_link.proofs.Small.{label_has}
+use Rattle.leaf_link.proofs.Whole.{below_58, one_of}
+use Rattle.leaf_link.proofs.Small.{good_small, label_has}
 use Rattle.dom_set.specs.Elements.{is_in}
 use Rattle.rv_isa.specs.declared.instruction.Instr.{Instr}
 use Rattle.rv_csr.specs.declared.cause.Cause.{Cause}
@@ -56,10 +56,12 @@ use Rattle.sv_walk.specs.declared.entry.Kind.{Kind}
 use Rattle.sv_walk.specs.Entry.{access_cause}
 use Rattle.sv_walk.specs.Translation.{Reached, Fails, arrived, from_root, is_in_ram, is_translated, root_address, root_label, translated}
 use Rattle.addr_rows.specs.Walks.{EntryRow, Faults, Leads, RowEnd, end_at, entry_answers}
-use Rattle.rv_hart.specs.Machine.{data_view}
+use Rattle.rv_hart.specs.Machine.{data_view, script}
 use Rattle.rv_hart.specs.Privileged.{is_withheld, lazy_address}
 use Rattle.fd_prob.specs.Slots.{slot_number}
-use Rattle.leaf_link.proofs.Front.{same_done}
+use Rattle.leaf_link.proofs.Front.{same_done, settled}
+use Rattle.leaf_link.proofs.Links.{candidate_good}
+use Rattle.rv_script.proofs.Plays.{told}
 use Rattle.leaf_link.proofs.Both.{each_slot}
 use Rattle.leaf_link.proofs.Back.{address_small}
 use Rattle.leaf_link.proofs.Reaching.{in_map}
@@ -182,9 +184,9 @@ vector_may t i FromVector place v n h = (and_parts _ _ h).1
 vector_may t i _ place v n h = absurd (cc)
 
 -- WAYS WITHOUT A WALK
--- no new entry
+-- no new entry, and no data word
 abbrev IsQuiet : Way → Type 0
-IsQuiet way = (v : ℕ) → (way.also slots.FirstPte v ≡ eqb v 0) × (way.also slots.SecondPte v ≡ eqb v 0)
+IsQuiet way = (v : ℕ) → (way.also slots.FirstPte v ≡ eqb v 0) × (way.also slots.SecondPte v ≡ eqb v 0) × (way.also slots.DataWord v ≡ eqb v 0)
 
 abbrev AreQuiet : List Way → Type 0
 AreQuiet ways = (way : Way) → HasItem ways way → IsQuiet way
@@ -200,14 +202,14 @@ if_quiet true xs ys h k = h
 if_quiet false xs ys h k = k
 
 ways_quiet : (t : Turn) (walk : List Entry) (pa : ℕ) (leaf : List Atom) (loads stores : List EntryRow) (op : Op) → has_address (row_of op) ≡ false → AreQuiet (ways_of t walk pa leaf loads stores op)
-ways_quiet t walk pa leaf loads stores Jal h = two_quiet _ _ (λ v. (refl, refl)) (λ v. (refl, refl))
-ways_quiet t walk pa leaf loads stores Jalr h = two_quiet _ _ (λ v. (refl, refl)) (λ v. (refl, refl))
-ways_quiet t walk pa leaf loads stores Beq h = two_quiet _ _ (λ v. (refl, refl)) (λ v. (refl, refl))
-ways_quiet t walk pa leaf loads stores Bne h = two_quiet _ _ (λ v. (refl, refl)) (λ v. (refl, refl))
-ways_quiet t walk pa leaf loads stores Blt h = two_quiet _ _ (λ v. (refl, refl)) (λ v. (refl, refl))
-ways_quiet t walk pa leaf loads stores Bge h = two_quiet _ _ (λ v. (refl, refl)) (λ v. (refl, refl))
-ways_quiet t walk pa leaf loads stores Bltu h = two_quiet _ _ (λ v. (refl, refl)) (λ v. (refl, refl))
-ways_quiet t walk pa leaf loads stores Bgeu h = two_quiet _ _ (λ v. (refl, refl)) (λ v. (refl, refl))
+ways_quiet t walk pa leaf loads stores Jal h = two_quiet _ _ (λ v. (refl, refl, refl)) (λ v. (refl, refl, refl))
+ways_quiet t walk pa leaf loads stores Jalr h = two_quiet _ _ (λ v. (refl, refl, refl)) (λ v. (refl, refl, refl))
+ways_quiet t walk pa leaf loads stores Beq h = two_quiet _ _ (λ v. (refl, refl, refl)) (λ v. (refl, refl, refl))
+ways_quiet t walk pa leaf loads stores Bne h = two_quiet _ _ (λ v. (refl, refl, refl)) (λ v. (refl, refl, refl))
+ways_quiet t walk pa leaf loads stores Blt h = two_quiet _ _ (λ v. (refl, refl, refl)) (λ v. (refl, refl, refl))
+ways_quiet t walk pa leaf loads stores Bge h = two_quiet _ _ (λ v. (refl, refl, refl)) (λ v. (refl, refl, refl))
+ways_quiet t walk pa leaf loads stores Bltu h = two_quiet _ _ (λ v. (refl, refl, refl)) (λ v. (refl, refl, refl))
+ways_quiet t walk pa leaf loads stores Bgeu h = two_quiet _ _ (λ v. (refl, refl, refl)) (λ v. (refl, refl, refl))
 ways_quiet t walk pa leaf loads stores Lb h = absurd (cc)
 ways_quiet t walk pa leaf loads stores Lh h = absurd (cc)
 ways_quiet t walk pa leaf loads stores Lw h = absurd (cc)
@@ -216,19 +218,77 @@ ways_quiet t walk pa leaf loads stores Lhu h = absurd (cc)
 ways_quiet t walk pa leaf loads stores Sb h = absurd (cc)
 ways_quiet t walk pa leaf loads stores Sh h = absurd (cc)
 ways_quiet t walk pa leaf loads stores Sw h = absurd (cc)
-ways_quiet t walk pa leaf loads stores Ecall h = one_quiet _ (λ v. (refl, refl))
-ways_quiet t walk pa leaf loads stores Ebreak h = one_quiet _ (λ v. (refl, refl))
-ways_quiet t walk pa leaf loads stores Csrrw h = two_quiet _ _ (λ v. (refl, refl)) (λ v. (refl, refl))
-ways_quiet t walk pa leaf loads stores Csrrs h = two_quiet _ _ (λ v. (refl, refl)) (λ v. (refl, refl))
-ways_quiet t walk pa leaf loads stores Csrrc h = two_quiet _ _ (λ v. (refl, refl)) (λ v. (refl, refl))
-ways_quiet t walk pa leaf loads stores Csrrwi h = two_quiet _ _ (λ v. (refl, refl)) (λ v. (refl, refl))
-ways_quiet t walk pa leaf loads stores Csrrsi h = two_quiet _ _ (λ v. (refl, refl)) (λ v. (refl, refl))
-ways_quiet t walk pa leaf loads stores Csrrci h = two_quiet _ _ (λ v. (refl, refl)) (λ v. (refl, refl))
-ways_quiet t walk pa leaf loads stores Mret h = if_quiet (is_machine t.fixed.privilege) (return_ways t (lazy_address Mepc)) (traps t IllegalCause) (one_quiet _ (λ v. (refl, refl))) (one_quiet _ (λ v. (refl, refl)))
-ways_quiet t walk pa leaf loads stores Sret h = if_quiet (is_withheld Tsr t.fixed) (traps t IllegalCause) (return_ways t (lazy_address Sepc)) (one_quiet _ (λ v. (refl, refl))) (one_quiet _ (λ v. (refl, refl)))
-ways_quiet t walk pa leaf loads stores SfenceVma h = if_quiet (is_withheld Tvm t.fixed) (traps t IllegalCause) retires (one_quiet _ (λ v. (refl, refl))) (one_quiet _ (λ v. (refl, refl)))
-ways_quiet t walk pa leaf loads stores Illegal h = one_quiet _ (λ v. (refl, refl))
-ways_quiet t walk pa leaf loads stores _ h = one_quiet _ (λ v. (refl, refl))
+ways_quiet t walk pa leaf loads stores Ecall h = one_quiet _ (λ v. (refl, refl, refl))
+ways_quiet t walk pa leaf loads stores Ebreak h = one_quiet _ (λ v. (refl, refl, refl))
+ways_quiet t walk pa leaf loads stores Csrrw h = two_quiet _ _ (λ v. (refl, refl, refl)) (λ v. (refl, refl, refl))
+ways_quiet t walk pa leaf loads stores Csrrs h = two_quiet _ _ (λ v. (refl, refl, refl)) (λ v. (refl, refl, refl))
+ways_quiet t walk pa leaf loads stores Csrrc h = two_quiet _ _ (λ v. (refl, refl, refl)) (λ v. (refl, refl, refl))
+ways_quiet t walk pa leaf loads stores Csrrwi h = two_quiet _ _ (λ v. (refl, refl, refl)) (λ v. (refl, refl, refl))
+ways_quiet t walk pa leaf loads stores Csrrsi h = two_quiet _ _ (λ v. (refl, refl, refl)) (λ v. (refl, refl, refl))
+ways_quiet t walk pa leaf loads stores Csrrci h = two_quiet _ _ (λ v. (refl, refl, refl)) (λ v. (refl, refl, refl))
+ways_quiet t walk pa leaf loads stores Mret h = if_quiet (is_machine t.fixed.privilege) (return_ways t (lazy_address Mepc)) (traps t IllegalCause) (one_quiet _ (λ v. (refl, refl, refl))) (one_quiet _ (λ v. (refl, refl, refl)))
+ways_quiet t walk pa leaf loads stores Sret h = if_quiet (is_withheld Tsr t.fixed) (traps t IllegalCause) (return_ways t (lazy_address Sepc)) (one_quiet _ (λ v. (refl, refl, refl))) (one_quiet _ (λ v. (refl, refl, refl)))
+ways_quiet t walk pa leaf loads stores SfenceVma h = if_quiet (is_withheld Tvm t.fixed) (traps t IllegalCause) retires (one_quiet _ (λ v. (refl, refl, refl))) (one_quiet _ (λ v. (refl, refl, refl)))
+ways_quiet t walk pa leaf loads stores Illegal h = one_quiet _ (λ v. (refl, refl, refl))
+ways_quiet t walk pa leaf loads stores _ h = one_quiet _ (λ v. (refl, refl, refl))
+
+-- WAYS WITHOUT AN OLD VALUE
+abbrev IsUnread : Way → Type 0
+IsUnread way = (v : ℕ) → way.also slots.OldCsr v ≡ eqb v 0
+
+abbrev AreUnread : List Way → Type 0
+AreUnread ways = (way : Way) → HasItem ways way → IsUnread way
+
+one_unread : (first : Way) → IsUnread first → AreUnread (first ∷ [])
+one_unread first h way i = elim i [ inl q ↦ subst IsUnread q h | inr i ↦ absurd i ]
+
+two_unread : (first second : Way) → IsUnread first → IsUnread second → AreUnread (first ∷ second ∷ [])
+two_unread first second h k way i = elim i [ inl q ↦ subst IsUnread q h | inr i ↦ one_unread second k way i ]
+
+if_unread : (b : Bool) (xs ys : List Way) → AreUnread xs → AreUnread ys → AreUnread (if b then xs else ys)
+if_unread true xs ys h k = h
+if_unread false xs ys h k = k
+
+row_unread : (t : Turn) (pa : ℕ) (leaf : List Atom) (op : Op) (kind : Kind) (question : Values → ℕ → Question) (apart : Values → ℕ → Bool) (row : EntryRow) (end : RowEnd) → IsUnread (way_to t pa leaf op kind question apart row end)
+row_unread t pa leaf op kind question apart row (Leads to) v = refl
+row_unread t pa leaf op kind question apart row (Faults cause) v = refl
+
+data_unread : (t : Turn) (pa : ℕ) (leaf : List Atom) (op : Op) (kind : Kind) (misaligned : Cause) (question : Values → ℕ → Question) (apart : Values → ℕ → Bool) (rows : List EntryRow) → AreUnread (data_ways t pa leaf op kind misaligned question apart rows)
+data_unread t pa leaf op kind misaligned question apart rows way i = elim i [
+  | inl q ↦ subst IsUnread q (λ v. refl)
+  | inr j ↦ let m = in_map (way_of t pa leaf op kind question apart) rows way j in subst IsUnread m.2 (row_unread t pa leaf op kind question apart m.0 m.0.end)
+]
+
+ways_unread : (t : Turn) (walk : List Entry) (pa : ℕ) (leaf : List Atom) (loads stores : List EntryRow) (op : Op) → has_old op ≡ false → AreUnread (ways_of t walk pa leaf loads stores op)
+ways_unread t walk pa leaf loads stores Jal h = two_unread _ _ (λ v. refl) (λ v. refl)
+ways_unread t walk pa leaf loads stores Jalr h = two_unread _ _ (λ v. refl) (λ v. refl)
+ways_unread t walk pa leaf loads stores Beq h = two_unread _ _ (λ v. refl) (λ v. refl)
+ways_unread t walk pa leaf loads stores Bne h = two_unread _ _ (λ v. refl) (λ v. refl)
+ways_unread t walk pa leaf loads stores Blt h = two_unread _ _ (λ v. refl) (λ v. refl)
+ways_unread t walk pa leaf loads stores Bge h = two_unread _ _ (λ v. refl) (λ v. refl)
+ways_unread t walk pa leaf loads stores Bltu h = two_unread _ _ (λ v. refl) (λ v. refl)
+ways_unread t walk pa leaf loads stores Bgeu h = two_unread _ _ (λ v. refl) (λ v. refl)
+ways_unread t walk pa leaf loads stores Lb h = data_unread t pa leaf Lb ForLoad LoadMisaligned (load_question Lb) (λ x p. true) loads
+ways_unread t walk pa leaf loads stores Lh h = data_unread t pa leaf Lh ForLoad LoadMisaligned (load_question Lh) (λ x p. true) loads
+ways_unread t walk pa leaf loads stores Lw h = data_unread t pa leaf Lw ForLoad LoadMisaligned (load_question Lw) (λ x p. true) loads
+ways_unread t walk pa leaf loads stores Lbu h = data_unread t pa leaf Lbu ForLoad LoadMisaligned (load_question Lbu) (λ x p. true) loads
+ways_unread t walk pa leaf loads stores Lhu h = data_unread t pa leaf Lhu ForLoad LoadMisaligned (load_question Lhu) (λ x p. true) loads
+ways_unread t walk pa leaf loads stores Sb h = data_unread t pa leaf Sb ForStore StoreMisaligned (store_question Sb) (store_apart t walk pa Sb) stores
+ways_unread t walk pa leaf loads stores Sh h = data_unread t pa leaf Sh ForStore StoreMisaligned (store_question Sh) (store_apart t walk pa Sh) stores
+ways_unread t walk pa leaf loads stores Sw h = data_unread t pa leaf Sw ForStore StoreMisaligned (store_question Sw) (store_apart t walk pa Sw) stores
+ways_unread t walk pa leaf loads stores Csrrw h = absurd (cc)
+ways_unread t walk pa leaf loads stores Csrrs h = absurd (cc)
+ways_unread t walk pa leaf loads stores Csrrc h = absurd (cc)
+ways_unread t walk pa leaf loads stores Csrrwi h = absurd (cc)
+ways_unread t walk pa leaf loads stores Csrrsi h = absurd (cc)
+ways_unread t walk pa leaf loads stores Csrrci h = absurd (cc)
+ways_unread t walk pa leaf loads stores Mret h = absurd (cc)
+ways_unread t walk pa leaf loads stores Sret h = absurd (cc)
+ways_unread t walk pa leaf loads stores SfenceVma h = if_unread (is_withheld Tvm t.fixed) (traps t IllegalCause) retires (one_unread _ (λ v. refl)) (one_unread _ (λ v. refl))
+ways_unread t walk pa leaf loads stores Ecall h = one_unread _ (λ v. refl)
+ways_unread t walk pa leaf loads stores Ebreak h = one_unread _ (λ v. refl)
+ways_unread t walk pa leaf loads stores Illegal h = one_unread _ (λ v. refl)
+ways_unread t walk pa leaf loads stores _ h = one_unread _ (λ v. refl)
 
 -- without translation no entry is asked for
 abbrev walk_script : Turn → Kind → ℕ → Script Reached
@@ -343,7 +403,36 @@ candidates_are_in_domains t walk pa leaf pages loads stores posed has_pages l s 
       b_slot = λ h. source_in t shape leaf vars.B (reads_rs2 (row_of op)) _ (x slots.B) (λ u. (and_parts (reads_rs2 (row_of op)) _ u).0) k.judged (base slots.B);
       first_slot = λ h. or_from (has_walk t op) _ (x slots.FirstPte) (λ y. started_in t w.instr w.log DataRoot (is_first_form t) w.is.meets.may (first_may t w.instr) h) (λ n. (unwalked n).0);
       second_slot = λ h. or_from (has_walk t op) _ (x slots.SecondPte) (λ y. started_in t w.instr w.log DataSecond (is_second_form t) w.is.meets.may (second_may t w.instr) h) (λ n. (unwalked n).1);
-      data_slot = λ h. absurd (cc);
-      old_slot = λ h. absurd (cc);
+      data_slot = λ h. or_from (has_address (row_of op)) true (x slots.DataWord) (λ y. refl) (λ n. eqb-true (x slots.DataWord) 0 (sym (ways_quiet t walk pa leaf loads stores op n k.way k.item (x slots.DataWord)).2 ∙ also slots.DataWord));
+      old_slot = λ h. or_from (has_old op) true (x slots.OldCsr) (λ y. refl) (λ n. eqb-true (x slots.OldCsr) 0 (sym (ways_unread t walk pa leaf loads stores op n k.way k.item (x slots.OldCsr)) ∙ also slots.OldCsr));
       vector_slot = λ h. started_in t w.instr w.log FromVector (is_in t.vectors) w.is.meets.may (vector_may t w.instr) h;
     })
+
+pub candidates_are_words : CandidatesAreWords
+candidates_are_words t walk pa leaf p new w = good_small t leaf (key_of t leaf new w) p.words p.fixed below_58 (candidate_good t leaf new w (settled t walk pa p.fetched))
+
+-- OLD VALUES
+old_may : (t : Turn) (i : Instr) (m : Label) (place : Place) (v : ℕ) → eqb (label_number m) 5 ≡ true → may_start t i m place v ≡ true → may_be_old t (csr_of place) v ≡ true
+old_may t i FromCsr place v n h = (and_parts _ _ h).1
+old_may t i _ place v n h = absurd (cc)
+
+old_inside : (t : Turn) (addr v : ℕ) → may_be_old t addr v ≡ true → in_old_domain t addr v ≡ true
+old_inside t addr v h = go (holds_address addr) (holds_cause addr) h
+  where
+    go : (b c : Bool) → (if b then is_in t.vectors v else is_legal_at addr v) ≡ true → (if b then is_in t.vectors v else (if c then is_legal_at addr v else true)) ≡ true
+    go true c h = h
+    go false true h = h
+    go false false h = refl
+
+pub old_values_are_in_domains : OldValuesAreInDomains
+old_values_are_in_domains t leaf new w e is unknown =
+    let item : HasItem w.log e = label_has w.log FromCsr e is in
+    let value : key_of t leaf new w slots.OldCsr ≡ e.value = ap (λ (o : Option Entry). old_csr t.fixed w.instr o) is in
+    let told_here : enlarged t.known new (entry_place e) ≡ Some e.value = told (script t.fixed) (by_known (enlarged t.known new)) w.log w.change w.is.plays e item in
+    let here : new (entry_place e) ≡ Some e.value = ap (λ (o : Option ℕ). or_else o (new (entry_place e))) (sym unknown) ∙ told_here in
+    let may : may_be_old t (csr_of (entry_place e)) e.value ≡ true = old_may t w.instr (entry_label e) (entry_place e) e.value (label_is w.log FromCsr e is) (w.is.meets.may e item unknown) in
+    (here ∙ ap (λ (v : ℕ). Some v) (sym value), subst (λ (v : ℕ). in_old_domain t (csr_of (entry_place e)) v ≡ true) (sym value) (old_inside t (csr_of (entry_place e)) e.value may))
+
+pub old_domains_are_let : OldDomainsAreLet
+old_domains_are_let t Mepc v = refl
+old_domains_are_let t _ v = refl

@@ -37,3 +37,10 @@ mod FetchAnswering
 mod WalkPossible
 mod InDomains
 mod Serving
+mod Totals
+mod Agreeing
+mod Bounding
+mod BiasPossible
+mod Finding
+mod Existing
+mod FetchPossible

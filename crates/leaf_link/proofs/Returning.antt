@@ -10,7 +10,7 @@ use Rattle.rv_csr.specs.declared.table.LazyRegister.TheVariants.{Mepc, Sepc}
 use Rattle.rv_csr.specs.Privilege.{is_machine}
 use Rattle.rv_script.specs.declared.place.Place.TheVariants.{Csr}
 use Rattle.rv_script.specs.Lists.{HasItem}
-use Rattle.rv_script.specs.Script.{Label.FromCsr, Label.FromVector, Label.DataRoot, Label.DataSecond, Label.DataWord, Question.OfCsr, Script, Script.Ask, Script.Done}
+use Rattle.rv_script.specs.Script.{Label, Label.FromCsr, Label.FromVector, Label.DataRoot, Label.DataSecond, Label.DataWord, Question.OfCsr, Script, Script.Ask, Script.Done}
 use Rattle.rv_script.specs.Folds.{Answer.Does, Entry}
 use Rattle.rv_hart.specs.declared.record.Change.{Change}
 use Rattle.rv_hart.specs.declared.record.Control.TheVariants.{Mret as GoesM, Sret as GoesS}
@@ -25,7 +25,7 @@ use Rattle.rv_script.specs.Logs.{entry_place, entry_label, answer_told, labelled
 use Rattle.leaf_link.specs.Turns.{Turn, is_free_entry, may_be_old, may_start}
 use Rattle.leaf_link.specs.Values.{Values, given_by, instr_in, old_csr}
 use Rattle.leaf_link.specs.Candidates.{accesses_in}
-use Rattle.leaf_link.specs.Cases.{Way, all_tests}
+use Rattle.leaf_link.specs.Cases.{Shape, Way, all_tests}
 use Rattle.leaf_link.specs.Ways.{AsksUsed, DoesRest, FitsWay, IsFetched, IsOf, IsReach, IsWays, shape_with}
 use Rattle.leaf_link.specs.Kinds.{traps}
 use Rattle.leaf_link.specs.Controls.{ReturnsAreExact, ends_when, is_old, is_old_value, mret_ways, old_new, return_ways, sret_ways}
@@ -90,6 +90,29 @@ old_does t walk pa leaf op x addr f a r z h =
       old = o.1;
     }
 
+-- where no entry, no data word and no vector is asked for, none is new
+none_started : (t : Turn) (walk : List Entry) (pa : ℕ) (leaf : List Atom) (s : Shape) (x : Values) → (d : DoesRest t walk pa leaf s x) (log : List Entry) → log ≡ d.log
+    → labelled log DataRoot ≡ None → labelled log DataSecond ≡ None → labelled log DataWord ≡ None → labelled log FromVector ≡ None → (slot : Slot) → zero_slots x slot
+none_started t walk pa leaf s x d log same root second word vector =
+    let zero : (l : Label) → labelled log l ≡ None → new_value t.known (labelled d.log l) ≡ 0 =
+    λ l none. ap (λ (m : List Entry). new_value t.known (labelled m l)) (sym same) ∙ ap (λ (o : Option Entry). new_value t.known o) none in
+    each_slot (zero_slots x) (record {
+      op_slot = refl;
+      rs1_slot = refl;
+      rs2_slot = refl;
+      imm_slot = refl;
+      rd_slot = refl;
+      csr_slot = refl;
+      ea_slot = refl;
+      a_slot = refl;
+      b_slot = refl;
+      first_slot = eq-eqb _ _ (d.first ∙ zero DataRoot root);
+      second_slot = eq-eqb _ _ (d.second ∙ zero DataSecond second);
+      data_slot = eq-eqb _ _ (d.data_word ∙ zero DataWord word);
+      old_slot = refl;
+      vector_slot = eq-eqb _ _ (d.vector ∙ zero FromVector vector);
+    })
+
 -- what a step without a new place but an old value says
 pub record OldDone (t : Turn) (x : Values) (outcome : ℕ) (reaches : Bool) (old : Bool) : Type 0 where
   pub each : (s : Slot) → zero_slots x s
@@ -103,22 +126,7 @@ does_old t walk pa leaf op x addr outcome reaches a r d =
     let one : Entry = old_entry t x addr in
     let same = same_done (one ∷ []) d.log r.change d.change (sym (old_plays t op x addr a r) ∙ d.plays) in
     record {
-      each = each_slot (zero_slots x) (record {
-        op_slot = refl;
-        rs1_slot = refl;
-        rs2_slot = refl;
-        imm_slot = refl;
-        rd_slot = refl;
-        csr_slot = refl;
-        ea_slot = refl;
-        a_slot = refl;
-        b_slot = refl;
-        first_slot = eq-eqb _ _ (d.first ∙ ap (λ (l : List Entry). new_value t.known (labelled l DataRoot)) (sym same.0));
-        second_slot = eq-eqb _ _ (d.second ∙ ap (λ (l : List Entry). new_value t.known (labelled l DataSecond)) (sym same.0));
-        data_slot = eq-eqb _ _ (d.data_word ∙ ap (λ (l : List Entry). new_value t.known (labelled l DataWord)) (sym same.0));
-        old_slot = refl;
-        vector_slot = eq-eqb _ _ (d.vector ∙ ap (λ (l : List Entry). new_value t.known (labelled l FromVector)) (sym same.0));
-      });
+      each = none_started t walk pa leaf (shape_with op outcome reaches) x d (one ∷ []) same.0 refl refl refl refl;
       old_is = old_from t (t.known (Csr addr)) addr (x slots.OldCsr) (d.may one (subst (λ (l : List Entry). HasItem l one) same.0 (inl refl)))
           (d.old ∙ ap (λ (l : List Entry). old_csr t.fixed (instr_in x) (labelled l FromCsr)) (sym same.0));
       outcome_is = sym r.outcome ∙ ap (λ (c : Change). outcome_in (outcome_of t.fixed c.control)) same.1 ∙ d.outcome;
@@ -152,22 +160,7 @@ pub does_quiet : (t : Turn) (walk : List Entry) (pa : ℕ) (leaf : List Atom) (o
 does_quiet t walk pa leaf op x outcome reaches v h r d =
     let same = same_done [] d.log r.change d.change (sym (ap (λ (s : Script Change). answer_told (by_answers t.known (given_by x)) s) r.ends) ∙ d.plays) in
     record {
-      each = each_slot (zero_slots x) (record {
-        op_slot = refl;
-        rs1_slot = refl;
-        rs2_slot = refl;
-        imm_slot = refl;
-        rd_slot = refl;
-        csr_slot = refl;
-        ea_slot = refl;
-        a_slot = refl;
-        b_slot = refl;
-        first_slot = eq-eqb _ _ (d.first ∙ ap (λ (l : List Entry). new_value t.known (labelled l DataRoot)) (sym same.0));
-        second_slot = eq-eqb _ _ (d.second ∙ ap (λ (l : List Entry). new_value t.known (labelled l DataSecond)) (sym same.0));
-        data_slot = eq-eqb _ _ (d.data_word ∙ ap (λ (l : List Entry). new_value t.known (labelled l DataWord)) (sym same.0));
-        old_slot = refl;
-        vector_slot = eq-eqb _ _ (d.vector ∙ ap (λ (l : List Entry). new_value t.known (labelled l FromVector)) (sym same.0));
-      });
+      each = none_started t walk pa leaf (shape_with op outcome reaches) x d [] same.0 refl refl refl refl;
       old_is = eq-eqb _ _ (d.old ∙ ap (λ (l : List Entry). old_csr t.fixed (instr_in x) (labelled l FromCsr)) (sym same.0) ∙ h);
       outcome_is = sym r.outcome ∙ ap (λ (c : Change). outcome_in (outcome_of t.fixed c.control)) same.1 ∙ d.outcome;
       reaches_is = reach_none (all_tests t leaf vars.Pa) reaches (subst (λ (l : List Entry). IsReach (all_tests t leaf vars.Pa) reaches (data_address (accesses_in l))) (sym same.0) d.reach);

@@ -49,7 +49,7 @@ not_all test (q ∷ rs) r i h = elim i [
     last true = refl
     last false = refl
 
-fits_not : (c : Case) (x : Assignment) → HasItem c.rels (Rows []) → fits_case x c ≡ false
+pub fits_not : (c : Case) (x : Assignment) → HasItem c.rels (Rows []) → fits_case x c ≡ false
 unfolding fits_case
 fits_not c x i = ap (λ (b : Bool). (c.op == value_of x slots.Op && is_within c x) && b) (not_all (holds (op_numbered c.op) x) c.rels (Rows []) i refl) ∙ last (c.op == value_of x slots.Op && is_within c x)
   where

@@ -1,5 +1,5 @@
 -- The witnesses with a walk have candidates.
-use Rattle.std.proofs.Common.{◌≡◌, ℕ, ◌+◌, ◌-◌, ◌/◌, ◌%◌, ◌^◌, ◌<◌, ◌&&◌, ◌||◌, ◌⊎◌, Bool, true, false, eqb, if◌then◌else◌, List, [], ◌∷◌, Option, Some, None, refl, sym, ap, ◌∙◌, subst, inl, inr, arith}
+use Rattle.std.proofs.Common.{◌≡◌, ℕ, ◌+◌, ◌/◌, ◌%◌, ◌^◌, ◌<◌, ◌&&◌, ◌||◌, ◌⊎◌, Bool, true, false, eqb, if◌then◌else◌, List, [], ◌∷◌, Option, Some, None, refl, sym, ap, ◌∙◌, subst, inl, inr, arith}
 use Rattle.std.specs.Prelude.{nat_lt}
 use Rattle.std.proofs.lemmas.Bool.{and_from, and_parts, eq-eqb, eqb-true, lt-ltb, ne_eqb}
 use Rattle.rv_isa.specs.declared.instruction.Instr.{Instr}
@@ -371,7 +371,7 @@ fetch_row = record { holds = λ first second. eqb first 0 && eqb second page; en
 abbrev fault_row : FetchRow
 fault_row = record { holds = λ first second. eqb first 0 && eqb second invalid_page; end = Fails FetchPage }
 
-fetches_are_rows : AreFetchRows fetch_turn fetch_page_rows
+pub fetches_are_rows : AreFetchRows fetch_turn fetch_page_rows
 fetches_are_rows = record {
   sound = λ row i first second h. elim i [
     | inl q ↦ let parts = and_parts (eqb first 0) (eqb second page) (ap (λ (r : FetchRow). r.holds first second) q ∙ h) in
@@ -402,7 +402,7 @@ fetch_possible = record {
   starts = refl;
 }
 
-abbrev fault_answers : Values
+abbrev pub fault_answers : Values
 fault_answers slots.SecondPte = invalid_page
 fault_answers slots.Vector = 0x8000_0200
 fault_answers _ = 0

@@ -25,3 +25,7 @@ pub mod FetchAnswers
 pub mod WalkWitnesses
 pub mod Domains
 pub mod Served
+pub mod Agreements
+pub mod Bounds
+pub mod BiasWitness
+pub mod FetchWitness

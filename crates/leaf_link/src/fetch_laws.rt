@@ -1,4 +1,5 @@
 // The laws of the problems of fetches, of `do` and of `fault` leaves.
+ghost use Rattle.leaf_link.specs.Agreements.{FaultAnswersAgree, FaultAnswersExist, FetchAnswersAgree, FetchAnswersExist};
 ghost use Rattle.leaf_link.specs.FaultRows.{FaultProblemsAreExact};
 ghost use Rattle.leaf_link.specs.Faults.{FaultsAreExact};
 ghost use Rattle.leaf_link.specs.FetchAnswers.{FaultAnswersAreExact, FetchAnswersAreExact, FetchFirstsExist};
@@ -41,4 +42,13 @@ pub fn fetch_answers_are_exact()
 /// and holds nothing.
 pub fn fetch_firsts_exist()
     ensures { FetchFirstsExist }
+{}
+
+/// Does nothing. Its contract says that the fetch of a turn has just one answer, for a `do` and for a `fault` leaf: there is
+/// one, and two answers have the same values and start the same places.
+pub fn fetches_have_one_answer()
+    ensures fetches { FetchAnswersAgree }
+    ensures faults { FaultAnswersAgree }
+    ensures some_of_fetches { FetchAnswersExist }
+    ensures some_of_faults { FaultAnswersExist }
 {}

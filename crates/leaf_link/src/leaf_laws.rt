@@ -1,6 +1,8 @@
 // The laws of a leaf's problem as a whole.
+ghost use Rattle.leaf_link.specs.Agreements.{LeafAnswersAgree, LeafAnswersExist, TurnAnswersAgree, TurnAnswersExist};
 ghost use Rattle.leaf_link.specs.AllWays.{LeafAnswersAreExact, LeafProblemsAreExact};
-ghost use Rattle.leaf_link.specs.Domains.{CandidatesAreInDomains};
+ghost use Rattle.leaf_link.specs.Bounds.{SpaceIsBounded};
+ghost use Rattle.leaf_link.specs.Domains.{CandidatesAreInDomains, CandidatesAreWords, OldDomainsAreLet, OldValuesAreInDomains};
 ghost use Rattle.leaf_link.specs.Firsts.{FirstsExist, FirstsHoldNothing, PivotsAreExact, SpaceIsExact, TurnAnswersAreExact};
 ghost use Rattle.leaf_link.specs.Problems.{AnswersAreExact, ProblemIsExact};
 ghost use Rattle.leaf_link.specs.Started.{OrderIsKept};
@@ -22,10 +24,11 @@ pub fn leaf_problems_are_exact()
 {}
 
 /// Does nothing. Its contract says that a problem whose first cases are those of the turn has the turn's space and
-/// pivots.
+/// pivots, and that the space is at most 46,292,649 where data accesses are not translated.
 pub fn spaces_are_exact()
     ensures space { SpaceIsExact }
     ensures pivots { PivotsAreExact }
+    ensures bounded { SpaceIsBounded }
 {}
 
 /// Does nothing. Its contract says that every problem can be given first cases that are the turn's and hold nothing.
@@ -41,14 +44,28 @@ pub fn turn_answers_are_exact()
     ensures answers { TurnAnswersAreExact }
 {}
 
+/// Does nothing. Its contract says that a leaf's turn has just one answer, without and with its biases: there is one, and
+/// two answers have the same values, start the same places, and drop the same biases for the same reasons.
+pub fn turns_have_one_answer()
+    ensures turns { TurnAnswersAgree }
+    ensures leaves { LeafAnswersAgree }
+    ensures some_of_turns { TurnAnswersExist }
+    ensures some_of_leaves { LeafAnswersExist }
+{}
+
 /// Does nothing. Its contract says that the order of candidates is the same whether a known old CSR value stands in
 /// their values or 0.
 pub fn order_is_kept()
     ensures { OrderIsKept }
 {}
 
-/// Does nothing. Its contract says that each variable that a candidate's step uses has a value in its domain: the default
-/// one, cut by the atoms.
+/// Does nothing. Its contract says that each variable that a candidate's step uses, the new page table entries and the
+/// vector where the step starts them, has a value in its domain: the default one, cut by the atoms. All values are words.
+/// The old value of a CSR that the candidate starts is one of the vectors in mtvec, stvec, mepc and sepc, a legal one in
+/// mcause and scause, and any word in the others.
 pub fn candidates_are_in_domains()
-    ensures { CandidatesAreInDomains }
+    ensures domains { CandidatesAreInDomains }
+    ensures words { CandidatesAreWords }
+    ensures old_values { OldValuesAreInDomains }
+    ensures old_domains { OldDomainsAreLet }
 {}

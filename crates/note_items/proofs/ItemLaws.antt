@@ -12,8 +12,9 @@ use Rattle.rv_hart.specs.declared.record.Record.{Record}
 use Rattle.rv_hart.specs.declared.record.Outcome.{Outcome}
 use Rattle.tpl_ast.specs.declared.template.HartState.{HartState}
 use Rattle.tpl_admit.specs.declared.dropped.Dropped.{Dropped}
-use Rattle.tpl_admit.specs.Starts.{is_key, ArePlaces}
-use Rattle.tpl_admit.specs.WellFormed.{is_legal_place, IsState, IsAccess, IsRecord}
+use Rattle.tpl_ast.specs.States.{is_key, ArePlaces, is_legal_place, IsState}
+use Rattle.tpl_admit.specs.WellFormed.{IsRecord}
+use Rattle.rv_hart.specs.Effects.{IsAccess}
 use Rattle.byte_format.specs.Numbers.{byte, half, word}
 use Rattle.byte_format.specs.Readers.{◌>>=◌}
 use Rattle.byte_format.proofs.Bytes.{bind_some}

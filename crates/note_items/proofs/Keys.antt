@@ -4,7 +4,7 @@ use Rattle.std.specs.Prelude.{IsTrue, ◌&&◌}
 use Rattle.std.specs.List.{list_any}
 use Rattle.rv_csr.specs.Causes.{causes, number_of, is_cause}
 use Rattle.rv_csr.specs.Table.{lazy_csrs, csr_key}
-use Rattle.tpl_admit.specs.Starts.{is_key}
+use Rattle.tpl_ast.specs.States.{is_key}
 use Rattle.note_items.proofs.Booleans.{and_true, or_true, any_below, any_below_of}
 use Rattle.std.proofs.lemmas.Bool.{ltb-true}
 

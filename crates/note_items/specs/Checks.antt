@@ -5,8 +5,7 @@ use Rattle.rv_csr.specs.declared.table.Register.TheVariants.{Lazy}
 use Rattle.rv_csr.specs.Table.{is_legal_at}
 use Rattle.rv_script.specs.declared.access.Access.{Access}
 use Rattle.tpl_ast.specs.declared.template.HartState.{HartState}
-use Rattle.tpl_admit.specs.Starts.{is_key}
-use Rattle.tpl_admit.specs.WellFormed.{is_legal_place}
+use Rattle.tpl_ast.specs.States.{is_key, is_legal_place}
 
 abbrev pub is_lazy : Register → Bool
 is_lazy (Lazy register) = true

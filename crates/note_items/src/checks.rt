@@ -2,8 +2,7 @@
 ghost use Rattle.std.specs.Prelude.{◌≡◌, ◌<◌, ◌&&◌, ◌==◌, IsTrue};
 ghost use Rattle.std.specs.List.{list_any};
 ghost use Rattle.rv_csr.specs.Table.{address_of, csr_key};
-ghost use Rattle.tpl_admit.specs.Starts.{is_key};
-ghost use Rattle.tpl_admit.specs.WellFormed.{is_legal_place};
+ghost use Rattle.tpl_ast.specs.States.{is_key, is_legal_place};
 ghost use Rattle.note_items.specs.Checks.{is_lazy, is_access, is_place, are_places, is_fixed, is_state};
 
 use rv_csr::{FIRST_KEY, REGISTERS, Register, legal, row_of};

@@ -28,7 +28,7 @@ use Rattle.tpl_admit.specs.Races.{footprint_of, footprints_of}
 use Rattle.tpl_admit.specs.Solo.{is_set}
 use Rattle.tpl_admit.specs.System.{System, replaced}
 use Rattle.tpl_admit.specs.Validity.{in_turn}
-use Rattle.tpl_admit.proofs.Steps.{planned_accesses, entry_access}
+use Rattle.rv_hart.proofs.Entries.{planned_accesses, entry_access}
 use Rattle.tpl_admit.proofs.Memory.{byte_of, Fits, AllFit, HoldsWords, has_left, has_right, memory_after_at, memory_after_words, in_turn_one, in_turn_more}
 use Rattle.tpl_admit.proofs.Systems.{at_same, at_other}
 use Rattle.part_laws.specs.Partial.{Held, Partial, Begins, End, Runs, is_held, IsReached, IsAlone, IsPartialTest, known_by, held_after, words_after, with_record, advanced, IsNext}

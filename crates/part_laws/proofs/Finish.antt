@@ -10,7 +10,8 @@ use Rattle.foot_map.specs.Races.{IsRaceFree}
 use Rattle.tpl_ast.specs.declared.template.Region.{Region}
 use Rattle.tpl_admit.specs.declared.certificate.Cert.{Cert}
 use Rattle.tpl_admit.specs.Races.{footprints_of}
-use Rattle.tpl_admit.specs.Starts.{found, start_of, trace_of, word_of, AreStartWords, zero_elsewhere, first_hart, first_memory, first_system, is_given}
+use Rattle.tpl_admit.specs.Starts.{found, start_of, trace_of, word_of, zero_elsewhere, first_hart, first_memory, first_system, is_given}
+use Rattle.tpl_ast.specs.States.{AreStartWords}
 use Rattle.tpl_admit.specs.Solo.{solo_run, knows_after}
 use Rattle.tpl_admit.specs.Validity.{in_turn, IsHartValid}
 use Rattle.part_laws.specs.Partial.{Held, Partial, Begins, End, Runs, is_held, IsReached, IsAlone, IsPartialTest}

@@ -27,7 +27,7 @@ use Rattle.tpl_admit.specs.Solo.{is_set, knows_also}
 use Rattle.tpl_admit.specs.System.{System}
 use Rattle.tpl_admit.specs.Validity.{in_turn}
 use Rattle.tpl_admit.proofs.Memory.{byte_of, HoldsWords, memory_after_words, in_turn_one}
-use Rattle.tpl_admit.proofs.Steps.{entry_place}
+use Rattle.rv_hart.proofs.Entries.{entry_place}
 use Rattle.part_laws.specs.Partial.{Held, Partial, Begins, End, Runs, is_held, IsReached, IsAlone, IsPartialTest, known_by}
 use Rattle.part_laws.specs.Laws.{NextLaw}
 use Rattle.part_laws.proofs.Runs.{right_here, runs_memory}

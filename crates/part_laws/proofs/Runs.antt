@@ -14,7 +14,7 @@ use Rattle.rv_hart.specs.Whole.{WholeHart, sight_of, Step, hart_after}
 use Rattle.tpl_admit.specs.Failures.{IsRight}
 use Rattle.tpl_admit.specs.Races.{footprint_of}
 use Rattle.tpl_admit.specs.Solo.{Moment, Solo, solo, solo_on, is_set, knows_also, AreInitialised, knows_after}
-use Rattle.tpl_admit.proofs.Steps.{step_word}
+use Rattle.rv_hart.proofs.Entries.{step_word}
 use Rattle.tpl_admit.proofs.Memory.{has_cases, memory_after_append}
 use Rattle.part_laws.specs.Partial.{End, Runs}
 

@@ -7,7 +7,8 @@ use Rattle.rv_hart.specs.declared.record.Record.{Record}
 use Rattle.rv_hart.specs.Whole.{record_of}
 use Rattle.tpl_admit.specs.declared.certificate.Cert.{Cert}
 use Rattle.tpl_admit.specs.Races.{footprints_of}
-use Rattle.tpl_admit.specs.Starts.{found, ArePlaces, AreStartWords, start_of, final_of, trace_of, word_of, fixed_in}
+use Rattle.tpl_admit.specs.Starts.{found, start_of, final_of, trace_of, word_of, fixed_in}
+use Rattle.tpl_ast.specs.States.{ArePlaces, AreStartWords}
 use Rattle.tpl_admit.specs.Validity.{IsSound}
 use Rattle.tpl_ast.specs.declared.template.HartState.{HartState}
 use Rattle.tpl_admit.specs.System.{System}

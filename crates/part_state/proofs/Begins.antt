@@ -12,7 +12,8 @@ use Rattle.rv_mem.specs.Seen.{is_there}
 use Rattle.rv_hart.specs.declared.record.Record.{Record}
 use Rattle.tpl_ast.specs.declared.template.Region.{Region}
 use Rattle.tpl_ast.specs.declared.template.Template.{Template}
-use Rattle.tpl_admit.specs.Starts.{found, is_in, AreStartWords, fixed_in as fixed_given}
+use Rattle.tpl_admit.specs.Starts.{found, fixed_in as fixed_given}
+use Rattle.tpl_ast.specs.States.{is_in, AreStartWords}
 use Rattle.part_machine.specs.Whole.{Bare, Whole, given, IsNew, no_hart, hart_of, word_given, fixed_in}
 use Rattle.part_machine.proofs.Given.{given_more}
 use Rattle.part_told.specs.Words.{AreListed}

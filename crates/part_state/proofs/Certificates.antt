@@ -14,11 +14,13 @@ use Rattle.rv_hart.specs.declared.record.Record.{Record}
 use Rattle.tpl_ast.specs.declared.template.HartState.{HartState}
 use Rattle.tpl_ast.specs.declared.template.Region.{Region}
 use Rattle.tpl_ast.specs.declared.template.Template.{Template}
-use Rattle.tpl_ast.specs.Laws.{TemplatesKeepLimits, KeepsLimits}
+use Rattle.tpl_ast.specs.Laws.{TemplatesKeepLimits}
+use Rattle.tpl_ast.specs.Templates.{KeepsLimits}
 use Rattle.tpl_ast.specs.Parsing.{Parses}
 use Rattle.tpl_admit.specs.declared.certificate.Cert.{Cert}
-use Rattle.tpl_admit.specs.Starts.{found, is_in, no_state, ArePlaces, AreStartWords}
-use Rattle.tpl_admit.specs.WellFormed.{IsState, IsWord, IsWellFormed}
+use Rattle.tpl_admit.specs.Starts.{found, no_state}
+use Rattle.tpl_ast.specs.States.{is_in, ArePlaces, AreStartWords, IsState, IsWord}
+use Rattle.tpl_admit.specs.WellFormed.{IsWellFormed}
 use Rattle.part_machine.specs.Notes.{IsKnownAt}
 use Rattle.part_machine.specs.Whole.{Bare, Whole, given, no_hart}
 use Rattle.part_laws.specs.Laws.{IsStateOf, IsMade}

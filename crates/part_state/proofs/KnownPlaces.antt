@@ -13,7 +13,8 @@ use Rattle.std.proofs.Math.Path.{fun_ext}
 use Rattle.rv_mem.specs.declared.words.Seen.{Seen}
 use Rattle.rv_mem.specs.Seen.{is_there}
 use Rattle.tpl_admit.specs.declared.certificate.Cert.{Cert}
-use Rattle.tpl_admit.specs.Starts.{found, is_in}
+use Rattle.tpl_admit.specs.Starts.{found}
+use Rattle.tpl_ast.specs.States.{is_in}
 use Rattle.part_laws.specs.Laws.{IsStateOf}
 use Rattle.part_machine.specs.Whole.{Bare}
 use Rattle.part_state.specs.Meaning.{value_of_key, held_in, IsFit}

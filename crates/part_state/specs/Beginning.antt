@@ -6,7 +6,8 @@ use Rattle.rv_mem.specs.Ram.{in_ram}
 use Rattle.tpl_ast.specs.declared.template.HartDecl.{HartDecl}
 use Rattle.tpl_ast.specs.declared.template.HartState.{HartState}
 use Rattle.tpl_ast.specs.declared.template.Template.{Template}
-use Rattle.tpl_admit.specs.Starts.{found, is_in, fixed_in, no_state}
+use Rattle.tpl_admit.specs.Starts.{found, fixed_in, no_state}
+use Rattle.tpl_ast.specs.States.{is_in}
 use Rattle.part_machine.specs.Whole.{Bare, Whole, given, IsNew, no_hart, hart_of, word_given}
 use Rattle.part_state.specs.Meaning.{value_of_key, held_in, IsFit}
 

@@ -1,6 +1,7 @@
 // What a certificate tells of a hart.
 ghost use Rattle.std.specs.Prelude.{◌≡◌, ℕ, ◌*◌};
-ghost use Rattle.tpl_admit.specs.Starts.{found, is_in};
+ghost use Rattle.tpl_admit.specs.Starts.{found};
+ghost use Rattle.tpl_ast.specs.States.{is_in};
 ghost use Rattle.rv_mem.specs.declared.words.Seen.{Seen};
 ghost use Rattle.rv_mem.specs.Seen.{is_there};
 ghost use Rattle.tpl_admit.specs.declared.certificate.Cert.{Cert};

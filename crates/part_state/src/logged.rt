@@ -20,7 +20,7 @@ ghost use Rattle.part_told.specs.Words.{AreListed};
 ghost use Rattle.rv_mem.specs.Ram.{in_ram};
 ghost use Rattle.tpl_ast.specs.Laws.{TemplatesKeepLimits};
 ghost use Rattle.tpl_ast.specs.Parsing.{Parses};
-ghost use Rattle.tpl_admit.specs.Starts.{is_in};
+ghost use Rattle.tpl_ast.specs.States.{is_in};
 ghost use Rattle.tpl_admit.specs.WellFormed.{IsWellFormed};
 ghost use Rattle.part_state.specs.Told.{Tells, FitsFile};
 ghost use Rattle.part_state.specs.Beginning.{IsBegunFrom};

@@ -13,10 +13,9 @@ ghost use Rattle.part_laws.specs.Laws.{IsMade};
 ghost use Rattle.part_machine.specs.Whole.{named, chosen, with_dropped, next_of, stepped, record_in, IsReady, bare, known_in, hart_of, records_of};
 ghost use Rattle.part_state.specs.Meaning.{partial_of, CanStart, place_given, IsNamed, IsClear, IsTest};
 ghost use Rattle.part_state.specs.Probing.{IsProbe};
-ghost use Rattle.std.specs.List.{AllByRecursion};
 ghost use Rattle.tpl_ast.specs.Parsing.{Parses};
-ghost use Rattle.tpl_admit.specs.Starts.{is_in, AreStartWords};
-ghost use Rattle.tpl_admit.specs.WellFormed.{IsState, IsWellFormed};
+ghost use Rattle.tpl_ast.specs.States.{is_in};
+ghost use Rattle.tpl_admit.specs.WellFormed.{IsWellFormed};
 ghost use Rattle.part_state.specs.Beginning.{IsBegun};
 ghost use Rattle.part_state.specs.Told.{Tells, FitsFile};
 ghost use Rattle.rv_mem.specs.Ram.{in_ram};
@@ -59,8 +58,6 @@ impl Part {
     /// A test that begins as a template says, with nothing done.
     pub fn new(alloc: Global, t: &Template) -> Result<Part, OutOfMemory>
         requires parses { Parses t.now.text t.now }
-        requires states { AllByRecursion (λ d. IsState d.start) t.now.harts }
-        requires words { AreStartWords t.now.ram 0 t.now.words }
         ensures now { IfOk result (λ p. IsBegun t.now (here p)) }
         ensures earlier { IfOk result (λ p. p.earlier ≡ []) }
     {

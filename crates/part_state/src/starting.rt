@@ -1,7 +1,7 @@
 // The harts with which a test begins.
 ghost use Rattle.std.specs.Prelude.{◌<◌, ◌^◌, IfOk, length, map};
 ghost use Rattle.std.specs.List.{AllByRecursion};
-ghost use Rattle.tpl_admit.specs.WellFormed.{IsState};
+ghost use Rattle.tpl_ast.specs.States.{IsState};
 ghost use Rattle.part_machine.specs.Whole.{bare};
 ghost use Rattle.part_state.specs.Beginning.{AreHartsOf, IsHartOf};
 

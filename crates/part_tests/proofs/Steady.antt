@@ -13,7 +13,8 @@ use Rattle.rv_script.specs.declared.place.Place.TheVariants.{Reg, Csr, Word}
 use Rattle.rv_script.specs.Folds.{Answer.Does as DoesSo}
 use Rattle.rv_hart.specs.declared.record.Change.{Change}
 use Rattle.tpl_ast.specs.declared.template.Template.{Template}
-use Rattle.tpl_admit.specs.Starts.{found, is_in}
+use Rattle.tpl_admit.specs.Starts.{found}
+use Rattle.tpl_ast.specs.States.{is_in}
 use Rattle.part_machine.specs.Whole.{Whole, given, next_of, stepped, IsReady, bare_after, hart_of, with_csr, with_register}
 use Rattle.part_state.specs.Beginning.{IsBegun}
 use Rattle.part_state.specs.Meaning.{place_given}

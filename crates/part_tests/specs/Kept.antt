@@ -2,7 +2,7 @@
 use Rattle.std.specs.Prelude.{◌≡◌, ℕ, ◌*◌, All, length}
 use Rattle.rv_mem.specs.Ram.{in_ram}
 use Rattle.tpl_ast.specs.declared.template.Template.{Template}
-use Rattle.tpl_admit.specs.Starts.{is_in}
+use Rattle.tpl_ast.specs.States.{is_in}
 use Rattle.part_state.specs.State.{State, Test, tests}
 
 -- it has the template's RAM, and as many harts and names

@@ -2,8 +2,6 @@
 #![tactic(auto)]
 
 #[cfg(test)]
-mod begin;
-#[cfg(test)]
 mod making;
 #[cfg(test)]
 mod rows;

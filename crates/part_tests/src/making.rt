@@ -8,7 +8,6 @@ ghost use Rattle.part_state.specs.Meaning.{CanStart};
 ghost use Rattle.part_state.specs.State.{here};
 ghost use Rattle.part_tests.specs.Kept.{AreOf};
 
-use crate::begin::can_begin;
 use crate::shown::{Told, told_of};
 use foot_map::Clash;
 use part_state::{OutOfMemory, Part, Probe};
@@ -42,7 +41,6 @@ fn begun(rt: &impl Abort, alloc: Global, t: &Template) -> Part
     requires { Parses t.now.text t.now }
     ensures { AreOf t.now result }
 {
-    assert!(rt; can_begin(t));
     match Part::new(alloc, t) {
         Ok(part) => part,
         Err(_) => panic!(rt; "memory"),

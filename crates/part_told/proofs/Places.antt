@@ -8,8 +8,7 @@ use Rattle.rv_csr.specs.declared.table.Register.{Register}
 use Rattle.rv_csr.specs.declared.table.Register.TheVariants.{Sstatus, Satp, Mstatus, Medeleg, Mhartid, Lazy}
 use Rattle.rv_csr.specs.Table.{csr_key, csr_address, is_legal, is_legal_at, is_legal_for, register_at}
 use Rattle.rv_csr.specs.State.{CsrValues, AreLegalLazy, known_in, lazy_value, lazy_value_at}
-use Rattle.tpl_admit.specs.Starts.{ArePlaces, is_key}
-use Rattle.tpl_admit.specs.WellFormed.{is_legal_place}
+use Rattle.tpl_ast.specs.States.{ArePlaces, is_key, is_legal_place}
 use Rattle.part_machine.specs.Whole.{Bare}
 use Rattle.part_told.specs.Finishing.{AreSmall, known_one, known_from, known_csrs, csr_addresses, places_in}
 

@@ -1,7 +1,7 @@
 // The choices that were taken.
 ghost use Rattle.std.specs.Prelude.{◌≡◌, ◌++◌, ◌∷◌, [], IfOk, OnOk};
 ghost use Rattle.std.specs.List.{AllByRecursion};
-ghost use Rattle.tpl_admit.specs.WellFormed.{IsWord};
+ghost use Rattle.tpl_ast.specs.States.{IsWord};
 
 use crate::OutOfMemory;
 use std::alloc::Global;

@@ -2,7 +2,7 @@
 ghost use Rattle.std.specs.Prelude.{◌≡◌, ◌++◌, IfOk, OnOk, drop, length, map};
 ghost use Rattle.part_machine.specs.Whole.{bare};
 ghost use Rattle.std.specs.List.{AllByRecursion};
-ghost use Rattle.tpl_admit.specs.WellFormed.{IsState};
+ghost use Rattle.tpl_ast.specs.States.{IsState};
 ghost use Rattle.part_told.specs.Finishing.{known_one, known_from, known_csrs, places_in, told_state, AreSmall};
 
 use crate::OutOfMemory;

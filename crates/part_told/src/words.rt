@@ -6,7 +6,7 @@ ghost use Rattle.rv_mem.specs.Part.{part_at};
 ghost use Rattle.rv_mem.specs.Seen.{known_word};
 ghost use Rattle.part_machine.specs.Whole.{given};
 ghost use Rattle.std.specs.List.{AllByRecursion};
-ghost use Rattle.tpl_admit.specs.WellFormed.{IsWord};
+ghost use Rattle.tpl_ast.specs.States.{IsWord};
 ghost use Rattle.part_told.specs.Words.{at_address, IsWithinRam, IsWordAt, ListsWords};
 
 use crate::OutOfMemory;

@@ -21,11 +21,12 @@ use Rattle.tpl_ast.specs.declared.template.Region.{Region}
 use Rattle.tpl_admit.specs.declared.certificate.Cert.{Cert}
 use Rattle.tpl_ast.specs.declared.template.HartState.{HartState}
 use Rattle.tpl_ast.specs.Laws.{TemplatesKeepLimits}
-use Rattle.tpl_admit.specs.Starts.{found, is_in, ArePlaces, no_state, start_of, final_of, trace_of, word_of, fixed_in, first_hart, first_memory, is_given, zero_elsewhere}
+use Rattle.tpl_admit.specs.Starts.{found, no_state, start_of, final_of, trace_of, word_of, fixed_in, first_hart, first_memory, is_given, zero_elsewhere}
+use Rattle.tpl_ast.specs.States.{is_in, ArePlaces, IsState}
 use Rattle.tpl_admit.specs.Races.{footprints_of}
 use Rattle.tpl_admit.specs.Solo.{Solo, solo, solo_run, knows_after}
 use Rattle.tpl_admit.specs.Validity.{in_turn}
-use Rattle.tpl_admit.specs.WellFormed.{IsState, IsWellFormed}
+use Rattle.tpl_admit.specs.WellFormed.{IsWellFormed}
 use Rattle.tpl_admit.specs.Failures.{AreRight, GoesWrong, HartIsRight, HartGoesWrong, EndsAsTold, MemoryEndsAsTold}
 use Rattle.given_start.specs.Knowledge.{known_at, known_of, knows_of, fixed_now, whole_of}
 use Rattle.given_start.proofs.Aligned.{frames_aligned}

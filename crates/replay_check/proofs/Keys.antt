@@ -7,7 +7,8 @@ use Rattle.std.specs.List.Sorted.{IsNonDecreasingBy, IsPartitionPoint}
 use Rattle.std.specs.Ordering.{nat_cmp, ordering_index}
 use Rattle.std.proofs.lemmas.Bool.{cases_Bool, cases_lt, cases_order, eq-eqb, eqb-true, ne_eqb, lt-ltb, le-ltb, le-leb, leb-true, and_parts, and_from}
 use Rattle.tpl_ast.specs.declared.template.Region.{Region}
-use Rattle.tpl_admit.specs.Starts.{found, is_key, is_in, ArePlaces, AreStartWords}
+use Rattle.tpl_admit.specs.Starts.{found}
+use Rattle.tpl_ast.specs.States.{is_key, is_in, ArePlaces, AreStartWords}
 use Rattle.replay_check.specs.Memory.{is_ascending}
 
 pub places_ascend : (from : ℕ) (es : List (ℕ × ℕ)) → ArePlaces from es → is_ascending from es ≡ true

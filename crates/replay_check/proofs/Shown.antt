@@ -11,7 +11,8 @@ use Rattle.rv_script.specs.declared.access.Access.{Access}
 use Rattle.rv_script.specs.Memory.{word_after, accessed, memory_after}
 use Rattle.rv_hart.specs.Effects.{seen_word_after, seen_accessed, seen_after}
 use Rattle.tpl_ast.specs.declared.template.Region.{Region}
-use Rattle.tpl_admit.specs.Starts.{found, is_in, zero_elsewhere, AreStartWords}
+use Rattle.tpl_admit.specs.Starts.{found, zero_elsewhere}
+use Rattle.tpl_ast.specs.States.{is_in, AreStartWords}
 use Rattle.replay_check.specs.Memory.{given_word, seen_given, Shows}
 use Rattle.given_start.proofs.Given.{or_else}
 use Rattle.replay_check.proofs.Keys.{found_in}

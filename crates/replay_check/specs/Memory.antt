@@ -7,7 +7,8 @@ use Rattle.rv_hart.specs.declared.record.Record.{Record}
 use Rattle.rv_hart.specs.Effects.{IsInWord}
 use Rattle.tpl_ast.specs.declared.template.Region.{Region}
 use Rattle.tpl_admit.specs.declared.certificate.Cert.{Cert}
-use Rattle.tpl_admit.specs.Starts.{found, is_in, AreStartWords, word_of}
+use Rattle.tpl_admit.specs.Starts.{found, word_of}
+use Rattle.tpl_ast.specs.States.{is_in, AreStartWords}
 use Rattle.given_start.specs.Regions.{AreAligned}
 
 -- keys from a number on, in ascending order and each once

@@ -4,6 +4,7 @@
 #![tactic(auto)]
 
 mod checking;
+mod collecting;
 mod error;
 mod lookup;
 mod memory;

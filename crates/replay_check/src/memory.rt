@@ -2,7 +2,8 @@
 ghost use Rattle.std.specs.Prelude.{◌≡◌, ◌↔◌, ℕ, ◌*◌, ◌/◌, ◌%◌, ◌<◌, IsTrue, IfOk, if◌then◌else◌, length, slice_index, slice_index_or};
 ghost use Rattle.rv_mem.specs.declared.words.Seen.TheVariants.{Known, Untouched, Vacant};
 ghost use Rattle.rv_mem.specs.Part.{part_at};
-ghost use Rattle.tpl_admit.specs.Starts.{is_in, zero_elsewhere};
+ghost use Rattle.tpl_admit.specs.Starts.{zero_elsewhere};
+ghost use Rattle.tpl_ast.specs.States.{is_in};
 ghost use Rattle.given_start.specs.Regions.{AreAligned};
 ghost use Rattle.replay_check.specs.Memory.{given_word, Shows, IsStart};
 

@@ -3,7 +3,8 @@ ghost use Rattle.std.specs.Prelude.{◌≡◌, ◌↔◌, ℕ, ◌≤◌, ◌<�
 ghost use Rattle.rv_csr.specs.declared.table.Register.{Register as ARegister};
 ghost use Rattle.rv_csr.specs.State.{lazy_value_at};
 ghost use Rattle.rv_csr.specs.Table.{address_of, csr_key};
-ghost use Rattle.tpl_admit.specs.Starts.{found, ArePlaces};
+ghost use Rattle.tpl_admit.specs.Starts.{found};
+ghost use Rattle.tpl_ast.specs.States.{ArePlaces};
 ghost use Rattle.given_start.specs.Knowledge.{known_of};
 ghost use Rattle.replay_check.specs.Memory.{is_ascending};
 

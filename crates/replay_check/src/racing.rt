@@ -11,6 +11,7 @@ ghost use Rattle.tpl_admit.specs.Failures.{RacesFrom};
 ghost use Rattle.replay_check.specs.Racing.{with_accesses, RacesAt};
 
 use crate::OutOfMemory;
+use crate::collecting::has_race;
 use foot_map::{FootMap, footprint_laws, race_laws};
 use rv_hart::{Access, Record};
 use std::alloc::Global;
@@ -50,9 +51,9 @@ fn race_in(feet: &mut FootMap, hart: u8, records: &[Record]) -> Result<Option<u3
     Ok(None)
 }
 
-/// The first record whose accesses race with those of an earlier one, or among themselves: its hart and its step.
-/// Harts are taken in ascending order.
-pub fn first_race(alloc: Global, cert: &Cert) -> Result<Option<(u8, u32)>, OutOfMemory>
+/// The first record whose accesses race with those of an earlier one, or among themselves, by a walk through
+/// all of them.
+fn first_walked(alloc: Global, cert: &Cert) -> Result<Option<(u8, u32)>, OutOfMemory>
     requires well_formed { IsWellFormed cert.now }
     requires words { (k : ℕ) → AllByRecursion (λ r. All IsInWord r.accesses) (trace_of cert.now k) }
     ensures none { IfOk result (λ o. o ≡ None → IsRaceFree (footprints_of (trace_of cert.now))) }
@@ -65,4 +66,18 @@ pub fn first_race(alloc: Global, cert: &Cert) -> Result<Option<(u8, u32)>, OutOf
         }
     }
     Ok(None)
+}
+
+/// The first record whose accesses race with those of an earlier one, or among themselves: its hart and its step.
+/// Harts are taken in ascending order. Only where some accesses race are the records walked through.
+pub fn first_race(alloc: Global, cert: &Cert) -> Result<Option<(u8, u32)>, OutOfMemory>
+    requires well_formed { IsWellFormed cert.now }
+    requires words { (k : ℕ) → AllByRecursion (λ r. All IsInWord r.accesses) (trace_of cert.now k) }
+    ensures none { IfOk result (λ o. o ≡ None → IsRaceFree (footprints_of (trace_of cert.now))) }
+    ensures some { IfOk result (λ o. (hart step : ℕ) → o ≡ Some (hart, step) → RacesFrom cert.now hart step) }
+{
+    if !has_race(alloc, cert)? {
+        return Ok(None);
+    }
+    first_walked(alloc, cert)
 }

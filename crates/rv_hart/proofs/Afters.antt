@@ -1,7 +1,7 @@
 -- What is known after a step.
 use Rattle.std.proofs.Common.{◌≡◌, ◌≢◌, ℕ, ◌*◌, ◌/◌, ◌<◌, ◌≤◌, Bool, true, false, ◌||◌, List, [], ◌∷◌, length, Option, Some, None, if◌then◌else◌, refl, sym, ap, ◌∙◌, subst, inl, inr, arith}
 use Rattle.std.specs.Prelude.{nat_eq, slice_index_or, slice_set}
-use Rattle.std.specs.Option.{is_some, unwrap_or}
+use Rattle.std.specs.Option.{is_some, option_or, unwrap_or}
 use Rattle.std.proofs.Math.Path.{fun_ext}
 use Rattle.std.proofs.lemmas.Bool.{cases_eq, cases_lt, eq-eqb, ne_eqb, lt-ltb, le-ltb}
 use Rattle.std.proofs.lemmas.List.{get_or-set_same, get_or-set_other, get_or_past, length-set}
@@ -221,6 +221,10 @@ fixed_now h new at new_at xs c w =
 
 -- ---- the step
 
+written_or : (o old : Option ℕ) → or_old o old ≡ option_or o old
+written_or None old = refl
+written_or (Some v) old = refl
+
 pub done : (sights : Teller) (h new : Hart) (at new_at : ℕ → Seen) (xs : List Access) (c : Change) → answer_seen sights (known h at) (script (fixed_of h at)) ≡ Does xs c → Went h new at new_at xs c
     → IsDoneWith sights (fixed_of h at) (known h at) (record_of (fixed_of h at) xs c) (fixed_of new new_at) (known new new_at)
 done sights h new at new_at xs c answered w = record {
@@ -235,6 +239,8 @@ done sights h new at new_at xs c answered w = record {
   );
   fixed = fixed_now h new at new_at xs c w;
   places = places_after h new at new_at xs c w;
+  registers = λ n small. known_now h new at new_at xs c w n small ∙ written_or (writes_of (fixed_of h at) c n) (known h at (Reg n));
+  csrs = λ addr. csr_now h new at new_at xs c w addr ∙ written_or (writes_of (fixed_of h at) c (csr_key addr)) (known h at (Csr addr));
 }
 
 -- a change comes with its accesses

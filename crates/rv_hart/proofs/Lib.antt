@@ -11,3 +11,7 @@ pub mod Reaches
 pub mod Forms
 pub mod Fetched
 pub mod Asked
+pub mod Entries
+pub mod Locals
+pub mod Askable
+pub mod Fits

@@ -20,7 +20,7 @@ use Rattle.rv_hart.specs.Machine.{script}
 use Rattle.rv_hart.specs.Sighted.{no_sights, sighted, sighted_for, told_with, seen_with, answer_seen, step_seen_of}
 use Rattle.rv_hart.specs.Whole.{WholeHart, sight_of, record_of, Step, planned, sighted_step_of, step_by}
 use Rattle.rv_hart.specs.View.{shown}
-use Rattle.rv_hart.specs.Clauses.{Has, stepped_by, IsMachineStepWith, zero_filled, IsAlike, IsLocalStepWith, IsSightless, ToldAreTaken}
+use Rattle.rv_hart.specs.Clauses.{Has, stepped_by, IsMachineStepWith, zero_filled, IsAlike, IsLocalStepWith, IsSightless, ToldAreTaken, TrueSightsShowTheStep}
 
 shown_by : (f : Fixed) (missing : Option Place) (xs : List Access) (o : Option Change) → shown f (answer_by missing xs o) ≡ stepped_by missing (planned f xs o)
 shown_by f (Some place) xs o = refl
@@ -160,3 +160,11 @@ none_sighted = fun_ext each
 
 pub sightless : IsSightless
 sightless h words = ap (λ (sights : Teller). step_seen_of sights h words) none_sighted
+
+-- a sight that is what is seen anyway
+true_sight : (o : Option ℕ) (w : ℕ) → ((v : ℕ) → o ≡ Some v → w ≡ v) → unwrap_or o w ≡ w
+true_sight None w h = refl
+true_sight (Some v) w h = sym (h v refl)
+
+pub true_sights : TrueSightsShowTheStep
+true_sights sights h words shows = ap (λ (see : Sight). sighted_step_of h.fixed see) (fun_ext (λ q. true_sight (sights q) (sight_of h.file words q) (shows q)))

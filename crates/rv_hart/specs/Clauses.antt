@@ -1,10 +1,12 @@
 -- What a step on known places says of whole harts and memories. The words that end in With are of a step that sees sights, and a place whose
 -- word has one counts as known; the same words without With are of the step without sights.
-use Rattle.std.specs.Prelude.{◌≡◌, ◌↔◌, ℕ, ◌%◌, Bool, false, ◌&&◌, ◌||◌, nat_lt, All, IsTrue, IsSome, List, Option, Some, None}
-use Rattle.std.specs.Option.{unwrap_or, is_some}
+use Rattle.std.specs.Prelude.{◌≡◌, ◌↔◌, ℕ, ◌%◌, ◌<◌, ◌≤◌, Bool, true, false, ◌&&◌, ◌||◌, nat_lt, All, IsTrue, IsSome, List, Option, Some, None}
+use Rattle.std.specs.List.{AllByRecursion}
+use Rattle.std.specs.Option.{option_or, unwrap_or, is_some}
 use Rattle.rv_isa.specs.declared.operation.Op.{Op}
 use Rattle.rv_isa.specs.Arithmetic.{IsTaken}
 use Rattle.rv_csr.specs.declared.privilege.Priv.{Priv}
+use Rattle.rv_csr.specs.Causes.{is_cause}
 use Rattle.rv_csr.specs.State.{CsrValues}
 use Rattle.rv_csr.specs.Table.{csr_key}
 use Rattle.rv_script.specs.declared.access.Access.{Access}
@@ -16,13 +18,17 @@ use Rattle.rv_script.specs.Folds.{Known, Teller, Sight, Entry, Answer.Does as Do
 use Rattle.rv_script.specs.Laws.{IsSeenAlike}
 use Rattle.rv_script.specs.Memory.{memory_after}
 use Rattle.rv_hart.specs.declared.record.Change.{Change}
+use Rattle.sv_walk.specs.Translation.{is_in_ram}
+use Rattle.rv_hart.specs.declared.record.Outcome.{Outcome}
+use Rattle.rv_hart.specs.declared.record.Outcome.TheVariants.{Retired, Trap}
 use Rattle.rv_hart.specs.declared.record.Record.{Record}
 use Rattle.rv_hart.specs.declared.record.Stepped.{Stepped}
 use Rattle.rv_hart.specs.declared.record.Stepped.TheVariants.{Did, Missing, Outside}
 use Rattle.rv_hart.specs.declared.looked.Looked.{Looked}
 use Rattle.rv_hart.specs.declared.looked.Looked.TheVariants.{Does, Missing as LooksMissing, Outside as LooksOutside}
 use Rattle.rv_hart.specs.Changes.{IsSoundChange, IsSoundWrite}
-use Rattle.rv_hart.specs.Effects.{IsInWord}
+use Rattle.rv_hart.specs.Asked.{is_lazy}
+use Rattle.rv_hart.specs.Effects.{IsAccess, IsInWord}
 use Rattle.rv_hart.specs.Fixed.{Fixed}
 use Rattle.rv_hart.specs.Machine.{script, is_taken}
 use Rattle.rv_hart.specs.Sighted.{no_sights, sighted, told_with, seen_with, step_seen_of}
@@ -94,6 +100,9 @@ pub record IsDoneWith (sights : Teller) (f : Fixed) (known : Known) (r : Record)
   pub fixed : step.fixed ≡ new_f
   -- known are the places that were known, and those that were written
   pub places : (place : Place) → is_some (new_known place) ≡ (is_written step.writes place || is_some (known place))
+  -- what is known of a register or CSR is what was written, or else what was known
+  pub registers : (n : ℕ) → n < 32 → new_known (Reg n) ≡ option_or (step.writes n) (known (Reg n))
+  pub csrs : (addr : ℕ) → new_known (Csr addr) ≡ option_or (step.writes (csr_key addr)) (known (Csr addr))
 
 abbrev pub IsDone : Fixed → Known → Record → Fixed → Known → Type 0
 IsDone f known r new_f new_known = IsDoneWith no_sights f known r new_f new_known
@@ -128,6 +137,28 @@ IsSoundStep (Did r) = IsSoundRecord r
 IsSoundStep (Missing place) = Unit {0}
 IsSoundStep Outside = Unit {0}
 
+-- x1 to x31, a lazy CSR, or an aligned word of RAM: a place to which a start can give a value
+abbrev pub CanBeGiven : (ℕ → Bool) → Place → Type 0
+CanBeGiven ram (Reg n) = (1 ≤ n) × (n < 32)
+CanBeGiven ram (Csr addr) = is_lazy addr ≡ true
+CanBeGiven ram (Word addr) = (addr % 4 ≡ 0) × (is_in_ram ram addr ≡ true)
+
+-- a trap has one of the causes
+abbrev pub HasCause : Outcome → Type 0
+HasCause Retired = Unit {0}
+HasCause (Trap cause value to) = is_cause cause ≡ true
+
+-- what can stand in a file
+pub record IsFitRecord (r : Record) : Type 0 where
+  pub accesses : AllByRecursion IsAccess r.accesses
+  pub outcome : HasCause r.outcome
+
+-- what was done can stand in a file, and a start can give a value to what is missing, which has none
+abbrev pub IsFitStep : Fixed → Known → Stepped → Type 0
+IsFitStep f known (Did r) = IsFitRecord r
+IsFitStep f known (Missing place) = CanBeGiven f.ram place × (known place ≡ None)
+IsFitStep f known Outside = Unit {0}
+
 -- a whole hart makes the step of a change, and needs no place that is not known
 pub record Takes (f : Fixed) (known : Known) (h : WholeHart) (words : ℕ → ℕ) (accesses : List Access) (c : Change) : Type 0 where
   pub step : step_of h words ≡ Some (step_by f accesses c)
@@ -141,6 +172,10 @@ ToldAreTaken = (f : Fixed) (known : Known) (h : WholeHart) (words : ℕ → ℕ)
 -- a branch is taken where its condition holds (Unprivileged, 2.5.2)
 abbrev pub TakenAreTaken : Type 0
 TakenAreTaken = (op : Op) (x y : ℕ) → IsTrue (is_taken op x y) ↔ IsTaken op x y
+
+-- sights that show what memory holds change nothing
+abbrev pub TrueSightsShowTheStep : Type 0
+TrueSightsShowTheStep = (sights : Teller) (h : WholeHart) (words : ℕ → ℕ) → ((q : Question) (v : ℕ) → sights q ≡ Some v → sight_of h.file words q ≡ v) → step_seen_of sights h words ≡ step_of h words
 
 -- a step without sights is the step
 abbrev pub IsSightless : Type 0

@@ -11,3 +11,4 @@ pub mod Effects
 pub mod Clauses
 pub mod Rests
 pub mod Asked
+pub mod Local

@@ -1,6 +1,7 @@
 // Laws of the machine.
-ghost use Rattle.rv_hart.specs.Asked.{AsksInOrder, AsksRegisters};
-ghost use Rattle.rv_hart.specs.Clauses.{IsSightless, TakenAreTaken, ToldAreTaken};
+ghost use Rattle.rv_hart.specs.Asked.{AsksInOrder, AsksPlaces, AsksRegisters, NeedsPlaces};
+ghost use Rattle.rv_hart.specs.Clauses.{IsSightless, TakenAreTaken, ToldAreTaken, TrueSightsShowTheStep};
+ghost use Rattle.rv_hart.specs.Local.{LocalByBytes};
 
 /// Does nothing. Its contract says that the machine takes a branch exactly where the branch's condition holds.
 #[tactic(auto, using(crate::proofs::Branches::taken_are_taken))]
@@ -20,10 +21,26 @@ pub fn no_sights_law()
     ensures { IsSightless }
 {}
 
-/// Does nothing. Its contract says that a step asks its questions in the order of their labels, each label once at most,
-/// and for registers that are one of 32.
-#[tactic(auto, using(crate::proofs::Forms::script_between, crate::proofs::Asked::asks_registers))]
+/// Does nothing. Its contract says that sights that show what is in memory change nothing.
+#[tactic(auto, using(crate::proofs::Steps::true_sights))]
+pub fn true_sights_law()
+    ensures { TrueSightsShowTheStep }
+{}
+
+/// Does nothing. Its contract says that a step of a whole hart rests on its fixed parts, on the registers and CSRs that it
+/// needs, and on the bytes of its record's accesses: each hart and memory that have these make the same step.
+#[tactic(auto, using(crate::proofs::Locals::local_by_bytes))]
+pub fn local_law()
+    ensures { LocalByBytes }
+{}
+
+/// Does nothing. Its contract says that a step asks its questions in the order of their labels, each label once at most;
+/// that the registers that it asks for are one of 32, the CSRs lazy ones, and the bytes one, two or four of RAM, at a
+/// multiple of their number; and so what the places that it needs are.
+#[tactic(auto, using(crate::proofs::Forms::script_between, crate::proofs::Asked::asks_registers, crate::proofs::Askable::asks_places, crate::proofs::Askable::needs_places))]
 pub fn question_law()
     ensures order { AsksInOrder }
     ensures registers { AsksRegisters }
+    ensures places { AsksPlaces }
+    ensures needs { NeedsPlaces }
 {}

@@ -16,7 +16,7 @@ mod stepping;
 mod storing;
 
 pub use hart::Hart;
-pub use laws::{branch_law, no_sights_law, question_law, step_law};
+pub use laws::{branch_law, local_law, no_sights_law, question_law, step_law, true_sights_law};
 pub use record::{Change, Control, Outcome, Record, Stepped};
 pub use rv_csr::{Csrs, Priv};
 pub use rv_mem::{Mem, Seen, Words};

@@ -11,7 +11,7 @@ ghost use Rattle.rv_hart.specs.Whole.{record_of};
 ghost use Rattle.rv_hart.specs.View.{known, fixed_of, looked, shown, pc_after, regs_after, change_in, control_in, accesses_in};
 ghost use Rattle.rv_hart.specs.Effects.{IsInWord, seen_after};
 ghost use Rattle.rv_hart.specs.Sighted.{answer_seen, sighted};
-ghost use Rattle.rv_hart.specs.Clauses.{IsMachineStep, IsMachineStepWith, IsLocalStep, IsLocalStepWith, IsAfter, IsAfterWith, IsSound, IsSoundStep};
+ghost use Rattle.rv_hart.specs.Clauses.{IsMachineStep, IsMachineStepWith, IsLocalStep, IsLocalStepWith, IsAfter, IsAfterWith, IsFitStep, IsSound, IsSoundStep};
 
 use crate::looked::Looked;
 use crate::reaching::{fetch_view, reach};
@@ -100,6 +100,7 @@ fn record_of(h: &Hart, change: &Change, accesses: Accesses) -> Record
 fn observe<M: Words, S: Sights>(h: &Hart, m: &M, s: &S) -> (Stepped, Option<Change>)
     ensures legal { IsLegal h.now.csrs }
     ensures sound { IsSoundStep result.0 }
+    ensures kept { IsFitStep (fixed_of h.now (M.at m.now)) (known h.now (M.at m.now)) result.0 }
     ensures fit { ForSome result.1 (λ c. IsSoundChange h.now.privilege h.now.csrs c) }
     ensures answer { result.0 ≡ shown (fixed_of h.now (M.at m.now)) (answer_seen (sighted (S.words s.now)) (known h.now (M.at m.now)) (script (fixed_of h.now (M.at m.now)))) }
     ensures change { result.1 ≡ change_in (answer_seen (sighted (S.words s.now)) (known h.now (M.at m.now)) (script (fixed_of h.now (M.at m.now)))) }
@@ -139,6 +140,9 @@ pub fn look<M: Words>(h: &Hart, m: &M) -> Stepped
 
     // What it would do leaves a hart as it must be, and each access keeps to a word.
     ensures sound { IsSoundStep result }
+
+    // What it would do can stand in a file, and a start can give a value to what is missing, which has none.
+    ensures fit { IsFitStep (fixed_of h.now (M.at m.now)) (known h.now (M.at m.now)) result }
 {
     observe(h, m, &NoSights).0
 }
@@ -168,6 +172,9 @@ pub fn step_seen<M: Mem, S: Sights>(h: &mut Hart, m: &mut M, s: &S) -> Stepped
 
     // What was done leaves a hart as it must be, and each access keeps to a word.
     ensures sound { IsSoundStep result }
+
+    // What was done can stand in a file, and a start can give a value to what is missing, which has none.
+    ensures fit { IsFitStep (fixed_of h.old (M.at m.old)) (known h.old (M.at m.old)) result }
 {
     let (result, change) = observe(h, m, s);
     if let Some(change) = change {
@@ -203,6 +210,9 @@ pub fn step<M: Mem>(h: &mut Hart, m: &mut M) -> Stepped
 
     // What was done leaves a hart as it must be, and each access keeps to a word.
     ensures sound { IsSoundStep result }
+
+    // What was done can stand in a file, and a start can give a value to what is missing, which has none.
+    ensures fit { IsFitStep (fixed_of h.old (M.at m.old)) (known h.old (M.at m.old)) result }
 {
     step_seen(h, m, &NoSights)
 }

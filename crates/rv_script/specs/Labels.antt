@@ -25,7 +25,7 @@ label_number FromVector = 9
 abbrev pub question_number : Question → ℕ
 question_number q = label_number (label_of q)
 
--- a register is asked for as rs1 or rs2
+-- a register is asked for by a label that comes before that of CSRs, as those of rs1 and rs2 do
 abbrev pub is_apt : Question → Bool
 is_apt (OfRegister label n) = nat_lt (label_number label) 5
 is_apt (OfCsr label addr) = true

@@ -12,13 +12,14 @@ use Rattle.rv_hart.specs.declared.record.Record.{Record}
 use Rattle.rv_hart.specs.Whole.{WholeHart, sight_of, Step, step_of, hart_after}
 use Rattle.tpl_admit.specs.declared.certificate.Cert.{Cert}
 use Rattle.tpl_admit.specs.System.{System, run_of, times}
-use Rattle.tpl_admit.specs.Starts.{found, start_of, final_of, trace_of, word_of, fixed_in, AgreesWith, zero_elsewhere, first_hart, first_memory, first_system, is_given, AreStartWords}
+use Rattle.tpl_admit.specs.Starts.{found, start_of, final_of, trace_of, word_of, fixed_in, AgreesWith, zero_elsewhere, first_hart, first_memory, first_system, is_given}
+use Rattle.tpl_ast.specs.States.{AreStartWords}
 use Rattle.tpl_admit.specs.Races.{footprint_of}
 use Rattle.tpl_admit.specs.Solo.{Moment, solo, solo_on, knows_also, AreInitialised, knows_after}
 use Rattle.tpl_admit.specs.Validity.{in_turn, IsHartValid, IsSound}
 use Rattle.tpl_ast.specs.declared.template.Region.{Region}
 use Rattle.tpl_admit.specs.Faithfulness.{IsFinished, IsFaithful}
-use Rattle.tpl_admit.proofs.Steps.{step_word}
+use Rattle.rv_hart.proofs.Entries.{step_word}
 use Rattle.tpl_admit.proofs.Memory.{HoldsWords, has_cases, in_turn_none, in_turn_agree, in_turn_at, in_turn_apart}
 use Rattle.rv_system.proofs.Orders.{End, Ends, Goes, Alone, Setting, Good, Keeps, Whole, whole_run}
 

@@ -23,7 +23,7 @@ use Rattle.tpl_admit.specs.Races.{footprint_of, footprints_of}
 use Rattle.tpl_admit.specs.Solo.{is_set, knows_also}
 use Rattle.tpl_admit.specs.Validity.{in_turn}
 use Rattle.tpl_admit.proofs.Systems.{at_same, at_other}
-use Rattle.tpl_admit.proofs.Steps.{step_local, planned_accesses, entry_access, entry_place}
+use Rattle.rv_hart.proofs.Entries.{step_local, planned_accesses, entry_access, entry_place}
 use Rattle.tpl_admit.proofs.Memory.{byte_of, Fits, HoldsWords, has_left, has_right, memory_after_at, memory_after_words, memory_after_append, in_turn_one, in_turn_more, file_after_same, file_after_other}
 
 -- where a hart ends

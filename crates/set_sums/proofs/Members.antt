@@ -47,6 +47,9 @@ first_of_one xs v one first k d below = ap (λ (i : ℕ). get_or xs i d) (zeroth
 pub only_element : (xs : List ℕ) (v : ℕ) → length xs ≡ 1 → slice_get xs 0 ≡ Some v → (y : ℕ) → IsTrue (is_in xs y) → y ≡ v
 only_element xs v one first y h = element (λ w. w ≡ v) xs y (first_of_one xs v one first) h
 
+pub only_in : (xs : List ℕ) (v : ℕ) → xs ≡ v ∷ [] → (y : ℕ) → IsTrue (is_in xs y) → y ≡ v
+only_in xs v is = only_element xs v (ap length is) (ap (λ (ys : List ℕ). slice_get ys 0) is)
+
 -- an empty list has no element
 none_of : (xs : List ℕ) → length xs ≡ 0 → (v : ℕ) → is_in xs v ≡ false
 none_of [] none v = refl

@@ -1,5 +1,7 @@
 -- Sets and ranges that hold what is asked for.
-use Rattle.std.proofs.Common.{◌≡◌, ℕ, ◌+◌, ◌-◌, ◌%◌, ◌^◌, ◌<◌, ◌≤◌, ◌&&◌, ◌||◌, ◌==◌, not, Bool, true, false, List, [], ◌∷◌, ◌++◌, All, IsTrue, Some, nat_le, slice_get, length, get_or, refl, sym, ap, ◌∙◌, subst, arith, inl, inr, ◌⊎◌, ⊎_elim}
+use Rattle.std.proofs.Common.{nat_lt, nat_le, inl, inr}
+use Rattle.std.proofs.lemmas.Bool.{cases_lt, lt-ltb, le-leb}
+use Rattle.std.proofs.Common.{◌≡◌, ℕ, ◌+◌, ◌-◌, ◌%◌, ◌^◌, ◌<◌, ◌≤◌, ◌&&◌, ◌||◌, ◌==◌, Bool, true, false, List, [], ◌∷◌, ◌++◌, All, IsTrue, Some, nat_le, slice_get, length, get_or, refl, sym, ap, ◌∙◌, subst, arith, inl, inr, ◌⊎◌, ⊎_elim}
 use Rattle.std.specs.List.{filter}
 use Rattle.std.specs.List.Sorted.{IsStrictlyIncreasing}
 use Rattle.std.proofs.lemmas.Bool.{cases_lt, leb-true, le-leb}
@@ -79,12 +81,12 @@ at_most_last xs high k d ascends last below =
 pub ends_hold : (xs : List ℕ) (low high : ℕ) → IsStrictlyIncreasing xs → slice_get xs 0 ≡ Some low → slice_get xs (length xs - 1) ≡ Some high → IsBetween xs (low, high)
 ends_hold xs low high ascends first last v h = element (λ w. (low ≤ w) × (w ≤ high)) xs v (λ k d below. (at_least_first xs low k d ascends first below, at_most_last xs high k d ascends last below)) h
 
--- what is below is covered, and the rest too
-pub parts_cover : (set lower upper : List ℕ) (some all : List (ℕ × ℕ)) → upper ≡ filter (λ v. not (is_in lower v)) set → AreCovered lower some → AreKept some all → AreCovered upper all → AreCovered set all
-parts_cover set lower upper some all is low kept high v h = ⊎_elim
-    (λ k. kept v (low v k))
-    (λ k. high v (subst (λ (b : Bool). IsTrue b) (sym (ap (λ (d : List ℕ). is_in d v) is ∙ is_in-filter (λ w. not (is_in lower w)) set v)) (joined (not (is_in lower v)) (is_in set v) (ap not k) h)))
-    (true_or_false (is_in lower v))
+-- what is below the half is covered, and what is from there on
+pub halves_cover : (set lower upper : List ℕ) (some all : List (ℕ × ℕ)) → lower ≡ filter (λ v. nat_lt v (2 ^ 31)) set → upper ≡ filter (λ v. nat_le (2 ^ 31) v) set → AreCovered lower some → AreKept some all → AreCovered upper all → AreCovered set all
+halves_cover set lower upper some all under is low kept high v h = elim (cases_lt v (2 ^ 31)) [
+  | inl below ↦ kept v (low v (subst (λ (b : Bool). IsTrue b) (sym (ap (λ (d : List ℕ). is_in d v) under ∙ is_in-filter (λ w. nat_lt w (2 ^ 31)) set v)) (joined (nat_lt v (2 ^ 31)) (is_in set v) (lt-ltb v (2 ^ 31) below) h)))
+  | inr past ↦ high v (subst (λ (b : Bool). IsTrue b) (sym (ap (λ (d : List ℕ). is_in d v) is ∙ is_in-filter (λ w. nat_le (2 ^ 31) w) set v)) (joined (nat_le (2 ^ 31) v) (is_in set v) (le-leb (2 ^ 31) v past) h))
+]
 
 below_words : (n : ℕ) → n % 2 ^ 32 < 2 ^ 32
 below_words n = omega arith

@@ -39,7 +39,7 @@ pub fn meet(alloc: Global, first: &Set, second: &Set) -> Result<bool, OutOfMemor
     ensures { IfOk result (λ met. (v : ℕ) → IsTrue (is_in first.now v) → IsTrue (is_in second.now v) → met ≡ true) }
 {
     let common = first.and(alloc, second)?;
-    if common.size() == 0 {
+    if common.is_empty() {
         return Ok(false);
     }
     Ok(true)
@@ -50,11 +50,10 @@ pub fn ends(set: &Set) -> Option<Span>
     ensures none { IsNone result → (v : ℕ) → is_in set.now v ≡ false }
     ensures some { IfSome result (IsBetween set.now) }
 {
-    let size = set.size();
-    if size == 0 {
-        return None;
-    }
-    Some((set.nth(0), set.nth(size - 1)))
+    set.element_laws();
+    let low = set.least()?;
+    let high = set.greatest()?;
+    Some((low, high))
 }
 
 /// Adds the range from the least to the greatest element, unless the set is empty.
@@ -91,7 +90,7 @@ fn halves(alloc: Global, set: &Set) -> Result<Vec<Span>, OutOfMemory>
     ensures { IfOk result (λ parts. AreCovered set.now parts.items) }
 {
     let lower = set.below(alloc, HALF)?;
-    let upper = set.minus(alloc, &lower)?;
+    let upper = set.from_on(alloc, HALF)?;
     let mut parts = Vec::new(alloc);
     push_ends(&mut parts, &lower)?;
     push_ends(&mut parts, &upper)?;
@@ -189,13 +188,14 @@ fn sums_around(alloc: Global, first: &Set, second: &Set) -> Result<Set, OutOfMem
 pub fn sums(alloc: Global, first: &Set, second: &Set) -> Result<Set, OutOfMemory>
     ensures { IfOk result (HasSums first.now second.now) }
 {
-    let (firsts, seconds) = (first.size(), second.size());
-    if seconds == 1 {
-        let sums = shifted(alloc, first, second.nth(0))?;
+    first.element_laws();
+    second.element_laws();
+    if let Some(x) = second.only() {
+        let sums = shifted(alloc, first, x)?;
         return Ok(sums);
     }
-    if firsts == 1 {
-        let sums = shifted(alloc, second, first.nth(0))?;
+    if let Some(x) = first.only() {
+        let sums = shifted(alloc, second, x)?;
         return Ok(sums);
     }
     let around = sums_around(alloc, first, second)?;
@@ -224,8 +224,9 @@ fn differences_around(alloc: Global, first: &Set, second: &Set) -> Result<Set, O
 pub fn differences(alloc: Global, first: &Set, second: &Set) -> Result<Set, OutOfMemory>
     ensures { IfOk result (HasDifferences first.now second.now) }
 {
-    if second.size() == 1 {
-        let differences = shifted(alloc, first, 0u32.wrapping_sub(second.nth(0)))?;
+    second.element_laws();
+    if let Some(x) = second.only() {
+        let differences = shifted(alloc, first, 0u32.wrapping_sub(x))?;
         return Ok(differences);
     }
     let around = differences_around(alloc, first, second)?;

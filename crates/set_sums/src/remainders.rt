@@ -15,7 +15,7 @@ fn leaves(alloc: Global, set: &Set, remainder: u32) -> Result<bool, OutOfMemory>
     ensures { IfOk result (λ some. (v : ℕ) → IsTrue (is_in set.now v) → v % 4 ≡ remainder → some ≡ true) }
 {
     set_laws();
-    let _size = set.size();
+    set.element_laws();
     let class = Set::from_patterns(alloc, &[(3, remainder)])?;
     let some = meet(alloc, set, &class)?;
     Ok(some)

@@ -3,3 +3,4 @@ pub mod Wholes
 pub mod Orders
 pub mod Plain
 pub mod Offsets
+pub mod Askings

@@ -21,10 +21,10 @@ if_keeps : (va : ℕ) (b : Bool) (s t : Script Reached) → Ends (Keeps va) s �
 if_keeps va true s t h k = h
 if_keeps va false s t h k = k
 
-page_offset : (n va : ℕ) → (n * 2 ^ 12 + va % 2 ^ 12) % 4 ≡ va % 4
+pub page_offset : (n va : ℕ) → (n * 2 ^ 12 + va % 2 ^ 12) % 4 ≡ va % 4
 page_offset n va = omega arith
 
-superpage_offset : (n va : ℕ) → (n * 2 ^ 22 + va % 2 ^ 22) % 4 ≡ va % 4
+pub superpage_offset : (n va : ℕ) → (n * 2 ^ 22 + va % 2 ^ 22) % 4 ≡ va % 4
 superpage_offset n va = omega arith
 
 arrived_keeps : (ram : ℕ → Bool) (kind : Kind) (va addr : ℕ) → addr % 4 ≡ va % 4 → Keeps va (arrived ram kind addr)

@@ -5,5 +5,4 @@ mod Limits
 pub mod Memory
 mod Order
 mod Said
-pub mod Steps
 pub mod Systems

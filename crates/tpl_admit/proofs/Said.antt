@@ -14,7 +14,8 @@ use Rattle.tpl_admit.specs.Admission.{trace_in}
 use Rattle.tpl_admit.specs.Admitting.{Trace, choices_over, failures_from, failures_of, hart_failures, of_hart}
 use Rattle.tpl_admit.specs.Laws.{with_template}
 use Rattle.tpl_admit.specs.Solo.{Solo, solo, knows_after, AreInitialised}
-use Rattle.tpl_admit.specs.Starts.{AreStartWords, final_of, first_memory, fixed_in, found, is_given, start_of, trace_of, word_of, zero_elsewhere}
+use Rattle.tpl_admit.specs.Starts.{final_of, first_memory, fixed_in, found, is_given, start_of, trace_of, word_of, zero_elsewhere}
+use Rattle.tpl_ast.specs.States.{AreStartWords}
 use Rattle.tpl_admit.specs.Validity.{IsHartValid, IsSound, IsValid}
 
 -- ---- what the template admits

@@ -1,39 +1,20 @@
 -- The start of a certificate, and which whole systems begin so.
-use Rattle.std.specs.Prelude.{◌≡◌, ℕ, ◌+◌, ◌*◌, ◌%◌, ◌^◌, ◌<◌, ◌≤◌, Bool, true, ◌&&◌, ◌||◌, nat_eq, nat_le, nat_lt, if◌then◌else◌, List, [], ◌∷◌, length, Option, Some, None, slice_index_or}
-use Rattle.std.specs.List.{list_any}
+use Rattle.std.specs.Prelude.{◌≡◌, ℕ, ◌*◌, ◌^◌, ◌<◌, Bool, nat_eq, if◌then◌else◌, List, [], ◌∷◌, length, Option, Some, None, slice_index_or}
 use Rattle.std.specs.Option.{unwrap_or, is_some}
 use Rattle.rv_csr.specs.declared.privilege.Priv.TheVariants.{M}
 use Rattle.rv_hart.specs.declared.record.Record.{Record}
 use Rattle.rv_hart.specs.Fixed.{Fixed}
-use Rattle.rv_csr.specs.Table.{csr_key, lazy_csrs}
 use Rattle.rv_hart.specs.Whole.{WholeHart}
 use Rattle.tpl_ast.specs.declared.template.Region.{Region}
 use Rattle.tpl_admit.specs.declared.certificate.Cert.{Cert}
 use Rattle.tpl_ast.specs.declared.template.HartState.{HartState}
+use Rattle.tpl_ast.specs.States.{is_in}
 use Rattle.tpl_admit.specs.System.{System}
 
 -- the value that a list of pairs gives to a key
 abbrev pub found : List (ℕ × ℕ) → ℕ → Option ℕ
 found [] key = None
 found (e ∷ es) key = if nat_eq e.0 key then Some e.1 else found es key
-
--- the key of a lazy place: of a register but x0, or of a lazy CSR
-abbrev pub is_key : ℕ → Bool
-is_key key = (nat_le 1 key && nat_lt key 32) || list_any (λ addr. nat_eq key (csr_key addr)) lazy_csrs
-
--- keys of lazy places from a number on, in ascending order and each once, with words as values
-abbrev pub ArePlaces : ℕ → List (ℕ × ℕ) → Type 0
-ArePlaces from [] = Unit {0}
-ArePlaces from (e ∷ es) = (from ≤ e.0) × (is_key e.0 ≡ true) × (e.1 < 2 ^ 32) × ArePlaces (e.0 + 1) es
-
--- the address lies in one of the regions
-abbrev pub is_in : List Region → ℕ → Bool
-is_in ram a = list_any (λ r. nat_le r.low a && nat_lt a r.high) ram
-
--- aligned words of RAM from an address on, in ascending order and each once, with words as values
-abbrev pub AreStartWords : List Region → ℕ → List (ℕ × ℕ) → Type 0
-AreStartWords ram from [] = Unit {0}
-AreStartWords ram from (e ∷ es) = (from ≤ e.0) × (e.0 % 4 ≡ 0) × (is_in ram e.0 ≡ true) × (e.1 < 2 ^ 32) × AreStartWords ram (e.0 + 4) es
 
 abbrev pub no_state : HartState
 no_state = record { pc = 0; privilege = M; mstatus = 0; medeleg = 0; satp = 0; places = [] }

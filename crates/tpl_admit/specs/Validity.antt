@@ -4,7 +4,8 @@ use Rattle.rv_script.specs.declared.access.Access.{Access}
 use Rattle.rv_script.specs.Memory.{memory_after}
 use Rattle.foot_map.specs.Races.{IsRaceFree}
 use Rattle.tpl_admit.specs.declared.certificate.Cert.{Cert}
-use Rattle.tpl_admit.specs.Starts.{found, ArePlaces, AreStartWords, start_of, final_of, trace_of, fixed_in, first_memory, is_given}
+use Rattle.tpl_admit.specs.Starts.{found, start_of, final_of, trace_of, fixed_in, first_memory, is_given}
+use Rattle.tpl_ast.specs.States.{ArePlaces, AreStartWords}
 use Rattle.tpl_admit.specs.Races.{footprints_of}
 use Rattle.tpl_admit.specs.Solo.{solo_run, IsInitialised, knows_after}
 use Rattle.tpl_admit.specs.Admission.{Admits}

@@ -1,9 +1,8 @@
 -- Which certificates have a file: values that a file can hold, within its limits.
-use Rattle.std.specs.Prelude.{◌≡◌, ℕ, ◌+◌, ◌*◌, ◌%◌, ◌^◌, ◌<◌, ◌≤◌, Bool, true, ◌||◌, ◌==◌, nat_lt, List, [], ◌∷◌, length, sum_by, Option, Some, None, slice_get}
+use Rattle.std.specs.Prelude.{◌≡◌, ℕ, ◌+◌, ◌*◌, ◌^◌, ◌<◌, ◌≤◌, Bool, true, List, [], ◌∷◌, length, sum_by, Option, Some, None, slice_get}
 use Rattle.std.specs.List.{AllByRecursion}
-use Rattle.rv_csr.specs.Table.{csr_address, is_legal_at}
 use Rattle.rv_csr.specs.Causes.{is_cause}
-use Rattle.rv_script.specs.declared.access.Access.{Access}
+use Rattle.rv_hart.specs.Effects.{IsAccess}
 use Rattle.rv_hart.specs.declared.record.Outcome.{Outcome}
 use Rattle.rv_hart.specs.declared.record.Outcome.TheVariants.{Retired, Trap}
 use Rattle.rv_hart.specs.declared.record.Record.{Record}
@@ -12,35 +11,8 @@ use Rattle.tpl_ast.specs.declared.template.NameDecl.{NameDecl}
 use Rattle.tpl_ast.specs.Parsing.{Parses}
 use Rattle.tpl_admit.specs.declared.certificate.Cert.{Cert}
 use Rattle.tpl_admit.specs.declared.dropped.Dropped.{Dropped}
-use Rattle.tpl_ast.specs.declared.template.HartState.{HartState}
-use Rattle.tpl_admit.specs.Starts.{ArePlaces, AreStartWords}
+use Rattle.tpl_ast.specs.States.{AreStartWords, IsState, IsWord}
 use Rattle.tpl_admit.specs.Sizes.{file_size}
-
-abbrev pub IsWord : ℕ → Type 0
-IsWord n = n < 2 ^ 32
-
--- the value of a place is legal: any word for a register, and for a CSR what its row of the table allows
-abbrev pub is_legal_place : ℕ × ℕ → Bool
-is_legal_place e = nat_lt e.0 32 || is_legal_at (csr_address e.0) e.1
-
--- the fixed parts and the places of a hart
-pub record IsState (s : HartState) : Type 0 where
-  pub pc : IsWord s.pc
-  pub aligned : s.pc % 4 ≡ 0
-  pub mstatus : IsWord s.mstatus
-  pub medeleg : IsWord s.medeleg
-  pub satp : IsWord s.satp
-  pub legal_mstatus : is_legal_at 0x300 s.mstatus ≡ true
-  pub legal_medeleg : is_legal_at 0x302 s.medeleg ≡ true
-  pub legal_satp : is_legal_at 0x180 s.satp ≡ true
-  pub places : ArePlaces 0 s.places
-  pub legal_places : AllByRecursion (λ e. is_legal_place e ≡ true) s.places
-
--- one, two or four bytes, with a value that they can hold
-pub record IsAccess (a : Access) : Type 0 where
-  pub addr : IsWord a.addr
-  pub size : (a.size == 1 || (a.size == 2 || a.size == 4)) ≡ true
-  pub value : a.value < 2 ^ (8 * a.size)
 
 abbrev pub IsOutcome : Outcome → Type 0
 IsOutcome Retired = Unit {0}

@@ -98,10 +98,10 @@ longest_saturated a n s l = elim (split s) [
 
 -- ---- and in an open block
 
-abbrev made : Block → ℕ → Open
+abbrev pub made : Block → ℕ → Open
 made block n = record { block = block; length = n; ways = 0; weighted = false }
 
-abbrev choice : ℕ → ℕ → Bool → Open
+abbrev pub choice : ℕ → ℕ → Bool → Open
 choice n ways weighted = record { block = Choice; length = n; ways = ways; weighted = weighted }
 
 add_saturated : (n : ℕ) (os : List Open) → add_length (saturated n) os ≡ add_length n os
@@ -197,6 +197,10 @@ counted_item : (i : Item) → IsCounted i
 counted_item = ind-Item IsCounted step
 
 -- ---- bodies
+
+-- any items in an open block
+pub body_in_block : (items : List Item) (block : Block) (os : List Open) → counted_all (lines_of_body items) (opened_as block ∷ os) ≡ made block (saturated (length_of_body items)) ∷ os
+body_in_block items block os = subst (λ (is : List Item). counted_all (lines_of_body is) (opened_as block ∷ os) ≡ made block (saturated (length_of_body is)) ∷ os) (items_back counted_item items) (from_nothing (proved counted_item items) block os)
 
 pub body_counted : (items : List Item) → lines_length (lines_of_body items) ≡ saturated (length_of_body items)
 body_counted items = subst (λ (is : List Item). lines_length (lines_of_body is) ≡ saturated (length_of_body is)) (items_back counted_item items) (ap kept_length (from_nothing (proved counted_item items) Whole []))

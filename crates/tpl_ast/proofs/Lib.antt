@@ -10,6 +10,11 @@ pub mod Leaves
 pub mod Kept
 pub mod Short
 pub mod Steps
+pub mod Frames
+pub mod Given
+pub mod Pieces
+pub mod Stacks
+pub mod Wished
 pub mod Sound
 pub mod Readers
 pub mod Lists

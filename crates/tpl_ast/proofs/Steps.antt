@@ -3,17 +3,19 @@ use Rattle.std.proofs.Common.{◌≡◌, ℕ, ◌+◌, ◌&&◌, ◌||◌, Bool,
 use Rattle.std.specs.List.{list_any}
 use Rattle.tpl_ast.specs.declared.fault.Fault.{Fault}
 use Rattle.tpl_ast.specs.declared.fault.Kind.{Kind}
-use Rattle.tpl_ast.specs.declared.fault.Kind.TheVariants.{BadByte, BadRam, DoubleName, EmptyDomain, NameTwiceInLeaf, NumberTooLarge, TooDeep, TooLong, TooMany, Unexpected, UnknownName}
+use Rattle.tpl_ast.specs.declared.fault.Kind.TheVariants.{BadByte, BadRam, BadStart, DoubleName, EmptyDomain, NameTwiceInLeaf, NumberTooLarge, TooDeep, TooLong, TooMany, Unexpected, UnknownName}
 use Rattle.tpl_ast.specs.Grammar.{statement_of}
 use Rattle.tpl_ast.specs.Judging.{is_name_twice, is_phrase_above, is_phrase_long}
 use Rattle.tpl_ast.specs.Laws.{IsReached, Before, Behind}
 use Rattle.tpl_ast.specs.Lines.{is_bad_byte, lines, stripped, to_first, uncommented}
-use Rattle.tpl_ast.specs.Parsing.{Known, Said, after, allows, fault, fault_of, is_bad_ram, is_deep, is_double, is_empty, is_finished, is_last, is_long, is_unknown, judged, nothing, passes_count, phrased, run, said, spelled, stated, told}
+use Rattle.tpl_ast.specs.Parsing.{Known, Said, after, allows, fault, fault_of, is_bad_ram, is_bad_start, is_deep, is_double, is_empty, is_finished, is_last, is_long, is_unknown, judged, nothing, passes_count, phrased, run, said, spelled, told}
 use Rattle.tpl_ast.specs.Phrases.{Phrase}
+use Rattle.tpl_ast.specs.Spelling.{Spells}
 use Rattle.tpl_ast.specs.Tokens.{Token, tokens_of}
-use Rattle.tpl_ast.proofs.Short.{AreShort, IsShort, OnSome, line_short, statement_short}
+use Rattle.tpl_ast.proofs.Short.{AreShort, IsShort, OnSome, line_short, spelled_short}
+use Rattle.tpl_ast.proofs.Statements.{statements_are_spelled}
 
-same_ok : {A B : Type 0} (x y : A) → ◌≡◌ {A = Result A B} (Ok x) (Ok y) → x ≡ y
+pub same_ok : {A B : Type 0} (x y : A) → ◌≡◌ {A = Result A B} (Ok x) (Ok y) → x ≡ y
 same_ok x y h = cc
 
 -- ---- a statement
@@ -31,6 +33,10 @@ pub not_false : (a : Bool) → not a ≡ false → a ≡ true
 not_false true h = refl
 not_false false h = absurd (cc h)
 
+pub not_true : (a : Bool) → not a ≡ true → a ≡ false
+not_true true h = absurd (cc h)
+not_true false h = refl
+
 pub either_false : (a b : Bool) → a || b ≡ false → (a ≡ false) × (b ≡ false)
 either_false false b h = (refl, h)
 either_false true b h = absurd (cc h)
@@ -39,9 +45,15 @@ either_false true b h = absurd (cc h)
 pub record Passed (k : Known) (last : Bool) (p : Phrase) : Type 0 where
   pub allowed : allows k p ≡ true
   pub ends : last && not (is_last k p) ≡ false
+  pub small : is_phrase_above p ≡ false
+  pub known : is_unknown k p ≡ false
+  pub once : is_name_twice p ≡ false
+  pub some : is_empty k p ≡ false
   pub fits : is_long k p ≡ false
+  pub short : is_phrase_long p ≡ false
   pub counts : passes_count k p ≡ false
   pub ram : is_bad_ram k p ≡ false
+  pub start : is_bad_start k p ≡ false
 
 passed_all : (k : Known) (last : Bool) (p : Phrase) → fault_of k last p ≡ None → Passed k last p
 unfolding fault_of
@@ -57,49 +69,57 @@ passed_all k last p none =
     let j = passed (is_long k p) TooLong _ i.rest in
     let l = passed (is_phrase_long p || passes_count k p) TooMany _ j.rest in
     let m = passed (is_bad_ram k p) BadRam _ l.rest in
+    let n = passed (is_bad_start k p) BadStart _ m.rest in
     record {
       allowed = not_false _ a.false_;
       ends = b.false_;
+      small = c.false_;
+      known = d.false_;
+      once = f.false_;
+      some = g.false_;
       fits = j.false_;
+      short = (either_false (is_phrase_long p) _ l.false_).0;
       counts = (either_false (is_phrase_long p) _ l.false_).1;
       ram = m.false_;
+      start = n.false_;
     }
 
 -- ---- a line
 
--- what a line without a fault says: nothing, or a statement
-pub data Judged (k : Known) (line : ℕ) (last : Bool) : Known → Type 0 where
-  Blank : last && not (is_finished k) ≡ false → Judged k line last k
-  Stated : (p : Phrase) → IsShort p → Passed k last p → Judged k line last (after k line p)
+-- what a line without a fault says: nothing, or a statement that is spelled with its tokens
+pub data Judged (k : Known) (line : ℕ) (bytes : List ℕ) (last : Bool) : Known → Type 0 where
+  Blank : last && not (is_finished k) ≡ false → Judged k line bytes last k
+  Stated : (p : Phrase) (ts : List Token) → tokens_of (uncommented bytes) ≡ Some ts → Spells p ts → IsShort p → Passed k last p → Judged k line bytes last (after k line p)
 
-stated_by : (k next : Known) (line : ℕ) (last : Bool) (p : Phrase) → IsShort p → stated k line last p ≡ Ok next → Judged k line last next
-stated_by k next line last p short is = go (fault_of k last p) refl is where
-  go : (o : Option Kind) → fault_of k last p ≡ o → ◌≡◌ {A = Result Known Kind} (elim o [ Some kind ↦ Err kind | None ↦ Ok (after k line p) ]) (Ok next) → Judged k line last next
-  go (Some kind) e is = absurd (cc is)
-  go None e is = subst (Judged k line last) (same_ok _ _ is) (Stated p short (passed_all k last p e))
-
-pub judged_by : (k next : Known) (line : ℕ) (bytes : List ℕ) (last : Bool) → judged k line bytes last ≡ Ok next → Judged k line last next
+pub judged_by : (k next : Known) (line : ℕ) (bytes : List ℕ) (last : Bool) → judged k line bytes last ≡ Ok next → Judged k line bytes last next
 unfolding judged told
-judged_by k next line bytes last is = go (list_any is_bad_byte bytes) (tokens_of (uncommented bytes)) (line_short (uncommented bytes)) is where
-  phrase : (o : Option Phrase) → OnSome IsShort o → phrased k line last o ≡ Ok next → Judged k line last next
-  phrase None short is = absurd (cc is)
-  phrase (Some p) short is = stated_by k next line last p short is
+judged_by k next line bytes last is = go (list_any is_bad_byte bytes) (tokens_of (uncommented bytes)) refl (line_short (uncommented bytes)) is where
+  faultless : (ts : List Token) → tokens_of (uncommented bytes) ≡ Some ts → AreShort ts → (p : Phrase) → statement_of ts ≡ Some p
+      → (o : Option Kind) → fault_of k last p ≡ o → ◌≡◌ {A = Result Known Kind} (elim o [ Some kind ↦ Err kind | None ↦ Ok (after k line p) ]) (Ok next) → Judged k line bytes last next
+  faultless ts at short p said (Some kind) e is = absurd (cc is)
+  faultless ts at short p said None e is =
+      let spells = (statements_are_spelled ts p).0 said in
+      subst (Judged k line bytes last) (same_ok _ _ is) (Stated p ts at spells (spelled_short p ts short spells) (passed_all k last p e))
 
-  empty : (c : Bool) → last && not (is_finished k) ≡ c → ◌≡◌ {A = Result Known Kind} (cond c (Err Unexpected) (Ok k)) (Ok next) → Judged k line last next
+  phrase : (ts : List Token) → tokens_of (uncommented bytes) ≡ Some ts → AreShort ts → (o : Option Phrase) → statement_of ts ≡ o → phrased k line last o ≡ Ok next → Judged k line bytes last next
+  phrase ts at short None said is = absurd (cc is)
+  phrase ts at short (Some p) said is = faultless ts at short p said (fault_of k last p) refl is
+
+  empty : (c : Bool) → last && not (is_finished k) ≡ c → ◌≡◌ {A = Result Known Kind} (cond c (Err Unexpected) (Ok k)) (Ok next) → Judged k line bytes last next
   empty true ends is = absurd (cc is)
-  empty false ends is = subst (Judged k line last) (same_ok _ _ is) (Blank ends)
+  empty false ends is = subst (Judged k line bytes last) (same_ok _ _ is) (Blank ends)
 
-  tokens : (c : Bool) (ts : List Token) → AreShort ts → ◌≡◌ {A = Result Known Kind} (cond c (cond (last && not (is_finished k)) (Err Unexpected) (Ok k)) (phrased k line last (statement_of ts))) (Ok next) → Judged k line last next
-  tokens true ts short is = empty _ refl is
-  tokens false ts short is = phrase (statement_of ts) (statement_short ts short) is
+  tokens : (c : Bool) (ts : List Token) → tokens_of (uncommented bytes) ≡ Some ts → AreShort ts → ◌≡◌ {A = Result Known Kind} (cond c (cond (last && not (is_finished k)) (Err Unexpected) (Ok k)) (phrased k line last (statement_of ts))) (Ok next) → Judged k line bytes last next
+  tokens true ts at short is = empty _ refl is
+  tokens false ts at short is = phrase ts at short (statement_of ts) refl is
 
-  spell : (o : Option (List Token)) → OnSome AreShort o → spelled k line last o ≡ Ok next → Judged k line last next
-  spell None short is = absurd (cc is)
-  spell (Some ts) short is = tokens (eqb (length ts) 0) ts short is
+  spell : (o : Option (List Token)) → tokens_of (uncommented bytes) ≡ o → OnSome AreShort o → spelled k line last o ≡ Ok next → Judged k line bytes last next
+  spell None at short is = absurd (cc is)
+  spell (Some ts) at short is = tokens (eqb (length ts) 0) ts at short is
 
-  go : (c : Bool) (o : Option (List Token)) → OnSome AreShort o → ◌≡◌ {A = Result Known Kind} (cond c (Err BadByte) (spelled k line last o)) (Ok next) → Judged k line last next
-  go true o short is = absurd (cc is)
-  go false o short is = spell o short is
+  go : (c : Bool) (o : Option (List Token)) → tokens_of (uncommented bytes) ≡ o → OnSome AreShort o → ◌≡◌ {A = Result Known Kind} (cond c (Err BadByte) (spelled k line last o)) (Ok next) → Judged k line bytes last next
+  go true o at short is = absurd (cc is)
+  go false o at short is = spell o at short is
 
 -- ---- all lines
 

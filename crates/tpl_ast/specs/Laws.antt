@@ -1,7 +1,7 @@
 -- Laws of the language.
-use Rattle.std.specs.Prelude.{◌≡◌, ℕ, ◌%◌, ◌<◌, ◌≤◌, ◌↔◌, Bool, true, false, not, ◌&&◌, ◌||◌, List, [], ◌∷◌, ◌++◌, map, length, Ok, Err, ◌+◌, Vec, slice_index_or, Some, None}
+use Rattle.std.specs.Prelude.{◌≡◌, ℕ, ◌<◌, ◌≤◌, ◌↔◌, Bool, true, false, not, ◌&&◌, ◌||◌, List, [], ◌∷◌, ◌++◌, map, length, Ok, Err, ◌+◌, Vec, slice_index_or, Some, None}
 use Rattle.std.specs.Global.{Global}
-use Rattle.std.specs.List.{AllByRecursion, list_any}
+use Rattle.std.specs.List.{list_any}
 use Rattle.rv_csr.specs.declared.table.Register.{Register}
 use Rattle.rv_csr.specs.Table.{row_of}
 use Rattle.rv_isa.specs.declared.operation.Op.{Op}
@@ -12,14 +12,14 @@ use Rattle.tpl_ast.specs.declared.fault.Kind.TheVariants as kinds
 use Rattle.tpl_ast.specs.declared.template.HartDecl.{HartDecl}
 use Rattle.tpl_ast.specs.declared.template.Item.{Item}
 use Rattle.tpl_ast.specs.declared.template.Item.TheViews as views
-use Rattle.tpl_ast.specs.declared.template.NameDecl.{NameDecl}
-use Rattle.tpl_ast.specs.declared.template.Region.{Region}
 use Rattle.tpl_ast.specs.declared.template.Template.{Template}
+use Rattle.tpl_ast.specs.declared.template.Wish.{Wish}
 use Rattle.tpl_ast.specs.declared.words.Key.{Key}
 use Rattle.tpl_ast.specs.Bodies.{lines_of_body}
 use Rattle.tpl_ast.specs.Depths.{size_of_body, size_of_item, size_of_ways}
 use Rattle.tpl_ast.specs.Expansion.{layout_of, records_in}
 use Rattle.tpl_ast.specs.Grammar.{statement_of}
+use Rattle.tpl_ast.specs.Leaves.{IsLeaf, atoms_of, is_leaf}
 use Rattle.tpl_ast.specs.Lengths.{fixed_of_body, length_of_body, length_of_harts, saturated}
 use Rattle.tpl_ast.specs.Lines.{is_bad_byte, lines, stripped, uncommented}
 use Rattle.tpl_ast.specs.Spelling.{Spells}
@@ -28,6 +28,7 @@ use Rattle.tpl_ast.specs.Judging.{is_name_twice, is_phrase_above, is_phrase_long
 use Rattle.tpl_ast.specs.Kinds.{kind_number}
 use Rattle.tpl_ast.specs.Parsing.{Known, Parses, allows, body_length, fault, fault_of, hart_lines, is_bad_ram, is_bad_start, is_deep, is_double, is_empty, is_last, is_long, is_unknown, judged, nothing, parses, passes_count}
 use Rattle.tpl_ast.specs.Phrases.{Phrase}
+use Rattle.tpl_ast.specs.Templates.{KeepsLimits}
 use Rattle.tpl_ast.specs.Words.{csr_of, key_of, op_of, spelling_of}
 
 -- a text of more than 65,536 bytes is refused as a whole
@@ -84,29 +85,12 @@ pub record SizesFall : Type 0 where
 
 -- ---- what holds of every template
 
--- whole frames of 4,096 bytes, up to 0xFFFFF000
-pub record IsFramed (r : Region) : Type 0 where
-  pub low : r.low % 4096 ≡ 0
-  pub high : r.high % 4096 ≡ 0
-  pub some : r.low < r.high
-  pub most : r.high ≤ 0xFFFFF000
-
--- at most 32 bytes
-abbrev pub IsShortName : NameDecl → Type 0
-IsShortName d = length d.name ≤ 32
-
-pub record KeepsLimits (bytes : List ℕ) (t : Template) : Type 0 where
-  pub text : length bytes ≤ 65536
-  pub ram : AllByRecursion IsFramed t.ram
-  pub regions : length t.ram ≤ 8
-  pub names : AllByRecursion IsShortName t.names
-  pub names_count : length t.names ≤ 256
-  pub some_harts : 1 ≤ length t.harts
-  pub harts : length t.harts ≤ 4
-  pub length : length_of_harts t.harts ≤ 8192
-
 abbrev pub TemplatesKeepLimits : Type 0
 TemplatesKeepLimits = (text : List ℕ) (t : Template) → Parses text t → KeepsLimits text t
+
+-- what the test of a leaf says
+abbrev pub LeavesAreKnown : Type 0
+LeavesAreKnown = (count : ℕ) (ws : List Wish) → is_leaf count ws ≡ true → IsLeaf count (atoms_of ws)
 
 -- bodies of the same lines are laid out alike
 abbrev pub LinesTellLayouts : Type 0

@@ -1,9 +1,11 @@
 -- What is known of the atoms of a leaf.
-use Rattle.std.specs.Prelude.{◌≡◌, ℕ, Bool, false, ◌||◌, nat_eq, List, [], ◌∷◌}
+use Rattle.std.specs.Prelude.{◌≡◌, ℕ, ◌<◌, ◌≤◌, Bool, true, false, not, ◌&&◌, ◌||◌, nat_eq, nat_le, nat_lt, List, [], ◌∷◌, length, map}
+use Rattle.std.specs.List.{AllByRecursion, list_all}
 use Rattle.tpl_ast.specs.declared.template.Atom.{Atom}
 use Rattle.tpl_ast.specs.declared.template.Atom.TheVariants as atoms
 use Rattle.tpl_ast.specs.declared.template.Var.{Var}
 use Rattle.tpl_ast.specs.declared.template.Var.TheVariants as vars
+use Rattle.tpl_ast.specs.declared.template.Wish.{Wish}
 
 abbrev pub var_number : Var → ℕ
 var_number vars.Op = 0
@@ -46,3 +48,49 @@ stands_alone _ leaf = Unit {0}
 abbrev pub NamedOnce : List Atom → Type 0
 NamedOnce [] = Unit {0}
 NamedOnce (atom ∷ leaf) = stands_alone atom leaf × NamedOnce leaf
+
+-- ---- the same as tests
+
+abbrev pub is_pa : Var → Bool
+is_pa v = same_var v vars.Pa
+
+abbrev pub is_plain : Atom → Bool
+is_plain (atoms.Same v u) = not (is_pa v) && not (is_pa u)
+is_plain (atoms.Differ v u) = not (is_pa v) && not (is_pa u)
+is_plain _ = true
+
+abbrev pub is_alone : Atom → List Atom → Bool
+is_alone (atoms.Is v name) leaf = not (is_named_in name leaf)
+is_alone _ leaf = true
+
+abbrev pub is_named_once : List Atom → Bool
+is_named_once [] = true
+is_named_once (atom ∷ leaf) = is_alone atom leaf && is_named_once leaf
+
+-- the name that the atom speaks of is one of so many
+abbrev pub is_name_below : ℕ → Atom → Bool
+is_name_below count (atoms.Is v name) = nat_lt name count
+is_name_below count _ = true
+
+abbrev pub atoms_of : List Wish → List Atom
+atoms_of ws = map (λ w. w.atom) ws
+
+-- at most 32 atoms, none of which relates the physical address to another variable, and each of whose names is one of so many and stands once
+abbrev pub is_leaf : ℕ → List Wish → Bool
+is_leaf count ws =
+    nat_le (length ws) 32
+    && (list_all is_plain (atoms_of ws)
+    && (list_all (is_name_below count) (atoms_of ws)
+    && is_named_once (atoms_of ws)))
+
+-- an atom's name is one of so many
+abbrev pub IsNameBelow : ℕ → Atom → Type 0
+IsNameBelow count (atoms.Is v name) = name < count
+IsNameBelow count _ = Unit {0}
+
+-- what is known of the atoms of each leaf of a template with so many names
+pub record IsLeaf (count : ℕ) (leaf : List Atom) : Type 0 where
+  pub most : length leaf ≤ 32
+  pub plain : AllByRecursion IsPlain leaf
+  pub names : AllByRecursion (IsNameBelow count) leaf
+  pub once : NamedOnce leaf

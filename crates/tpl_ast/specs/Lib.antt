@@ -13,6 +13,8 @@ pub mod Lengths
 pub mod Depths
 pub mod Parsing
 pub mod Expansion
-pub mod Laws
+pub mod States
 pub mod Leaves
 pub mod Choices
+pub mod Templates
+pub mod Laws

@@ -1,5 +1,5 @@
 // Laws of the language.
-ghost use Rattle.tpl_ast.specs.Laws.{BlanksSayNothing, CarriageReturnsSayNothing, CommentsSayNothing, FirstFaultDecides, FixedLengthsAreExact, LeastKindIsTold, LengthsAreKept, LengthsBound, LinesTellLayouts, LongTextsAreRefused, SizesFall, StatementsAreSpelled, TemplatesKeepLimits, TokensDecide, WordsAreRead};
+ghost use Rattle.tpl_ast.specs.Laws.{BlanksSayNothing, CarriageReturnsSayNothing, CommentsSayNothing, FirstFaultDecides, FixedLengthsAreExact, LeastKindIsTold, LeavesAreKnown, LengthsAreKept, LengthsBound, LinesTellLayouts, LongTextsAreRefused, SizesFall, StatementsAreSpelled, TemplatesKeepLimits, TokensDecide, WordsAreRead};
 
 /// Does nothing. Its contract says that a text says what the tokens of its lines say, that comments, blanks and
 /// carriage returns before line feeds say nothing, that the answer for a faulty text depends on its lines up to
@@ -20,10 +20,17 @@ pub fn size_law()
     ensures { SizesFall }
 {}
 
-/// Does nothing. Its contract says what holds of every template: how long its text is, that RAM is whole frames, how
-/// many regions, names and harts there are, how long names are, and how long the bodies are together.
+/// Does nothing. Its contract says what holds of every template: how long its text is; that RAM is whole frames, in
+/// regions apart, of at most 64 MiB; that frames are in RAM, each once; what its flag bytes, vectors, words, names and
+/// starts are; what its leaves, repeats and choices are, and that an alternative of each choice can be picked; and how
+/// many of each there are.
 pub fn template_law()
     ensures { TemplatesKeepLimits }
+{}
+
+/// Does nothing. Its contract says what is known of the atoms of a leaf that stands in a template.
+pub fn leaf_law()
+    ensures { LeavesAreKnown }
 {}
 
 /// Does nothing. Its contract says that what a body is laid out as is told by its lines.

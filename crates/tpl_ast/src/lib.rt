@@ -13,8 +13,8 @@ mod words;
 pub use fault::{Fault, Kind};
 pub use items::Items;
 pub use laws::{
-    kind_law, language_laws, layout_law, length_laws, size_law, statement_law, template_law,
-    word_law,
+    kind_law, language_laws, layout_law, leaf_law, length_laws, size_law, statement_law,
+    template_law, word_law,
 };
 pub use lengths::length;
 pub use mark::Mark;

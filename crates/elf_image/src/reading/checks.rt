@@ -1,6 +1,6 @@
 // Tests of values that were read.
 ghost use Rattle.std.specs.Prelude.{◌≡◌, ◌<◌, ◌≤◌, ◌^◌, ◌&&◌, ◌==◌, IsTrue, length, nat_le, slice_get};
-ghost use Rattle.tpl_admit.specs.Starts.{is_in};
+ghost use Rattle.tpl_ast.specs.States.{is_in};
 ghost use Rattle.tpl_admit.specs.WellFormed.{drop_place};
 ghost use Rattle.tpl_ast.specs.Parsing.{said_by};
 ghost use Rattle.elf_headers.specs.Runs.{total_words};

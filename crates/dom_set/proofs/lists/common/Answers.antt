@@ -4,10 +4,12 @@ use Rattle.dom_set.proofs.Times.{times_rest}
 use Rattle.dom_set.proofs.lists.common.Goals as goal
 
 pub loop-p-preserved : goal.loop-p-preserved
-loop-p-preserved c = λ x.
-    omega (
-      arith,
-      c.loop-p.invariant x,
-      c.in_ok-push_common.ensures x,
-      ap (λ (n : ℕ). n * times c.args.others.now x) (times_rest c.args.pieces.now c.loop-p.p-index c.p-item.result x c.loop-p-test.true c.p-item.is),
-    )
+loop-p-preserved c = record {
+  shared = λ x. omega (
+    arith,
+    c.loop-p.invariant.shared x,
+    c.in_ok-push_common.ensures x,
+    ap (λ (n : ℕ). n * times c.args.others.now x) (times_rest c.args.pieces.now c.loop-p.p-index c.p-item.result x c.loop-p-test.true c.p-item.is),
+  );
+  passed = c.next_place-place.ensures;
+}

@@ -6,9 +6,9 @@ use Rattle.dom_set.proofs.Pieces.{two_parts, three_parts}
 use Rattle.dom_set.proofs.Times.{word_held}
 use Rattle.dom_set.proofs.lists.push_less.Goals as goal
 
-pub returns-in_ok-push_missed-in-Some : goal.returns-in_ok-push_missed-in-Some
+pub returns-in_ok-push_piece-in-Some-2 : goal.returns-in_ok-push_piece-in-Some-2
 unfolding in_piece
-returns-in_ok-push_missed-in-Some c = λ x.
+returns-in_ok-push_piece-in-Some-2 c = λ x.
     omega (
       arith,
       c.in_ok-push_missed-in-Some.ensures x,

@@ -17,7 +17,7 @@ loop-value-preserved c =
         | inl before ↦ c.loop-value.invariant.failed w inside before
         | inr from ↦
             let near : rank p v ≤ rank p w = c.in-Some.ensures.2 w inside from in
-            let same : w ≡ v = rank_injective p w v c.rank.ensures.pivot (member_word c.args.domain.now c.size-size.ensures.words w inside) c.rank.ensures.value (omega (arith, near, less, next_is)) in
+            let same : w ≡ v = rank_injective p w v c.rank.ensures.pivot (member_word c.args.domain.now c.element_laws.ensures.words w inside) c.rank.ensures.value (omega (arith, near, less, next_is)) in
             let failed : own_hold c.args.op (put c.args.base.now c.args.slot v) c.args.slot c.args.rels.now ≡ false = ap (λ (x : Assignment). own_hold c.args.op x c.args.slot c.args.rels.now) (sym c.put.ensures) ∙ sym c.if-own_hold.ensures in
             subst (λ (u : ℕ). own_hold c.args.op (put c.args.base.now c.args.slot u) c.args.slot c.args.rels.now ≡ false) (sym same) failed
       ];

@@ -1,13 +1,15 @@
-use Rattle.std.proofs.Common.{◌≡◌, ℕ, ◌+◌, length, slice_index, ap, sym, ◌∙◌, subst, arith}
+use Rattle.std.proofs.Common.{◌≡◌, ℕ, true, List, ◌+◌, length, slice_index, ap, sym, ◌∙◌, subst, arith}
 use Rattle.fd_narrow.specs.Narrowing.{domain_in}
 use Rattle.fd_prob.specs.Order.{rank}
 use Rattle.fd_solve.proofs.Freedom.{free_least_at, free_none_at}
 use Rattle.fd_solve.proofs.Searching.{fixed_at, found_at, one_tried_at, single_at, Tried}
+use Rattle.dom_set.specs.Elements.{is_in}
+use Rattle.fd_solve.proofs.Leaving.{left_at_once, left_none}
 use Rattle.fd_solve.proofs.search.+search.Goals as goal
 
 pub search-requires : goal.search-requires
 search-requires t c =
-    let one : length (domain_in c.args.doms.now c.slot_at-slot.result) ≡ 1 = ap length (sym c.domain-domain.ensures) ∙ sym c.size.ensures.size ∙ c.if-size-eq1.true in
+    let one : length (domain_in c.args.doms.now c.slot_at-slot.result) ≡ 1 = ap length (sym c.domain-domain.ensures) ∙ c.is_single.ensures.0 c.if-is_single.true in
     (omega arith, (c.requires.case, (omega arith, single_at c.args.doms.now c.slot_at-slot.result c.args.place c.slot_at-slot.ensures c.requires.fixed one)))
 
 pub returns-in_default-first_passing : goal.returns-in_default-first_passing
@@ -40,3 +42,14 @@ loop-value-preserved t c =
       below = omega (arith, c.rank.type_inv, c.from-k.ensures);
       tried = subst (λ (n : ℕ). Tried c.args.case.now c.args.doms.now c.slot_at-slot.result p (n + 1)) (sym next_is) tried;
     }
+
+pub search-requires-then-k-eq0 : goal.search-requires-then-k-eq0
+search-requires-then-k-eq0 t c =
+    (omega arith, (c.in_ok-easier.ensures.case, (omega arith, fixed_at c.in_ok-easier.easier c.args.doms.now c.in_ok-copy-3.field-0 c.in_ok-copy-3.ensures c.slot_at-slot.result c.in-Some-next_from.value c.in_ok-fixed.fixed c.in_ok-fixed.ensures c.args.place c.slot_at-slot.ensures c.requires.fixed)))
+
+pub returns-then-is_none : goal.returns-then-is_none
+returns-then-is_none t c =
+    let nothing = rw (left_none c.in_ok-search.field-0 c.is_none.result c.is_none.ensures c.if-is_none.true) at c.in_ok-search.ensures in
+    left_at_once c.args.case.now c.in_ok-easier.easier c.args.doms.now c.in_ok-copy-3.field-0 c.slot_at-slot.result c.in-Some-next_from.value c.in_ok-fixed.fixed c.in_ok-easier.ensures.easier c.in_ok-copy-3.ensures c.in_ok-fixed.ensures
+    (subst (λ (xs : List ℕ). is_in xs c.in-Some-next_from.value ≡ true) c.domain-domain.ensures c.in-Some-next_from.ensures.0)
+    nothing

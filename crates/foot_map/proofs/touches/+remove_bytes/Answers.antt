@@ -11,9 +11,9 @@ returns-then-mask-gt1-clause-removed t c b h r =
     c.remove_bytes.ensures.removed b h r
     ∙ ap (λ (o : Bool). o && not (is_masked c.next.result.hart c.next.result.role c.next.result.byte (c.args.mask / 2) b h r)) (c.take_out_if.ensures.removed b h r)
     ∙ rw (c.next.ensures.byte, c.next.ensures.hart, c.next.ensures.role)
-    (masked_more (has c.args.touches.now.keys b h r) (eqb c.args.touch.hart h && same_role c.args.touch.role r) c.args.touch.byte b c.args.mask)
+    (masked_more (has c.args.touches.now b h r) (eqb c.args.touch.hart h && same_role c.args.touch.role r) c.args.touch.byte b c.args.mask)
 
 pub returns-else-mask-gt1-clause-removed : goal.returns-else-mask-gt1-clause-removed
 returns-else-mask-gt1-clause-removed t c b h r =
     c.take_out_if.ensures.removed b h r
-    ∙ masked_one (has c.args.touches.now.keys b h r) (eqb c.args.touch.hart h && same_role c.args.touch.role r) c.args.touch.byte b c.args.mask c.if-mask-gt1.false
+    ∙ masked_one (has c.args.touches.now b h r) (eqb c.args.touch.hart h && same_role c.args.touch.role r) c.args.touch.byte b c.args.mask c.if-mask-gt1.false

@@ -3,4 +3,4 @@ use Rattle.foot_map.specs.Races.{IsClash}
 use Rattle.foot_map.proofs.touches.first_clash.Given as goal
 
 abbrev pub invariant-loop-i : goal.invariant-loop-i
-invariant-loop-i l = (d : Clash) → IsClash l.touches.keys l.hart l.role l.addr l.i d → ⊥
+invariant-loop-i l = (d : Clash) → IsClash l.touches l.hart l.role l.addr l.i d → ⊥

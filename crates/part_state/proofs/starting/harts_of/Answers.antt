@@ -1,7 +1,7 @@
 use Rattle.std.proofs.Common.{◌≡◌, ℕ, sym, ap, ◌∙◌, subst, arith}
 use Rattle.tpl_ast.specs.declared.template.HartDecl.{HartDecl}
 use Rattle.tpl_ast.specs.declared.template.HartState.{HartState}
-use Rattle.tpl_admit.specs.WellFormed.{IsState}
+use Rattle.tpl_ast.specs.States.{IsState}
 use Rattle.part_machine.specs.Whole.{bare}
 use Rattle.part_state.specs.Beginning.{IsHartOf, start_in}
 use Rattle.part_state.proofs.Declared.{begun_more, begun_all, declared_at, state_at}

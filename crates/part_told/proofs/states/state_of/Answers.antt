@@ -2,8 +2,7 @@ use Rattle.std.proofs.Common.{◌≡◌, ◌%◌, ℕ, List, length, true, sym, 
 use Rattle.std.specs.List.{AllByRecursion}
 use Rattle.rv_csr.specs.declared.table.Register.TheVariants.{Mstatus, Medeleg, Satp}
 use Rattle.rv_csr.specs.Table.{is_legal}
-use Rattle.tpl_admit.specs.Starts.{ArePlaces}
-use Rattle.tpl_admit.specs.WellFormed.{is_legal_place}
+use Rattle.tpl_ast.specs.States.{ArePlaces, is_legal_place}
 use Rattle.part_machine.specs.Whole.{bare}
 use Rattle.part_told.specs.Finishing.{AreSmall}
 use Rattle.part_told.proofs.Places.{are_places, are_legal}

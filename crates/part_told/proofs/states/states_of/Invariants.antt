@@ -1,6 +1,6 @@
 use Rattle.std.proofs.Common.{◌≡◌, take, map}
 use Rattle.std.specs.List.{AllByRecursion}
-use Rattle.tpl_admit.specs.WellFormed.{IsState}
+use Rattle.tpl_ast.specs.States.{IsState}
 use Rattle.part_machine.specs.Whole.{bare}
 use Rattle.part_told.specs.Finishing.{told_state}
 use Rattle.part_told.proofs.states.states_of.Given as goal

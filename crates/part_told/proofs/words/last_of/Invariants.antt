@@ -2,7 +2,7 @@ use Rattle.std.proofs.Common.{◌≡◌, ◌/◌, take, map, Some}
 use Rattle.std.specs.List.{AllByRecursion}
 use Rattle.rv_mem.specs.Part.{part_at}
 use Rattle.rv_mem.specs.Seen.{known_word}
-use Rattle.tpl_admit.specs.WellFormed.{IsWord}
+use Rattle.tpl_ast.specs.States.{IsWord}
 use Rattle.part_told.proofs.words.last_of.Given as goal
 
 abbrev pub invariant-loop-word : goal.invariant-loop-word

@@ -1,7 +1,7 @@
 use Rattle.std.proofs.Common.{true, List, sym, ap, ◌∙◌}
-use Rattle.addr_rows.specs.Classes.{has_index}
+use Rattle.row_parts.specs.Classes.{has_index}
 use Rattle.addr_rows.specs.Combinations.{rooted}
-use Rattle.addr_rows.specs.Rows.{End, when}
+use Rattle.row_parts.specs.Rows.{End, when}
 use Rattle.addr_rows.specs.Scenes.{setting_of}
 use Rattle.addr_rows.proofs.Leading.{roots_alike, pointers_alike, when_alike}
 use Rattle.addr_rows.proofs.root_entries.RootEntriesEntries.are_alike.Goals as goal

@@ -1,14 +1,13 @@
-use Rattle.std.proofs.Common.{◌≡◌, ℕ, List, [], ◌∷◌, Option, None, sym, subst, ap, ◌∙◌}
+use Rattle.std.proofs.Common.{◌≡◌, ℕ, List, [], ◌∷◌, None, sym, subst, ap, ◌∙◌}
 use Rattle.rv_mem.specs.Ram.{in_ram}
 use Rattle.sv_walk.specs.Translation.{second_end}
 use Rattle.dom_set.specs.Counting.{one}
 use Rattle.dom_set.specs.Elements.{is_in}
-use Rattle.addr_rows.specs.Forms.{is_first, is_second}
-use Rattle.addr_rows.specs.Rows.{Reaches}
-use Rattle.addr_rows.specs.declared.alike.Group.{Group}
-use Rattle.addr_rows.specs.Alike.{is_held, times_held, by_groups, by_word}
-use Rattle.addr_rows.proofs.Settings.{setting_same, once_self, any_by}
-use Rattle.addr_rows.proofs.Sharing.{at_most_one, shared}
+use Rattle.row_parts.specs.Forms.{is_first, is_second}
+use Rattle.row_parts.specs.Rows.{Reaches}
+use Rattle.row_parts.specs.declared.alike.Group.{Group}
+use Rattle.row_parts.specs.Alike.{is_held, times_held, by_groups, by_word}
+use Rattle.addr_rows.proofs.Settings.{at_most_one, setting_same, once_self, any_by}
 use Rattle.addr_rows.proofs.scene.Scene.new.Goals as goal
 
 pub grouped-requires : goal.grouped-requires
@@ -30,5 +29,5 @@ returns-clause-kept c =
       seconds = λ given x.
           subst (λ (rs : List (ℕ × ℕ)). by_groups gs given (λ (w : ℕ). Reaches (second_end (in_ram rs) c.args.v c.args.kind x w) ∷ []) ≡ by_word (is_held gs) given (λ (w : ℕ). Reaches (second_end (in_ram rs) c.args.v c.args.kind x w) ∷ []))
           (sym (c.new.ensures ∙ c.in_ok-regions.ensures.items ∙ c.as_slice.ensures.regions))
-          (shared (λ (w y : ℕ) (leaf : Option ℕ). Reaches (second_end (in_ram c.args.ram.now) c.args.v c.args.kind y w) ∷ []) (is_held gs) gs given x None held c.in_ok-seconds.ensures.alike);
+          (c.in_ok-seconds.ensures.ends (is_held gs) given x None (λ w. sym (c.in_ok-seconds.ensures.count w) ∙ held w));
     }

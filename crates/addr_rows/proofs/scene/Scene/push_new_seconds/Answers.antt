@@ -1,10 +1,11 @@
 use Rattle.std.proofs.Common.{Bool, List, ◌≤◌, length, subst, ◌&&◌, [], ◌∷◌, ◌++◌, Some, ap, ◌∙◌}
 use Rattle.dom_set.specs.Elements.{is_in}
-use Rattle.addr_rows.specs.declared.alike.Group.{Group}
-use Rattle.addr_rows.specs.Rows.{End, when, is_of, ends_in}
+use Rattle.row_parts.specs.declared.alike.Group.{Group}
+use Rattle.row_parts.specs.Rows.{End, when, is_of, ends_in}
 use Rattle.addr_rows.specs.Combinations.{second_reaches}
 use Rattle.addr_rows.specs.Scenes.{setting_of}
-use Rattle.addr_rows.proofs.Fresh.{finished, seconds}
+use Rattle.addr_rows.proofs.Fresh.{seconds}
+use Rattle.addr_rows.proofs.Loops.{finished}
 use Rattle.addr_rows.proofs.scene.Scene.push_new_seconds.Goals as goal
 
 pub returns : goal.returns

@@ -2,8 +2,8 @@ use Rattle.std.proofs.Common.{◌≡◌, ℕ, ◌+◌, ◌*◌, ◌/◌, ◌%◌
 use Rattle.std.specs.Prelude.{IfSome}
 use Rattle.dom_set.specs.Elements.{is_in}
 use Rattle.rv_mem.specs.declared.words.Seen.{Seen}
-use Rattle.addr_rows.specs.Classes.{seen_at, entry_at}
-use Rattle.addr_rows.specs.Rows.{End, is_of, ends_in}
+use Rattle.row_parts.specs.Classes.{seen_at, entry_at}
+use Rattle.row_parts.specs.Rows.{End, is_of, ends_in}
 use Rattle.addr_rows.specs.Combinations.{at_second, is_own_entry, is_table, pointed}
 use Rattle.addr_rows.specs.Scenes.{setting_of, is_some}
 use Rattle.addr_rows.proofs.OnePage.{on_page, second_of, and_left}

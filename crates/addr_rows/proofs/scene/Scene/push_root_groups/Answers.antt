@@ -1,10 +1,10 @@
 use Rattle.std.proofs.Common.{true, ◌&&◌, Some}
 use Rattle.dom_set.specs.Elements.{is_in}
-use Rattle.addr_rows.specs.declared.alike.Group.{Group}
-use Rattle.addr_rows.specs.Rows.{is_of, ends_in}
+use Rattle.row_parts.specs.declared.alike.Group.{Group}
+use Rattle.row_parts.specs.Rows.{is_of, ends_in}
 use Rattle.addr_rows.specs.Combinations.{rooted}
 use Rattle.addr_rows.specs.Scenes.{setting_of}
-use Rattle.addr_rows.proofs.Fresh.{finished}
+use Rattle.addr_rows.proofs.Loops.{finished}
 use Rattle.addr_rows.proofs.scene.Scene.push_root_groups.Goals as goal
 
 pub returns : goal.returns

@@ -1,7 +1,7 @@
 use Rattle.std.proofs.Common.{◌≡◌, ℕ, ◌^◌, ◌<◌, true, ◌&&◌, ◌++◌, Option, drop}
 use Rattle.dom_set.specs.Elements.{is_in}
-use Rattle.addr_rows.specs.Alike.{by_groups}
-use Rattle.addr_rows.specs.Rows.{when, ends_in}
+use Rattle.row_parts.specs.Alike.{by_groups}
+use Rattle.row_parts.specs.Rows.{when, ends_in}
 use Rattle.addr_rows.specs.Combinations.{rooted}
 use Rattle.addr_rows.specs.Scenes.{setting_of}
 use Rattle.addr_rows.proofs.scene.Scene.push_root_groups.Given as goal

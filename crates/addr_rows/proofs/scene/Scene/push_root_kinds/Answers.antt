@@ -1,10 +1,10 @@
 use Rattle.std.proofs.Common.{true, ◌/◌, ◌^◌, ◌&&◌}
 use Rattle.dom_set.specs.Elements.{is_in}
-use Rattle.addr_rows.specs.Classes.{entry_at, same}
-use Rattle.addr_rows.specs.Rows.{ends_in}
+use Rattle.row_parts.specs.Classes.{entry_at, same}
+use Rattle.row_parts.specs.Rows.{ends_in}
 use Rattle.addr_rows.specs.Combinations.{at_root, root_frame}
 use Rattle.addr_rows.specs.Scenes.{setting_of}
-use Rattle.addr_rows.proofs.Fresh.{finished}
+use Rattle.addr_rows.proofs.Loops.{finished}
 use Rattle.addr_rows.proofs.scene.Scene.push_root_kinds.Goals as goal
 
 pub returns : goal.returns

@@ -1,9 +1,9 @@
 use Rattle.std.proofs.Common.{◌≡◌, ℕ, true, ◌/◌, ◌^◌, ◌<◌, ◌&&◌, ◌++◌, Option, drop}
 use Rattle.dom_set.specs.Elements.{is_in}
-use Rattle.addr_rows.specs.Classes.{entry_at}
-use Rattle.addr_rows.specs.Rows.{when, ends_in}
+use Rattle.row_parts.specs.Classes.{entry_at}
+use Rattle.row_parts.specs.Rows.{when, ends_in}
 use Rattle.addr_rows.specs.Combinations.{at_root, root_frame}
-use Rattle.addr_rows.specs.Items.{by_kind}
+use Rattle.row_parts.specs.Items.{by_kind}
 use Rattle.addr_rows.specs.Scenes.{setting_of}
 use Rattle.addr_rows.proofs.scene.Scene.push_root_kinds.Given as goal
 

@@ -1,10 +1,10 @@
 use Rattle.std.proofs.Common.{◌/◌, ◌%◌, ◌^◌, not, ◌&&◌}
 use Rattle.dom_set.specs.Elements.{is_in}
-use Rattle.addr_rows.specs.Classes.{entry_at, same}
-use Rattle.addr_rows.specs.Rows.{is_of, ends_in}
+use Rattle.row_parts.specs.Classes.{entry_at, same}
+use Rattle.row_parts.specs.Rows.{is_of, ends_in}
 use Rattle.addr_rows.specs.Combinations.{at_second, is_table, is_own_entry}
 use Rattle.addr_rows.specs.Scenes.{setting_of, is_some}
-use Rattle.addr_rows.proofs.Fresh.{finished}
+use Rattle.addr_rows.proofs.Loops.{finished}
 use Rattle.addr_rows.proofs.scene.Scene.push_second_kinds.Goals as goal
 
 pub returns : goal.returns

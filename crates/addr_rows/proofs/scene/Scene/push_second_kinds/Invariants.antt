@@ -1,9 +1,9 @@
 use Rattle.std.proofs.Common.{◌≡◌, ℕ, ◌/◌, ◌%◌, ◌^◌, ◌<◌, not, ◌&&◌, ◌++◌, Option, drop}
 use Rattle.dom_set.specs.Elements.{is_in}
-use Rattle.addr_rows.specs.Classes.{entry_at}
-use Rattle.addr_rows.specs.Rows.{when, is_of, ends_in}
+use Rattle.row_parts.specs.Classes.{entry_at}
+use Rattle.row_parts.specs.Rows.{when, is_of, ends_in}
 use Rattle.addr_rows.specs.Combinations.{at_second, is_table, is_own_entry}
-use Rattle.addr_rows.specs.Items.{by_kind}
+use Rattle.row_parts.specs.Items.{by_kind}
 use Rattle.addr_rows.specs.Scenes.{setting_of, is_some}
 use Rattle.addr_rows.proofs.scene.Scene.push_second_kinds.Given as goal
 

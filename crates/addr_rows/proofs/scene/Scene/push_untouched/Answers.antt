@@ -1,8 +1,9 @@
 use Rattle.std.proofs.Common.{Bool, List, ◌≡◌, ◌==◌, ◌&&◌, ◌++◌, not, true, false, sym, ap, ◌∙◌}
 use Rattle.rv_mem.specs.declared.words.Seen.TheVariants.{Untouched}
 use Rattle.dom_set.specs.Elements.{is_in}
-use Rattle.addr_rows.specs.Rows.{End, when, is_of, ends_in}
-use Rattle.addr_rows.specs.Combinations.{at_second, are_indices_equal, root_frame}
+use Rattle.row_parts.specs.Rows.{End, when, is_of, ends_in}
+use Rattle.addr_rows.specs.Combinations.{at_second, root_frame}
+use Rattle.row_parts.specs.Gaps.{are_indices_equal}
 use Rattle.addr_rows.specs.Scenes.{setting_of, is_some}
 use Rattle.std.proofs.lemmas.List.{append-nil}
 use Rattle.addr_rows.proofs.Groups.{is_in_none}

@@ -1,7 +1,7 @@
 use Rattle.std.proofs.Common.{[], ◌∷◌, sym, ap, ◌∙◌}
 use Rattle.rv_mem.specs.Ram.{in_ram}
 use Rattle.sv_walk.specs.Translation.{Reached}
-use Rattle.addr_rows.specs.Rows.{Reaches}
+use Rattle.row_parts.specs.Rows.{Reaches}
 use Rattle.addr_rows.proofs.Leading.{seconds_alike}
 use Rattle.addr_rows.proofs.second_entries.SecondEntriesEntries.are_alike.Goals as goal
 

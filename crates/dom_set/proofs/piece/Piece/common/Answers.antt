@@ -2,6 +2,8 @@ use Rattle.std.proofs.Common.{◌∙◌}
 use Rattle.dom_set.specs.Patterns.{matches}
 use Rattle.dom_set.specs.Pieces.{in_span, in_piece}
 use Rattle.dom_set.proofs.Pieces.{both_are, both_none}
+use Rattle.dom_set.proofs.Pages.{before_other, after_other}
+use Rattle.dom_set.proofs.piece.Piece.common.Goals.{then-self-other-via-then-self-other, then-self-other-via-else-self-other+then-other-self}
 use Rattle.dom_set.proofs.piece.Piece.common.Goals as goal
 
 pub returns-in-Some-clause-held : goal.returns-in-Some-clause-held
@@ -12,3 +14,10 @@ returns-in-Some-clause-held c = λ x. c.clipped.ensures.held x ∙ rw (c.from.en
 pub returns-in-None-clause-held : goal.returns-in-None-clause-held
 unfolding in_piece
 returns-in-None-clause-held c = λ x. both_none (in_span c.args.self x) (matches c.args.self.pattern x) (in_span c.args.other x) (matches c.args.other.pattern x) (c.in-None.ensures x)
+
+pub returns-then-self-other-clause-held : goal.returns-then-self-other-clause-held
+unfolding in_piece
+returns-then-self-other-clause-held c = λ x. elim c.then-self-other.branch [
+  | then-self-other-via-then-self-other w ↦ before_other (matches c.args.self.pattern x) (matches c.args.other.pattern x) c.args.self.low c.args.self.high c.args.other.low c.args.other.high x w.if-self-other.true
+  | then-self-other-via-else-self-other+then-other-self w ↦ after_other (matches c.args.self.pattern x) (matches c.args.other.pattern x) c.args.self.low c.args.self.high c.args.other.low c.args.other.high x w.if-other-self.true
+]

@@ -2,6 +2,7 @@ use Rattle.std.proofs.Common.{arith}
 use Rattle.dom_set.specs.Patterns.{matches}
 use Rattle.dom_set.specs.Pieces.{in_piece}
 use Rattle.dom_set.proofs.Pieces.{test_from, none_before, none_from}
+use Rattle.dom_set.proofs.Pages.{past_end}
 use Rattle.dom_set.proofs.piece.Piece.first_from.Goals as goal
 
 pub returns-then-first-from : goal.returns-then-first-from
@@ -19,3 +20,7 @@ unfolding in_piece
 returns-else-first-from c = λ x le.
     none_from (matches c.args.self.pattern) c.args.self.low c.args.self.high c.args.from c.next_from-first.result x
     (λ y from before. c.next_from-first.ensures.first y (omega arith) before) (omega arith) le
+
+pub returns-then-self-from : goal.returns-then-self-from
+unfolding in_piece
+returns-then-self-from c = λ x le. past_end (matches c.args.self.pattern x) c.args.self.low c.args.self.high x (omega (arith, le, c.if-self-from.true))

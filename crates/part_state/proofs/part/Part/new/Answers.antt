@@ -1,9 +1,10 @@
 use Rattle.std.proofs.Common.{◌≡◌, ℕ, ◌*◌, List, length, map, sym, ap, ◌∙◌, subst, arith}
+use Rattle.std.specs.List.{AllByRecursion}
 use Rattle.std.proofs.lemmas.List.{length-map}
 use Rattle.rv_mem.specs.Ram.{in_ram}
 use Rattle.tpl_ast.specs.declared.template.HartDecl.{HartDecl}
 use Rattle.tpl_ast.specs.declared.template.Region.{Region}
-use Rattle.tpl_admit.specs.Starts.{is_in}
+use Rattle.tpl_ast.specs.States.{IsState, is_in}
 use Rattle.given_start.specs.Regions.{AreAligned}
 use Rattle.given_start.proofs.Aligned.{frames_aligned}
 use Rattle.part_machine.specs.Whole.{Bare, Whole, bare}
@@ -23,11 +24,16 @@ harts_of-requires-clause-count c =
     let same : length c.as_slice-2.result.now ≡ length c.args.t.now.harts = ap (λ (ds : List HartDecl). length ds) c.as_slice-2.ensures in
     omega (arith, few, same)
 
+pub harts_of-requires-clause-states : goal.harts_of-requires-clause-states
+harts_of-requires-clause-states c =
+    let t = c.args.t.now in
+    subst (λ (ds : List HartDecl). AllByRecursion (λ (d : HartDecl). IsState d.start) ds) (sym c.as_slice-2.ensures) (c.template_law.ensures t.text t c.requires.parses).states
+
 pub begun-requires-clause-words : goal.begun-requires-clause-words
 begun-requires-clause-words c =
     let t = c.args.t.now in
     let same : (n : ℕ) → in_ram c.in_ok-ram.ram n ≡ is_in t.ram (n * 4) = λ n. c.in_ok-ram.ensures n ∙ ap (λ (rs : List Region). is_in rs (n * 4)) c.as_slice.ensures in
-    subst (λ (es : List (ℕ × ℕ)). AreListed c.in_ok-ram.ram 0 es) (sym c.as_slice-3.ensures) (listed t.ram c.in_ok-ram.ram same 0 t.words c.requires.words)
+    subst (λ (es : List (ℕ × ℕ)). AreListed c.in_ok-ram.ram 0 es) (sym c.as_slice-3.ensures) (listed t.ram c.in_ok-ram.ram same 0 t.words (c.template_law.ensures t.text t c.requires.parses).words)
 
 pub begun-requires-clause-fit : goal.begun-requires-clause-fit
 begun-requires-clause-fit c = λ k l.
@@ -48,4 +54,4 @@ returns-clause-now c =
     let are : AreHartsOf t.harts harts = subst (λ (ds : List HartDecl). AreHartsOf ds harts) c.as_slice-2.ensures c.in_ok-harts.ensures in
     let counted : IsBegunFrom harts c.in_ok-ram.ram (length t.names) c.as_slice-3.result.now w = subst (λ (n : ℕ). IsBegunFrom harts c.in_ok-ram.ram n c.as_slice-3.result.now w) c.len.ensures c.in_ok-inner.ensures.now in
     let from : IsBegunFrom harts c.in_ok-ram.ram (length t.names) t.words w = subst (λ (es : List (ℕ × ℕ)). IsBegunFrom harts c.in_ok-ram.ram (length t.names) es w) c.as_slice-3.ensures counted in
-    subst (IsBegun t) (sym (here_is c.in_ok-inner.inner c.in_ok-inner.ensures.kept)) (begun t harts c.in_ok-ram.ram w same are c.requires.words from)
+    subst (IsBegun t) (sym (here_is c.in_ok-inner.inner c.in_ok-inner.ensures.kept)) (begun t harts c.in_ok-ram.ram w same are (c.template_law.ensures t.text t c.requires.parses).words from)

@@ -1,5 +1,0 @@
-use Rattle.std.proofs.Common.{length}
-use Rattle.part_tests.proofs.begin.+are_states.Given as goal
-
-abbrev pub decreases-are_states : goal.decreases-are_states
-decreases-are_states l = length l.harts.now

@@ -1,0 +1,39 @@
+use Rattle.std.proofs.Common.{◌≡◌, ℕ, ◌+◌, ◌<◌, List, length, ap, ◌∙◌, subst, arith}
+use Rattle.rv_hart.specs.declared.record.Record.{Record}
+use Rattle.foot_map.specs.Races.{IsRaceFree, IsFootprint}
+use Rattle.tpl_admit.specs.Starts.{trace_of}
+use Rattle.tpl_admit.specs.Races.{footprint_of}
+use Rattle.tpl_admit.specs.Failures.{did_before}
+use Rattle.replay_check.specs.Racing.{with_accesses, RacesAt}
+use Rattle.replay_check.proofs.Behind.{all_before, whole_before, trace_is, from_races}
+use Rattle.replay_check.proofs.racing.first_walked.Goals as goal
+
+pub returns-in-Some-clause-some : goal.returns-in-Some-clause-some
+returns-in-Some-clause-some c = λ hart step told.
+    let cert = c.args.cert.now in
+    let k : ℕ = c.loop-k.k in
+    let within : k < length c.as_slice.result.now = omega (arith, c.loop-k-test.true, c.len-k-end.ensures, ap length c.as_slice.ensures) in
+    let records : c.as_slice-in-loop-k.result.now ≡ trace_of cert k = c.as_slice-in-loop-k.ensures ∙ trace_is cert c.as_slice.result.now k c.index-as_slice-k.result c.as_slice.ensures within c.index-as_slice-k.is in
+    let at : RacesAt (did_before cert k 0) k (trace_of cert k) c.in-Some.step =
+    subst (λ (rs : List Record). RacesAt (did_before cert k 0) k rs c.in-Some.step) records
+    (c.in_ok-step.ensures.races c.in-Some.step c.in-Some.is (did_before cert k 0) c.loop-k.invariant.footprint c.loop-k.invariant.free) in
+    from_races cert k c.in-Some.step hart step told (omega (arith, c.loop-k-test.true, c.len-k-end.ensures, c.requires.well_formed.traces_count)) at
+
+pub loop-k-preserved : goal.loop-k-preserved
+loop-k-preserved c =
+    let cert = c.args.cert.now in
+    let k : ℕ = c.loop-k.k in
+    let within : k < length c.as_slice.result.now = omega (arith, c.loop-k-test.true, c.len-k-end.ensures, ap length c.as_slice.ensures) in
+    let records : c.as_slice-in-loop-k.result.now ≡ trace_of cert k = c.as_slice-in-loop-k.ensures ∙ trace_is cert c.as_slice.result.now k c.index-as_slice-k.result c.as_slice.ensures within c.index-as_slice-k.is in
+    let next : with_accesses (did_before cert k 0) k (footprint_of c.as_slice-in-loop-k.result.now) ≡ did_before cert (k + 1) 0 =
+    ap (λ (rs : List Record). with_accesses (did_before cert k 0) k (footprint_of rs)) records ∙ all_before cert k in
+    record {
+      footprint = subst (IsFootprint c.race_in.new.feet) next (c.in_ok-step.ensures.footprint c.in_default.is (did_before cert k 0) c.loop-k.invariant.footprint);
+      free = subst IsRaceFree next (c.in_ok-step.ensures.free c.in_default.is (did_before cert k 0) c.loop-k.invariant.footprint c.loop-k.invariant.free);
+    }
+
+pub returns-clause-none : goal.returns-clause-none
+returns-clause-none c = λ none.
+    let cert = c.args.cert.now in
+    let end : c.loop-k.k ≡ length cert.traces = omega (arith, c.loop-k-test.false, c.loop-k.auto.k-end, c.len-k-end.ensures) in
+    subst IsRaceFree (ap (λ (n : ℕ). did_before cert n 0) end ∙ whole_before cert c.requires.well_formed.traces_count) c.loop-k.invariant.free

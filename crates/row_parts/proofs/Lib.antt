@@ -1,0 +1,12 @@
+pub mod Members
+pub mod Cuts
+pub mod EndLists
+pub mod Regions
+pub mod TableParts
+pub mod Lists
+pub mod SeenOnce
+pub mod Reaching
+pub mod Between
+pub mod Items
+pub mod Sharing
+pub mod OnePage

@@ -1,0 +1,7 @@
+use Rattle.std.proofs.Common.{◌≡◌, ℕ, ◌||◌, drop}
+use Rattle.dom_set.specs.Elements.{is_in}
+use Rattle.row_parts.specs.Forms.{is_superpage_in}
+use Rattle.row_parts.proofs.forms.push_superpages.Given as goal
+
+abbrev pub invariant-loop-frame : goal.invariant-loop-frame
+invariant-loop-frame l = (w : ℕ) → (is_in l.values.items w || is_superpage_in (drop l.frame-index l.pool) l.flags w) ≡ (is_in l.initial.values.items w || is_superpage_in l.pool l.flags w)
