@@ -7,6 +7,7 @@ pub mod Times
 pub mod Powers
 pub mod Merging
 pub mod Sets
+pub mod Tells
 pub mod Sameness
 pub mod Halving
 pub mod Masks

@@ -1,5 +1,5 @@
 -- What pieces that are apart say of the list of their numbers.
-use Rattle.std.proofs.Common.{◌≡◌, ℕ, suc, ◌+◌, ◌-◌, ◌*◌, ◌%◌, ◌^◌, ◌<◌, ◌≤◌, ◌↔◌, inl, inr, Bool, true, false, cond, ◌&&◌, ◌||◌, not, ltb, leb, List, [], ◌∷◌, length, filter, Option, Some, None, Contains, All, IsNone, refl, sym, ap, ◌∙◌, arith}
+use Rattle.std.proofs.Common.{◌≡◌, ℕ, suc, ◌+◌, ◌-◌, ◌*◌, ◌%◌, ◌^◌, ◌<◌, ◌≤◌, ◌↔◌, inl, inr, Bool, true, false, cond, ◌&&◌, ◌||◌, not, eqb, ltb, leb, List, [], ◌∷◌, length, filter, Option, Some, None, Contains, All, IsNone, refl, sym, ap, ◌∙◌, arith}
 use Rattle.std.specs.List.{find, slice_get}
 use Rattle.std.specs.List.Sorted.{IsStrictlyIncreasing}
 use Rattle.std.specs.Option.{option_or}
@@ -232,3 +232,21 @@ own_elements xs up all = same_members xs (elements_of (is_in xs)) (sorted_from_s
 pub nothing_passes : (xs : List ℕ) → filter (λ x. false) xs ≡ []
 nothing_passes [] = refl
 nothing_passes (x ∷ xs) = nothing_passes xs
+
+some_either : (h : Bool) (m n : ℕ) → h ≡ ltb 0 m → ltb 0 (cond h m n) ≡ (h || ltb 0 n)
+some_either true m n is = sym is
+some_either false m n is = refl
+
+pub either_is : (ps qs out : List Piece) → ((x : ℕ) → times out x ≡ cond (holds ps x) (times ps x) (times qs x)) →
+    elements_of (holds out) ≡ elements_of (λ x. is_in (elements_of (holds ps)) x || is_in (elements_of (holds qs)) x)
+either_is ps qs out h = elements_same (holds out) (λ x. is_in (elements_of (holds ps)) x || is_in (elements_of (holds qs)) x) (λ x lt.
+    holds_is out x ∙ ap (ltb 0) (h x) ∙ some_either (holds ps x) (times ps x) (times qs x) (holds_is ps x)
+    ∙ (λ i. sym (is_in-elements (holds ps) x lt) i || (sym (holds_is qs x) ∙ sym (is_in-elements (holds qs) x lt)) i))
+
+ranged : (b : Bool) (x : ℕ) → b ≡ true → x < 2 ^ 32 → (b && ((leb 0 x && leb x (2 ^ 32 - 1)) || false)) ≡ true
+ranged true x is lt = (let low : leb 0 x ≡ true = le-leb 0 x (omega arith) in let high : leb x (2 ^ 32 - 1) ≡ true = le-leb x (2 ^ 32 - 1) (omega (arith, lt)) in rw (low, high) refl)
+ranged false x is lt = absurd (cc is)
+
+-- each word is a multiple of one in the range of all words
+pub in_all : (x : ℕ) → x < 2 ^ 32 → (eqb (x % 1) 0 && ((leb 0 x && leb x 4294967295) || false)) ≡ true
+in_all x lt = ranged (eqb (x % 1) 0) x (let one : x % 1 ≡ 0 = omega arith in rw one refl) lt

@@ -154,3 +154,18 @@ times_past (p ∷ ps) x le = (λ i. one (past_last p x le i) + times_past ps x l
 
 pub apart_below : (ps : List Piece) → ((x : ℕ) → x < 2 ^ 32 → times ps x ≤ 1) → IsApart ps
 apart_below ps h x = elim (cases_lt x (2 ^ 32)) [ inl lt ↦ h x lt | inr past ↦ omega (arith, times_past ps x past) ]
+
+either_is : (n m : ℕ) (h : Bool) → h ≡ ltb 0 m → cond h 0 n + m ≡ cond h m n
+either_is n m true is = omega arith
+either_is n m false is = elim (cases_lt 0 m) [
+  | inl some ↦ absurd (cc (is, lt-ltb 0 m some))
+  | inr none ↦ omega (arith, none)
+]
+
+-- the numbers of the pieces, and others
+pub either_once : (ps : List Piece) (n x : ℕ) → cond (holds ps x) 0 n + times ps x ≡ cond (holds ps x) (times ps x) n
+either_once ps n x = either_is n (times ps x) (holds ps x) (holds_is ps x)
+
+pub either_apart : (h : Bool) (m n : ℕ) → m ≤ 1 → n ≤ 1 → cond h m n ≤ 1
+either_apart true m n lm ln = lm
+either_apart false m n lm ln = ln

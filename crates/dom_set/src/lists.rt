@@ -1,5 +1,5 @@
 // Lists of pieces.
-ghost use Rattle.std.specs.Prelude.{◌≡◌, ℕ, ◌+◌, ◌-◌, ◌*◌, ◌%◌, ◌^◌, ◌<◌, ◌≤◌, ◌↔◌, ◌&&◌, not, IsTrue, nat_lt, nat_le, if◌then◌else◌, IfOk, OnOk};
+ghost use Rattle.std.specs.Prelude.{◌≡◌, ℕ, ◌+◌, ◌-◌, ◌*◌, ◌%◌, ◌^◌, ◌<◌, ◌≤◌, ◌↔◌, ◌&&◌, not, true, false, bit_and, IfSome, IsTrue, nat_lt, nat_le, if◌then◌else◌, IfOk, OnOk};
 ghost use Rattle.dom_set.specs.Counting.{one, total};
 ghost use Rattle.dom_set.specs.Elements.{is_matching};
 ghost use Rattle.dom_set.specs.Patterns.{matches};
@@ -106,6 +106,22 @@ pub fn pages_end(pieces: &[Piece], page: u32) -> u32
         end = end.max(p.pages_end(page));
     }
     end
+}
+
+/// The bits that all their numbers have under a mask, where their patterns tell that these are the same.
+pub fn bits_under(pieces: &[Piece], mask: u32) -> Option<u32>
+    ensures { IfSome result (λ bits. (x : ℕ) → holds pieces.now x ≡ true → bit_and x mask ≡ bits) }
+{
+    if pieces.is_empty() {
+        return None;
+    }
+    let bits = pieces[0].pattern.bits & mask;
+    for p in pieces {
+        if !p.tells(mask, bits) {
+            return None;
+        }
+    }
+    Some(bits)
 }
 
 /// Appends a piece, if there is one.
@@ -389,16 +405,51 @@ pub fn are_same(pieces: &[Piece], others: &[Piece]) -> bool
     size == count_below(others, END) && size == count_common(pieces, others)
 }
 
-/// The numbers of the list and those of the piece, if there is one, each once.
-fn with(alloc: Global, pieces: &[Piece], piece: Option<Piece>) -> Result<Vec<Piece>, OutOfMemory>
-    ensures { IfOk result (λ v. (x : ℕ) →
-        times v.items x ≡ (if is_held piece x then 1 else times pieces.now x)) }
+/// Whether a piece of the list has a number of the piece.
+fn meets(pieces: &[Piece], p: Piece) -> bool
+    ensures { result ≡ false → (x : ℕ) → in_piece p x ≡ true → times pieces.now x ≡ 0 }
+{
+    for q in pieces {
+        if p.common(*q).is_some() {
+            return true;
+        }
+    }
+    false
+}
+
+/// Takes from the list what the piece holds, where that is anything.
+fn make_room(pieces: &mut Vec<Piece>, alloc: Global, p: Piece) -> Result<(), OutOfMemory>
+    ensures { OnOk result ((x : ℕ) →
+        times pieces.new.items x ≡ (if in_piece p x then 0 else times pieces.old.items x)) }
+{
+    if meets(pieces, p) {
+        *pieces = without(alloc, pieces, p)?;
+        return Ok(());
+    }
+    Ok(())
+}
+
+/// Adds the numbers of the piece, if there is one, so that each stands there once.
+fn add(pieces: &mut Vec<Piece>, alloc: Global, piece: Option<Piece>) -> Result<(), OutOfMemory>
+    ensures { OnOk result ((x : ℕ) →
+        times pieces.new.items x ≡ (if is_held piece x then 1 else times pieces.old.items x)) }
 {
     let Some(p) = piece else {
-        return Ok(Vec::from_slice(alloc, pieces)?);
+        return Ok(());
     };
-    let mut out = without(alloc, pieces, p)?;
-    out.push(p)?;
+    make_room(pieces, alloc, p)?;
+    pieces.push(p)?;
+    Ok(())
+}
+
+/// The numbers of the first list, and those of the second one that it lacks.
+pub fn either(alloc: Global, pieces: &[Piece], others: &[Piece]) -> Result<Vec<Piece>, OutOfMemory>
+    ensures { IfOk result (λ v. (x : ℕ) →
+        times v.items x ≡ (if holds pieces.now x then times pieces.now x else times others.now x)) }
+{
+    let mut out = minus(alloc, others, pieces)?;
+    push_all(&mut out, pieces)?;
+    out.sort_unstable_by_key(|p| p.low);
     Ok(out)
 }
 
@@ -410,7 +461,7 @@ pub fn matching(alloc: Global, patterns: &[(u32, u32)]) -> Result<Vec<Piece>, Ou
 {
     let mut out = Vec::new(alloc);
     for pattern in patterns {
-        out = with(alloc, &out, Piece::matching(pattern.0, pattern.1))?;
+        add(&mut out, alloc, Piece::matching(pattern.0, pattern.1))?;
     }
     Ok(out)
 }

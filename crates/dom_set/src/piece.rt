@@ -15,7 +15,7 @@ pub struct Piece {
 }
 
 impl Piece {
-    ghost use Rattle.std.specs.Prelude.{◌≡◌, ℕ, ◌+◌, ◌-◌, ◌^◌, ◌<◌, ◌≤◌, ◌&&◌, ◌==◌, not, nat_lt, nat_le, bit_and, IfSome};
+    ghost use Rattle.std.specs.Prelude.{◌≡◌, ℕ, ◌+◌, ◌-◌, ◌^◌, ◌<◌, ◌≤◌, ◌&&◌, ◌==◌, true, not, nat_lt, nat_le, bit_and, IfSome};
     ghost use Rattle.dom_set.specs.Counting.{one, total};
     ghost use Rattle.dom_set.specs.Patterns.{matches, matches_below, IsStep};
     ghost use Rattle.dom_set.specs.Pieces.{in_span, in_piece, is_held, HasPage, HoldsSome, IsFirstFrom, IsLast};
@@ -39,6 +39,13 @@ impl Piece {
                 bits: bits & below,
             },
         })
+    }
+
+    /// Whether its pattern tells that all its numbers have these bits under the mask.
+    pub fn tells(self, mask: u32, bits: u32) -> bool
+        ensures { result ≡ true → (x : ℕ) → in_piece self x ≡ true → bit_and x mask ≡ bits }
+    {
+        self.pattern.mask & mask == mask && self.pattern.bits & mask == bits
     }
 
     /// Whether it holds the number.

@@ -1,5 +1,5 @@
 // Sets of 32-bit numbers.
-ghost use Rattle.std.specs.Prelude.{◌≡◌, ℕ, ◌+◌, ◌-◌, ◌^◌, ◌%◌, ◌<◌, ◌≤◌, ◌↔◌, ◌==◌, ◌&&◌, [], length, filter, not, nat_lt, nat_le, Some, slice_get, ◌≢◌, ◌∷◌, MatchOption, IfOk, IsTrue, IsNone, All, Contains};
+ghost use Rattle.std.specs.Prelude.{◌≡◌, ℕ, ◌+◌, ◌-◌, ◌^◌, ◌%◌, ◌<◌, ◌≤◌, ◌↔◌, ◌==◌, ◌&&◌, ◌||◌, true, [], length, filter, not, nat_lt, nat_le, Some, slice_get, ◌≢◌, ◌∷◌, MatchOption, IfOk, IfSome, IsTrue, IsNone, bit_and, All, Contains};
 ghost use Rattle.std.specs.List.Sorted.{IsStrictlyIncreasing};
 ghost use Rattle.std.specs.Int.{IsPowerOfTwo};
 ghost use Rattle.dom_set.specs.Pieces.{HasPage};
@@ -66,6 +66,14 @@ impl Set {
         ensures { IfOk result (λ s. s ≡ elements_of (is_matching patterns.now)) }
     {
         let pieces = lists::matching(alloc, patterns)?;
+        Ok(Set { pieces })
+    }
+
+    /// Every word.
+    pub fn all(alloc: Global) -> Result<Set, OutOfMemory>
+        ensures { IfOk result (λ s. s ≡ elements_of (λ x. true)) }
+    {
+        let pieces = pairs::pieces_of(alloc, &[(0, u32::MAX)], 1)?;
         Ok(Set { pieces })
     }
 
@@ -152,6 +160,14 @@ impl Set {
         self.only().is_some()
     }
 
+    /// The bits that all elements have under the mask, where they are known to be the same. They may be without being
+    /// known to.
+    pub fn bits_under(&self, mask: u32) -> Option<u32>
+        ensures { IfSome result (λ bits. (x : ℕ) → IsTrue (is_in self.now x) → bit_and x mask ≡ bits) }
+    {
+        lists::bits_under(&self.pieces, mask)
+    }
+
     /// A page of 4,096 numbers from the given one on, so that each page before it, from the given one on, has an
     /// element.
     pub fn pages_end(&self, page: u32) -> u32
@@ -185,6 +201,14 @@ impl Set {
         ensures { IfOk result (λ s. s ≡ filter (λ x. not (is_in other.now x)) self.now) }
     {
         let pieces = lists::minus(alloc, &self.pieces, &other.pieces)?;
+        Ok(Set { pieces })
+    }
+
+    /// The elements of either set.
+    pub fn or(&self, alloc: Global, other: &Set) -> Result<Set, OutOfMemory>
+        ensures { IfOk result (λ s. s ≡ elements_of (λ x. is_in self.now x || is_in other.now x)) }
+    {
+        let pieces = lists::either(alloc, &self.pieces, &other.pieces)?;
         Ok(Set { pieces })
     }
 

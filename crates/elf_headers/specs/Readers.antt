@@ -8,6 +8,7 @@ use Rattle.elf_headers.specs.declared.reading.Head.{Head}
 use Rattle.elf_headers.specs.declared.reading.Table.{Table}
 use Rattle.elf_headers.specs.Headers.{e_ident, headers_end}
 use Rattle.elf_headers.specs.Checks.{is_head, is_table}
+use Rattle.tpl_ast.specs.Limits.{file_limits}
 
 -- ---- the ELF header
 
@@ -27,7 +28,7 @@ unfoldable pub header_at : List ℕ → Option (Head × List ℕ)
 header_at = where_at is_head (as_at head_of (behind e_ident (both kind_at places_at)))
 
 unfoldable pub sized_header_at : List ℕ → Option (Head × List ℕ)
-sized_header_at bytes = if nat_lt 8388608 (length bytes) then None else header_at bytes
+sized_header_at bytes = if nat_lt file_limits.size (length bytes) then None else header_at bytes
 
 -- ---- the program headers
 

@@ -5,6 +5,7 @@ ghost use Rattle.elf_headers.specs.Headers.{e_ident};
 ghost use Rattle.elf_headers.specs.Runs.{total_words};
 ghost use Rattle.elf_headers.specs.Checks.{are_runs};
 ghost use Rattle.elf_headers.specs.Readers.{kind_at, counts_at, places_at, header_at, sized_header_at, twice_at, segment_at, note_segment_at, load_at, next_offset, table_at};
+ghost use Rattle.tpl_ast.specs.Limits.{file_limits};
 
 use crate::checks::is_table;
 use crate::elf::{
@@ -14,10 +15,8 @@ use crate::elf::{
 use crate::runs::Run;
 use byte_format::{PieceError, after, after_half, after_word, half_of, word_of};
 use std::alloc::Global;
-use tpl_ast::Items;
+use tpl_ast::{Items, MAX_FILE};
 
-/// The longest file, in bytes.
-const MAX_FILE: usize = 8_388_608;
 /// The most program headers.
 const MAX_HEADERS: u16 = 65_000;
 
@@ -201,7 +200,7 @@ fn loads_of(
 pub fn table_of(alloc: Global, bytes: &[u8], phnum: u16) -> Result<(Table, &[u8]), PieceError>
     requires { 1 ≤ phnum }
     ensures gives { Gives (λ x. (x.0, x.1.now)) result (table_at phnum bytes.now) }
-    ensures small { IfOk result (λ x. total_words x.0.runs ≤ 60000) }
+    ensures small { IfOk result (λ x. total_words x.0.runs ≤ file_limits.words) }
     ensures runs { IfOk result (λ x. IsTrue (are_runs 0 x.0.runs)) }
 {
     let offset = u32::from(EHDR_SIZE) + u32::from(PHDR_SIZE) * u32::from(phnum);

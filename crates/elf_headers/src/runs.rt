@@ -1,6 +1,7 @@
 // Runs of words that lie one behind the other.
 ghost use Rattle.std.specs.Prelude.{◌≡◌, ◌∷◌, ◌++◌, ◌+◌, ◌-◌, ◌^◌, ◌<◌, ◌≤◌, ℕ, List, OnOk, IfOk, length, map};
 ghost use Rattle.elf_headers.specs.Runs.{address_of, runs_of, runs_from};
+ghost use Rattle.tpl_ast.specs.Limits.{file_limits};
 
 use std::alloc::{AllocError, Global};
 
@@ -31,9 +32,9 @@ fn next_run(runs: &mut Vec<Run>, current: Run, addr: u32) -> Result<Run, AllocEr
 
 /// The longest runs of the words, in their order.
 pub fn list_runs(alloc: Global, words: &[(u32, u32)]) -> Result<Vec<Run>, AllocError>
-    requires { length words.now ≤ 60000 }
+    requires { length words.now ≤ file_limits.words }
     ensures runs { IfOk result (λ v. v.items ≡ runs_of (map address_of words.now)) }
-    ensures count { IfOk result (λ v. length v.items ≤ 60000) }
+    ensures count { IfOk result (λ v. length v.items ≤ file_limits.words) }
 {
     let mut runs = Vec::new(alloc);
     match words {

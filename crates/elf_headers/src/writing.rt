@@ -1,6 +1,7 @@
 // The ELF header and the program headers.
 ghost use Rattle.std.specs.Prelude.{◌≡◌, ◌++◌, ◌^◌, ◌<◌, ◌≤◌, OnOk, length};
 ghost use Rattle.elf_headers.specs.Headers.{e_ident, elf_kind, elf_places, elf_counts, elf_header, segment_place, segment_size, program_header, load_headers, all_headers};
+ghost use Rattle.tpl_ast.specs.Limits.{file_limits};
 
 use crate::elf::{
     ALIGN, E_IDENT, EHDR_SIZE, EM_RISCV, ET_EXEC, EV_CURRENT, PF_R, PF_W, PF_X, PHDR_SIZE, PT_LOAD,
@@ -100,7 +101,7 @@ fn put_program_header(out: &mut Vec<u8>, s: &Segment) -> Result<(), AllocError>
 #[tactic(auto, unfolding(crate::specs::Headers::load_headers))]
 fn put_load_headers(out: &mut Vec<u8>, start: usize, runs: &[Run]) -> Result<(), AllocError>
     requires start { start < 2 ^ 32 }
-    requires runs { length runs.now ≤ 60000 }
+    requires runs { length runs.now ≤ file_limits.words }
     ensures { OnOk result (out.new.items ≡ out.old.items ++ load_headers start runs.now) }
 {
     let mut offset = start;
@@ -127,8 +128,8 @@ pub fn put_headers(
     runs: &[Run],
     notes: usize,
 ) -> Result<(), AllocError>
-    requires runs { length runs.now ≤ 60000 }
-    requires notes { notes ≤ 8388608 }
+    requires runs { length runs.now ≤ file_limits.words }
+    requires notes { notes ≤ file_limits.size }
     ensures { OnOk result (out.new.items ≡ out.old.items ++ all_headers entry runs.now notes) }
 {
     let phnum = 1 + runs.len();

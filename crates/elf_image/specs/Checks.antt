@@ -19,10 +19,11 @@ use Rattle.elf_headers.specs.declared.reading.Head.{Head}
 use Rattle.elf_headers.specs.declared.reading.Table.{Table}
 use Rattle.elf_headers.specs.Runs.{total_words}
 use Rattle.elf_image.specs.Notes.{Notes}
+use Rattle.tpl_ast.specs.Limits.{file_limits}
 
 -- one to four harts
 abbrev pub are_harts : List HartState → Bool
-are_harts states = nat_le 1 (length states) && nat_le (length states) 4
+are_harts states = nat_le 1 (length states) && nat_le (length states) file_limits.harts
 
 -- the index of each name is above those before it
 abbrev pub are_values : ℕ → List (ℕ × ℕ) → Bool
@@ -31,7 +32,7 @@ are_values low (e ∷ es) = if nat_lt e.0 low then false else are_values (e.0 + 
 
 -- a hart that exists, one of its steps and one of the step's atoms
 unfoldable pub is_drop : ℕ → Dropped → Bool
-is_drop harts d = nat_lt d.hart harts && (nat_lt d.step 8192 && nat_lt d.atom 32)
+is_drop harts d = nat_lt d.hart harts && (nat_lt d.step file_limits.steps && nat_lt d.atom file_limits.atoms)
 
 -- dropped biases of so many harts, at places that ascend from a number on
 abbrev pub are_dropped : ℕ → ℕ → List Dropped → Bool
@@ -40,10 +41,10 @@ are_dropped harts low (d ∷ ds) = if nat_lt (drop_place d) low then false else 
 
 -- choices, values of names and dropped biases
 unfoldable pub is_rest : ℕ → List ℕ × (List (ℕ × ℕ) × List Dropped) → Bool
-is_rest harts t = nat_le (length t.0) 8192 && (are_values 0 t.1.0 && (nat_le (length t.1.1) 262144 && are_dropped harts 0 t.1.1))
+is_rest harts t = nat_le (length t.0) file_limits.choices && (are_values 0 t.1.0 && (nat_le (length t.1.1) file_limits.dropped && are_dropped harts 0 t.1.1))
 
 unfoldable pub are_traces : List (List Record) → Bool
-are_traces traces = nat_le (sum_by (λ t. length t) traces) 8192
+are_traces traces = nat_le (sum_by (λ t. length t) traces) file_limits.records
 
 -- all words lie in memory
 unfoldable pub are_in : List Region → List (ℕ × ℕ) → Bool

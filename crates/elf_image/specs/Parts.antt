@@ -16,13 +16,14 @@ use Rattle.elf_headers.specs.Runs.{address_of, addresses_of, total_words}
 use Rattle.elf_headers.specs.Headers.{elf_header, program_headers, headers_end}
 use Rattle.elf_image.specs.Notes.{traces_desc, notes_spelling, Notes, list_notes}
 use Rattle.elf_image.specs.File.{entry_of, load_spelling}
+use Rattle.tpl_ast.specs.Limits.{file_limits}
 
 -- ---- each part, in front of what stands behind it
 
 -- part 1: an ELF header, in a file that is not too long
 pub record IsHead (bytes : List ℕ) (h : Head) (rest : List ℕ) : Type 0 where
   pub text : bytes ≡ elf_header h.entry h.phnum ++ rest
-  pub size : length bytes ≤ 8388608
+  pub size : length bytes ≤ file_limits.size
   pub entry : IsWord h.entry
   pub some : 1 ≤ h.phnum
   pub most : h.phnum ≤ 65000
@@ -43,7 +44,7 @@ pub record IsTable (phnum : ℕ) (bytes : List ℕ) (t : Table) (rest : List ℕ
   pub count : 1 + length t.runs ≡ phnum
   pub notes : IsWord t.notes
   pub runs : AreRuns 0 t.runs
-  pub total : total_words t.runs ≤ 60000
+  pub total : total_words t.runs ≤ file_limits.words
   pub offsets : AreOffsets (headers_end phnum + t.notes) t.runs
 
 -- words as values of names from an index on, by ascending index
@@ -56,16 +57,16 @@ pub record AreNotes (t : Table) (bytes : List ℕ) (n : Notes) (rest : List ℕ)
   pub text : bytes ≡ notes_spelling (list_notes n) ++ rest
   pub size : length (notes_spelling (list_notes n)) ≡ t.notes
   pub some_harts : 1 ≤ length n.start
-  pub harts : length n.start ≤ 4
+  pub harts : length n.start ≤ file_limits.harts
   pub start : AllByRecursion IsState n.start
   pub finals_count : length n.finals ≡ length n.start
   pub finals : AllByRecursion IsState n.finals
   pub last_count : length n.last ≡ total_words t.runs
   pub last : AllByRecursion IsWord n.last
-  pub choices_count : length n.choices ≤ 8192
+  pub choices_count : length n.choices ≤ file_limits.choices
   pub choices : AllByRecursion IsWord n.choices
   pub names : AreValues 0 n.names
-  pub dropped_count : length n.dropped ≤ 262144
+  pub dropped_count : length n.dropped ≤ file_limits.dropped
   pub dropped : AreDropped (length n.start) 0 n.dropped
 
 -- part 4: the records of every hart
@@ -73,7 +74,7 @@ pub record AreRecords (n : Notes) (traces : List (List Record)) : Type 0 where
   pub text : n.traces ≡ traces_desc traces
   pub count : length traces ≡ length n.start
   pub records : AllByRecursion (λ t. AllByRecursion IsRecord t) traces
-  pub steps : sum_by (λ t. length t) traces ≤ 8192
+  pub steps : sum_by (λ t. length t) traces ≤ file_limits.records
 
 -- part 5: the template, with as many harts as start, and with the names of the values
 pub record IsTemplate (n : Notes) (t : Template) : Type 0 where

@@ -1,36 +1,21 @@
 -- What the targets of jumps say of variables.
-use Rattle.std.proofs.Common.{◌≡◌, ◌==◌, ℕ, ◌+◌, ◌-◌, ◌%◌, ◌<◌, ◌^◌, ◌&&◌, ◌||◌, not, Bool, true, false, List, [], ◌∷◌, IsTrue, refl, ap, ◌∙◌, subst, arith, eq-eqb}
+use Rattle.std.proofs.Common.{◌≡◌, ◌==◌, ℕ, ◌+◌, ◌-◌, ◌%◌, ◌<◌, ◌^◌, ◌&&◌, ◌||◌, Bool, true, List, [], ◌∷◌, IsTrue, sym, ap, ◌∙◌, subst, arith, eq-eqb}
 use Rattle.std.specs.List.{filter}
 use Rattle.dom_set.specs.Elements.{elements_of, is_in, is_within}
 use Rattle.dom_set.specs.Laws.{ElementsPass, IsInTests}
 use Rattle.fd_prob.specs.declared.problem.Assignment.{Assignment}
 use Rattle.fd_prob.specs.declared.slot.Slot.TheVariants as slots
 use Rattle.fd_prob.specs.Relations.{value_of}
-use Rattle.set_sums.specs.Spans.{IsOfRanges}
 use Rattle.fd_narrow.specs.Steps.{Leaves}
 use Rattle.fd_narrow.specs.Targets.{HasEven, HasOddToo}
 use Rattle.fd_narrow.proofs.Compositions.{followed, weakened}
 use Rattle.set_sums.proofs.Members.{is_in-elements_of, is_in-filter, joined}
 use Rattle.set_sums.proofs.Spans.{pushed_has}
 
--- what is outside both is in neither
-gone : (a b c : Bool) → IsTrue (a || b) → (not (not b && (not a && c)) && true) ≡ true
-gone true true c h = refl
-gone true false c h = refl
-gone false true c h = refl
-gone false false c h = absurd (cc h)
-
-all_words : (all : List ℕ) → IsOfRanges ((0, 2 ^ 32 - 1) ∷ []) all → (v : ℕ) → v < 2 ^ 32 → is_in all v ≡ true
-all_words all is v small = is.all v small (pushed_has [] (0, 2 ^ 32 - 1) v (omega arith) (omega arith))
-
-pub either_has : (all first second others neither made : List ℕ) → IsOfRanges ((0, 2 ^ 32 - 1) ∷ []) all → others ≡ filter (λ v. not (is_in first v)) all → neither ≡ filter (λ v. not (is_in second v)) others → made ≡ filter (λ v. not (is_in neither v)) all → (v : ℕ) → v < 2 ^ 32 → IsTrue (is_in first v || is_in second v) → IsTrue (is_in made v)
-either_has all first second others neither made is is_others is_neither is_made v small h =
-    let at_others : is_in others v ≡ (not (is_in first v) && is_in all v) = ap (λ (d : List ℕ). is_in d v) is_others ∙ is_in-filter (λ w. not (is_in first w)) all v in
-    let at_neither : is_in neither v ≡ (not (is_in second v) && is_in others v) = ap (λ (d : List ℕ). is_in d v) is_neither ∙ is_in-filter (λ w. not (is_in second w)) others v in
-    let at_made : is_in made v ≡ (not (is_in neither v) && is_in all v) = ap (λ (d : List ℕ). is_in d v) is_made ∙ is_in-filter (λ w. not (is_in neither w)) all v in
-    at_made ∙ ap (λ (b : Bool). not b && is_in all v) (at_neither ∙ ap (λ (b : Bool). not (is_in second v) && b) at_others) ∙ ap (λ (b : Bool). not (not (is_in second v) && (not (is_in first v) && is_in all v)) && b) (all_words all is v small) ∙ gone (is_in first v) (is_in second v) (is_in all v) h
-
 module _ (pass : ElementsPass) (tests : IsInTests) where
+  pub either_has : (first second made : List ℕ) → made ≡ elements_of (λ x. is_in first x || is_in second x) → (v : ℕ) → v < 2 ^ 32 → IsTrue (is_in first v || is_in second v) → IsTrue (is_in made v)
+  either_has first second made is v small h = subst (λ (b : Bool). IsTrue b) (sym (ap (λ (d : List ℕ). is_in d v) is ∙ is_in-elements_of pass tests (λ x. is_in first x || is_in second x) v small)) h
+
   pub even_has : (set evens even : List ℕ) → evens ≡ elements_of (λ x. x % 2 == 0 && is_within ((0, 2 ^ 32 - 1) ∷ []) x) → even ≡ filter (is_in evens) set → HasEven set even
   even_has set evens even is_evens is v small zeroth h =
       let here : is_in evens v ≡ true = ap (λ (d : List ℕ). is_in d v) is_evens ∙ is_in-elements_of pass tests (λ x. x % 2 == 0 && is_within ((0, 2 ^ 32 - 1) ∷ []) x) v small ∙ joined (v % 2 == 0) (is_within ((0, 2 ^ 32 - 1) ∷ []) v) (eq-eqb (v % 2) 0 zeroth) (pushed_has [] (0, 2 ^ 32 - 1) v (omega arith) (omega arith)) in

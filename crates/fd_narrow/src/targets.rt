@@ -10,17 +10,15 @@ use crate::domains::Domains;
 use dom_set::{OutOfMemory, Set, set_laws};
 use fd_prob::Slot;
 use rv_isa::Op;
-use set_sums::{differences, shifted, words_of};
+use set_sums::{differences, shifted};
 use std::alloc::Global;
 
 /// What is in one of the sets.
 fn either(alloc: Global, first: &Set, second: &Set) -> Result<Set, OutOfMemory>
     ensures { IfOk result (λ set. (v : ℕ) → v < 2 ^ 32 → IsTrue (is_in first.now v || is_in second.now v) → IsTrue (is_in set v)) }
 {
-    let all = words_of(alloc, &[(0, u32::MAX)])?;
-    let others = all.minus(alloc, first)?;
-    let neither = others.minus(alloc, second)?;
-    let either = all.minus(alloc, &neither)?;
+    set_laws();
+    let either = first.or(alloc, second)?;
     Ok(either)
 }
 

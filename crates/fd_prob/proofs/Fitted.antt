@@ -12,7 +12,8 @@ use Rattle.fd_prob.specs.declared.slot.Slot.TheVariants as slots
 use Rattle.fd_prob.specs.declared.slot.TheConstants.{SLOTS}
 use Rattle.fd_prob.specs.Slots.{slot_number}
 use Rattle.fd_prob.specs.Fitting.{domain_of, fits_case, is_within}
-use Rattle.fd_prob.specs.Relations.{holds, op_numbered, value_of}
+use Rattle.fd_prob.specs.Relations.{holds, value_of}
+use Rattle.rv_isa.specs.Numbers.{op_numbered}
 use Rattle.fd_prob.specs.Laws.{FittingIsOfACase, IsOfCase}
 use Rattle.fd_prob.proofs.Places.{place_below, placed}
 

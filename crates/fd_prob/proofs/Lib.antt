@@ -1,6 +1,7 @@
 pub mod Addresses
 pub mod Branches
 pub mod Firsts
+pub mod Joins
 pub mod Fitted
 pub mod Numbers
 pub mod Operations

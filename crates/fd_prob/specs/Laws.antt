@@ -10,7 +10,8 @@ use Rattle.fd_prob.specs.declared.slot.Slot.{Slot}
 use Rattle.fd_prob.specs.declared.slot.Slot.TheVariants as slots
 use Rattle.fd_prob.specs.declared.slot.TheConstants.{SLOTS}
 use Rattle.fd_prob.specs.Fitting.{domain_of, fits}
-use Rattle.fd_prob.specs.Relations.{goes_to_target, holds, op_numbered, value_of}
+use Rattle.fd_prob.specs.Relations.{goes_to_target, holds, value_of}
+use Rattle.rv_isa.specs.Numbers.{op_numbered}
 use Rattle.fd_prob.specs.Slots.{slot_number}
 
 -- an assignment has a case's operation, each value is in its domain there, and each relation of the case holds

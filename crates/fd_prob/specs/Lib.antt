@@ -4,4 +4,6 @@ pub mod Fitting
 pub mod Spaces
 pub mod Order
 pub mod Extras
+pub mod Joined
+pub mod Joining
 pub mod Laws

@@ -1,11 +1,10 @@
 -- What relations say of the values of a step's variables. The operation is that of the case in which the relation stands.
-use Rattle.std.specs.Prelude.{ℕ, ◌+◌, ◌-◌, ◌%◌, ◌^◌, Bool, true, false, not, ◌&&◌, ◌||◌, ◌==◌, nat_eq, nat_le, nat_lt, int_lt, bit_and, bit_or, if◌then◌else◌, List, Option, Some, None, slice_get, slice_index, slice_index_or}
+use Rattle.std.specs.Prelude.{ℕ, ◌+◌, ◌-◌, ◌%◌, ◌^◌, Bool, true, false, not, ◌&&◌, ◌||◌, ◌==◌, nat_eq, nat_le, nat_lt, int_lt, bit_and, bit_or, if◌then◌else◌, List, Option, Some, None, slice_get, slice_index}
 use Rattle.std.specs.List.{list_any}
 use Rattle.dom_set.specs.Elements.{is_in}
 use Rattle.rv_csr.specs.Table.{is_legal_at}
 use Rattle.rv_isa.specs.declared.operation.Op.{Op}
-use Rattle.rv_isa.specs.declared.operation.Op.TheVariants.{Jal, Jalr, Beq, Bne, Blt, Bge, Bltu, Bgeu, Csrrw, Csrrs, Csrrc, Csrrwi, Csrrsi, Csrrci, Illegal}
-use Rattle.rv_isa.specs.declared.operation.TheConstants.{OPS}
+use Rattle.rv_isa.specs.declared.operation.Op.TheVariants.{Jal, Jalr, Beq, Bne, Blt, Bge, Bltu, Bgeu, Csrrw, Csrrs, Csrrc, Csrrwi, Csrrsi, Csrrci}
 use Rattle.rv_isa.specs.Arithmetic.{is_branch, signed}
 use Rattle.fd_prob.specs.declared.problem.Assignment.{Assignment}
 use Rattle.fd_prob.specs.declared.relation.Quad.{Quad}
@@ -14,10 +13,6 @@ use Rattle.fd_prob.specs.declared.relation.Rel.TheVariants.{Same, Differ, Sum, T
 use Rattle.fd_prob.specs.declared.slot.Slot.{Slot}
 use Rattle.fd_prob.specs.declared.slot.Slot.TheVariants as slots
 use Rattle.fd_prob.specs.Slots.{slot_number}
-
--- the operation with a number in the order of the table of instructions
-unfoldable pub op_numbered : ℕ → Op
-op_numbered n = slice_index_or OPS n Illegal
 
 -- the value of a variable
 abbrev pub value_of : Assignment → Slot → ℕ

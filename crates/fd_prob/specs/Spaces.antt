@@ -11,7 +11,7 @@ use Rattle.fd_prob.specs.declared.problem.Problem.{Problem}
 use Rattle.fd_prob.specs.declared.slot.Slot.{Slot}
 use Rattle.fd_prob.specs.declared.slot.Slot.TheVariants as slots
 use Rattle.fd_prob.specs.Fitting.{domain_of}
-use Rattle.fd_prob.specs.Relations.{op_numbered}
+use Rattle.rv_isa.specs.Numbers.{op_numbered}
 
 -- a space ends at 2 ^ 64 - 1
 abbrev pub saturated : ℕ → ℕ
@@ -47,8 +47,19 @@ size_in c s = length (domain_of c s)
 
 -- CSRRW, CSRRS and CSRRC (Unprivileged, Zicsr)
 abbrev pub has_csr_source : Row → Bool
+has_csr_source (R opcode funct3 funct7) = false
+has_csr_source (I opcode funct3) = false
+has_csr_source (Shift opcode funct3 funct7) = false
+has_csr_source (S opcode funct3) = false
+has_csr_source (B opcode funct3) = false
+has_csr_source (U opcode) = false
+has_csr_source (J opcode) = false
 has_csr_source (Csr opcode funct3) = true
-has_csr_source _ = false
+has_csr_source (CsrImmediate opcode funct3) = false
+has_csr_source (FenceSets opcode funct3) = false
+has_csr_source (AddressFence opcode funct3 funct7) = false
+has_csr_source (Fixed word) = false
+has_csr_source DefinedIllegal = false
 
 -- the values of rs1, where they are what an instruction writes to a control and status register and are 4,096 at most
 abbrev pub source_of : Op → ℕ → ℕ
@@ -78,9 +89,19 @@ allowed_cases p = filter_map (allowed_case p.cases) (numbers_from 0 58)
 
 -- the opcodes LOAD and STORE (Unprivileged, 2.6)
 abbrev pub has_data_access : Row → Bool
+has_data_access (R opcode funct3 funct7) = false
 has_data_access (I opcode funct3) = opcode == 0x03
+has_data_access (Shift opcode funct3 funct7) = false
 has_data_access (S opcode funct3) = opcode == 0x23
-has_data_access _ = false
+has_data_access (B opcode funct3) = false
+has_data_access (U opcode) = false
+has_data_access (J opcode) = false
+has_data_access (Csr opcode funct3) = false
+has_data_access (CsrImmediate opcode funct3) = false
+has_data_access (FenceSets opcode funct3) = false
+has_data_access (AddressFence opcode funct3 funct7) = false
+has_data_access (Fixed word) = false
+has_data_access DefinedIllegal = false
 
 -- the case of a load or store
 abbrev pub is_access : Case → Bool

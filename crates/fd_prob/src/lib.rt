@@ -6,6 +6,7 @@
 mod copies;
 mod fitting;
 mod items;
+mod joined;
 mod laws;
 mod pages;
 mod problem;
@@ -13,7 +14,7 @@ mod relation;
 mod slot;
 mod spaces;
 
-pub use copies::copy_sets;
+pub use copies::{copy_rows, copy_sets, push_rels};
 pub use dom_set::OutOfMemory;
 pub use fitting::{all_hold, fits};
 pub use items::Items;

@@ -1,7 +1,8 @@
 // Problems and what is assigned to their variables.
 ghost use Rattle.std.specs.Prelude.{◌≡◌};
 ghost use Rattle.fd_prob.specs.Fitting.{IsCase, domain_of};
-ghost use Rattle.fd_prob.specs.Relations.{op_numbered, value_of};
+ghost use Rattle.fd_prob.specs.Relations.{value_of};
+ghost use Rattle.rv_isa.specs.Numbers.{op_numbered};
 
 use crate::Items;
 use crate::relation::Rel;

@@ -7,7 +7,8 @@ use Rattle.fd_narrow.specs.Narrowing.{IsInside, Narrows, domain_in}
 use Rattle.fd_prob.specs.declared.problem.Assignment.{Assignment}
 use Rattle.fd_prob.specs.declared.problem.Case.{Case}
 use Rattle.fd_prob.specs.declared.slot.Slot.{Slot}
-use Rattle.fd_prob.specs.Relations.{op_numbered, value_of}
+use Rattle.fd_prob.specs.Relations.{value_of}
+use Rattle.rv_isa.specs.Numbers.{op_numbered}
 use Rattle.fd_prob.specs.Slots.{slot_number}
 use Rattle.fd_prob.specs.declared.relation.Rel.{Rel}
 use Rattle.rv_isa.specs.declared.operation.Op.{Op}

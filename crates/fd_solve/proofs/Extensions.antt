@@ -18,7 +18,7 @@ pub length_cuts : (cuts : List (Slot × List ℕ)) (doms : List (List ℕ)) → 
 length_cuts [] doms = refl
 length_cuts (cut ∷ cuts) doms = length_cuts cuts (cut_by cut doms) ∙ length_cut cut doms
 
-case_whole : (e : Extra) (stays : Bool) (c : Case) → IsCase c → IsCase (extended_case e stays c)
+pub case_whole : (e : Extra) (stays : Bool) (c : Case) → IsCase c → IsCase (extended_case e stays c)
 case_whole e stays c is = record { op = is.op; domains = length_cuts e.cuts c.doms ∙ is.domains }
 
 cases_whole : (e : Extra) (stays : List Bool) (cases : List Case) → All IsCase cases → All IsCase (extended_cases e stays cases)

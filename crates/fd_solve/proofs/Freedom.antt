@@ -12,7 +12,8 @@ use Rattle.fd_prob.specs.declared.problem.Case.{Case}
 use Rattle.fd_prob.specs.declared.relation.Rel.{Rel}
 use Rattle.fd_prob.specs.declared.slot.Slot.{Slot}
 use Rattle.fd_prob.specs.Order.{IsAssignment, rank}
-use Rattle.fd_prob.specs.Relations.{holds, op_numbered, value_of}
+use Rattle.fd_prob.specs.Relations.{holds, value_of}
+use Rattle.rv_isa.specs.Numbers.{op_numbered}
 use Rattle.fd_prob.specs.Slots.{slot_number}
 use Rattle.fd_solve.specs.Free.{IsFirstPassing, IsFree, IsSettled, mentions, own_hold, put}
 use Rattle.fd_solve.specs.Search.{FixedBelow, IsCut, IsMet, LeastOrNone}

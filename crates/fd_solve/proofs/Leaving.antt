@@ -9,7 +9,8 @@ use Rattle.fd_prob.specs.declared.problem.Assignment.{Assignment}
 use Rattle.fd_prob.specs.declared.problem.Case.{Case}
 use Rattle.fd_prob.specs.declared.relation.Rel.{Rel}
 use Rattle.fd_prob.specs.declared.slot.Slot.{Slot}
-use Rattle.fd_prob.specs.Relations.{holds, op_numbered}
+use Rattle.fd_prob.specs.Relations.{holds}
+use Rattle.rv_isa.specs.Numbers.{op_numbered}
 use Rattle.fd_solve.specs.Easier.{AreBlind, IsEasier}
 use Rattle.fd_solve.specs.Free.{mentions, put}
 use Rattle.fd_solve.specs.Search.{IsCut, IsMet}

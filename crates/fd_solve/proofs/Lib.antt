@@ -4,6 +4,7 @@ pub mod Searching
 pub mod Cuts
 pub mod Lists
 pub mod OneOperation
+pub mod Joining
 pub mod AllOperations
 pub mod Allowed
 pub mod Pivoting
@@ -11,7 +12,10 @@ pub mod PivotWords
 pub mod StrictOrder
 pub mod OneAnswer
 pub mod Extensions
+pub mod Marking
+pub mod FirstCases
 pub mod Biases
+pub mod Dropping
 pub mod Mentions
 pub mod Freedom
 pub mod Leaving

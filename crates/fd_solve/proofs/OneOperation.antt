@@ -1,5 +1,5 @@
 -- Cases of one operation.
-use Rattle.std.proofs.Common.{◌≡◌, ◌≢◌, ℕ, ◌+◌, ◌<◌, true, List, length, get_or, Option, ◌⊎◌, inl, inr, refl, sym, ◌∙◌, subst, arith}
+use Rattle.std.proofs.Common.{◌≡◌, ◌≢◌, ℕ, ◌+◌, ◌<◌, ◌≤◌, true, List, length, get_or, Option, ◌⊎◌, inl, inr, refl, sym, ◌∙◌, subst, arith}
 use Rattle.std.proofs.lemmas.Bool.{cases_lt}
 use Rattle.dom_set.specs.Elements.{is_in}
 use Rattle.fd_narrow.specs.Narrowing.{IsInside, domain_in}
@@ -11,7 +11,7 @@ use Rattle.fd_prob.specs.Fitting.{domain_of}
 use Rattle.fd_prob.specs.Laws.{IsOfCase}
 use Rattle.fd_prob.specs.Order.{IsAssignment}
 use Rattle.fd_prob.specs.Relations.{value_of}
-use Rattle.fd_solve.specs.Search.{IsCut, IsLesser, IsMadeOf, IsMet, LeastOrNone}
+use Rattle.fd_solve.specs.Search.{IsCut, IsLesser, IsMadeOf, IsMadeOfAny, IsMet, LeastOrNone}
 use Rattle.fd_solve.proofs.Lists.{any_default}
 use Rattle.fd_solve.proofs.Orders.{as_well, lesser_of_both}
 
@@ -51,6 +51,13 @@ module _ (c : Case) (start : List (List ℕ)) (start_is : start ≡ c.doms) (op 
 -- the assignment has the operation and is of one of the first n cases
 abbrev pub IsMadeBefore : ℕ → List Case → ℕ → Assignment → Type 0
 IsMadeBefore op cases n x = IsAssignment x × (value_of x slots.Op ≡ op) × ((k : ℕ) × (c : Case) × (k < n) × (k < length cases) × (get_or cases k c ≡ c) × IsOfCase x c)
+
+-- the first n are all
+pub all_before : (op : ℕ) (cases : List Case) (n : ℕ) → length cases ≤ n → (ps : List ℕ) (o : Option Assignment) → LeastOrNone ps (IsMadeBefore op cases n) o → LeastOrNone ps (IsMadeOfAny op cases) o
+all_before op cases n end ps o least = as_well ps (IsMadeBefore op cases n) (IsMadeOfAny op cases)
+    (λ x is. (is.0, is.1, (is.2.0, is.2.1, is.2.3, is.2.4, is.2.5)))
+    (λ x is. (is.0, is.1, (is.2.0, is.2.1, omega (arith, is.2.2, end), is.2.2, is.2.3, is.2.4)))
+    o least
 
 module _ (op : ℕ) (cases : List Case) (n : ℕ) (c : Case) (lt : n < length cases) (here : c ≡ get_or cases n c) where
   wider : (x : Assignment) → IsMadeBefore op cases n x → IsMadeBefore op cases (n + 1) x

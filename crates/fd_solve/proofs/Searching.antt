@@ -14,7 +14,8 @@ use Rattle.fd_prob.specs.declared.slot.Slot.{Slot}
 use Rattle.fd_prob.specs.declared.slot.Slot.TheVariants as slots
 use Rattle.fd_prob.specs.declared.slot.TheConstants.{SLOTS}
 use Rattle.fd_prob.specs.Order.{IsAssignment, rank}
-use Rattle.fd_prob.specs.Relations.{holds, op_numbered, value_of}
+use Rattle.fd_prob.specs.Relations.{holds, value_of}
+use Rattle.rv_isa.specs.Numbers.{op_numbered}
 use Rattle.fd_prob.specs.Slots.{slot_number}
 use Rattle.fd_solve.specs.Search.{FixedBelow, IsCut, IsLeastOf, IsMet, IsNext}
 use Rattle.fd_prob.proofs.Places.{in_place, place_below}

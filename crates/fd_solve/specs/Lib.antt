@@ -1,4 +1,6 @@
 pub mod Answers
+pub mod Dropping
+pub mod Marks
 pub mod Laws
 pub mod Search
 pub mod Taking

@@ -10,7 +10,8 @@ use Rattle.fd_prob.specs.declared.slot.Slot.TheVariants as slots
 use Rattle.fd_prob.specs.Fitting.{fits}
 use Rattle.fd_prob.specs.Laws.{IsOfCase}
 use Rattle.fd_prob.specs.Order.{ComesBefore, IsAssignment, pivot_of, rank}
-use Rattle.fd_prob.specs.Relations.{op_numbered, value_of}
+use Rattle.fd_prob.specs.Relations.{value_of}
+use Rattle.rv_isa.specs.Numbers.{op_numbered}
 use Rattle.fd_prob.specs.Slots.{slot_number}
 
 -- both have the same values

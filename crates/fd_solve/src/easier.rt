@@ -3,7 +3,6 @@ ghost use Rattle.std.specs.Prelude.{◌≡◌, IfOk, length};
 ghost use Rattle.fd_prob.specs.Fitting.{IsCase};
 ghost use Rattle.fd_solve.specs.Easier.{AreBlind, IsEasier};
 
-use crate::copies::copy_rel;
 use crate::free::mentions;
 use dom_set::{OutOfMemory, Set};
 use fd_prob::{Case, Items, Rel, Slot};
@@ -16,7 +15,7 @@ fn blind_rels(alloc: Global, rels: &[Rel], slot: Slot) -> Result<Vec<Rel>, OutOf
     let mut made = Vec::new(alloc);
     for rel in rels {
         if !mentions(rel, slot) {
-            made.push(copy_rel(alloc, rel)?)?;
+            made.push(rel.copy(alloc)?)?;
         }
     }
     Ok(made)

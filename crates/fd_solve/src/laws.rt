@@ -1,5 +1,6 @@
 // Laws of answers.
 ghost use Rattle.fd_prob.specs.Fitting.{IsProblem};
+ghost use Rattle.fd_solve.specs.Dropping.{LeafAnswersAreOfKept};
 ghost use Rattle.fd_solve.specs.Laws.{ArePivotsWords, HasOneAnswer, OperationsAreInOrder, OrderIsStrictAndTotal};
 
 use crate::pivots::pivots_are_words;
@@ -26,4 +27,10 @@ pub fn answer_law(p: &Problem, nodes: u64)
 /// are in the order of the table of instructions.
 pub fn operation_law()
     ensures { OperationsAreInOrder }
+{}
+
+/// Does nothing. Its contract says that the answer of a leaf is that of the problem with the biases that it does not
+/// list as dropped, in their order.
+pub fn leaf_law()
+    ensures { LeafAnswersAreOfKept }
 {}

@@ -1,80 +1,95 @@
 // Biases, taken one after another.
-ghost use Rattle.std.specs.Prelude.{◌≡◌, ◌++◌, ◌∷◌, [], All, IfOk, OnOk, length};
+ghost use Rattle.std.specs.Prelude.{◌≡◌, ◌+◌, ◌-◌, ◌<◌, ◌++◌, ◌∷◌, [], false, All, IfOk, OnOk, length, slice_index_or, slice_set};
 ghost use Rattle.fd_prob.specs.Fitting.{IsProblem};
 ghost use Rattle.fd_solve.specs.Answers.{IsLeafAnswer};
-ghost use Rattle.fd_solve.specs.Taking.{IsBest, IsTakenBy, kept_of, problem_with};
+ghost use Rattle.fd_solve.specs.Taking.{IsBest, IsTakenBy, base_of, kept_of};
 
 use crate::answers::{LeafAnswer, Solved};
-use crate::extended::extended;
-use crate::operations::answer_of;
-use crate::pivots::operation_pivot;
+use crate::firsts::cut_problem;
+use crate::operations::{answer_alone, answer_with};
 use dom_set::OutOfMemory;
 use fd_prob::{Assignment, Extra, Items, Problem};
 use std::alloc::Global;
 
-/// The problem with the biases that were kept, and the least assignment that fits it.
+/// The first cases of the problem with the biases that were kept, and the least assignment that fits it.
 #[derive(Drop)]
 struct Best {
-    problem: Problem,
+    firsts: Problem,
     least: Assignment,
 }
 
 /// The biases that were taken so far.
 #[derive(Drop)]
 struct Taken {
+    /// Whether each was kept.
+    marks: Vec<bool>,
     /// None where no bias was kept.
     best: Option<Best>,
     dropped: Items<(u32, bool)>,
 }
 
 impl Taken {
-    /// The problem with the biases that were kept.
-    fn problem<'a>(&'a self, p: &'a Problem) -> &'a Problem
-        ensures { result.now ≡ problem_with self.now.best p.now }
+    /// What stands for the first cases of the problem with the biases that were kept.
+    fn base<'a>(&'a self, p: &'a Problem) -> &'a Problem
+        ensures { result.now ≡ base_of self.now.best p.now }
     {
         match &self.best {
-            Some(best) => &best.problem,
+            Some(best) => &best.firsts,
             None => p,
         }
     }
 
-    /// Lists the bias at a position, with whether the budget was spent.
-    fn push(&mut self, position: usize, spent: bool) -> Result<(), OutOfMemory>
+    /// Takes the last mark away and lists its bias, with whether the budget was spent.
+    fn unmark(&mut self, spent: bool) -> Result<(), OutOfMemory>
+        requires { 0 < length self.old.marks.items }
         ensures best { self.new.best ≡ self.old.best }
-        ensures dropped { OnOk result (self.new.dropped ≡ self.old.dropped ++ (position, spent) ∷ []) }
+        ensures marks { OnOk result (self.new.marks.items ≡ slice_set self.old.marks.items (length self.old.marks.items - 1) false) }
+        ensures dropped { OnOk result (self.new.dropped ≡ self.old.dropped ++ (length self.old.marks.items - 1, spent) ∷ []) }
     {
+        let place = self.marks.len() - 1;
         // The list has no place for a bias at 2^32 or later.
-        let Ok(position) = u32::try_from(position) else {
+        let Ok(position) = u32::try_from(place) else {
             return Err(OutOfMemory);
         };
         self.dropped.push((position, spent))?;
+        self.marks[place] = false;
         Ok(())
     }
 
-    /// Takes the bias at a position: it is kept where the problem with it has an assignment for its answer.
+    /// Takes the next bias: it is kept where the problem with it has an assignment for its answer.
     fn take(
         &mut self,
         alloc: Global,
         p: &Problem,
-        nodes: u64,
-        position: usize,
+        biases: &[Extra],
         bias: &Extra,
+        nodes: u64,
     ) -> Result<(), OutOfMemory>
         requires problem { IsProblem p.now }
-        requires entries { length bias.now.cases ≡ length p.now.cases }
-        requires best { IsBest p.now nodes self.old.best }
-        ensures taken { OnOk result (IsTakenBy nodes position bias.now (kept_of p.now self.old) (kept_of p.now self.new)) }
-        ensures best { OnOk result (IsBest p.now nodes self.new.best) }
+        requires entries { All (λ e. length e.cases ≡ length p.now.cases) biases.now }
+        requires more { length self.old.marks.items < length biases.now }
+        requires next { bias.now ≡ slice_index_or biases.now (length self.old.marks.items) bias.now }
+        requires best { IsBest p.now biases.now nodes self.old }
+        ensures taken { OnOk result (IsTakenBy nodes (length self.old.marks.items) bias.now (kept_of p.now biases.now self.old) (kept_of p.now biases.now self.new)) }
+        ensures best { OnOk result (IsBest p.now biases.now nodes self.new) }
+        ensures one { OnOk result (length self.new.marks.items ≡ length self.old.marks.items + 1) }
     {
-        let problem = extended(alloc, self.problem(p), bias)?;
-        let pivot = operation_pivot(alloc, &problem)?;
-        match answer_of(alloc, &problem, pivot, nodes)? {
+        let firsts = cut_problem(alloc, self.base(p), bias)?;
+        self.marks.push(true)?;
+        let answer = answer_with(alloc, p, biases, &self.marks, &firsts, nodes)?;
+        match answer {
             Solved::Found(least) => {
-                self.best = Some(Best { problem, least });
+                self.best = Some(Best { firsts, least });
                 Ok(())
             }
-            Solved::NoneFits => self.push(position, false),
-            Solved::Spent => self.push(position, true),
+            Solved::NoneFits => {
+                self.unmark(false)?;
+                Ok(())
+            }
+            Solved::Spent => {
+                self.unmark(true)?;
+                Ok(())
+            }
         }
     }
 }
@@ -95,19 +110,17 @@ pub fn solve_leaf(
     ensures { IfOk result (IsLeafAnswer p.now biases.now nodes) }
 {
     let mut taken = Taken {
+        marks: Vec::new(alloc),
         best: None,
         dropped: Items::new(alloc),
     };
-    for (i, bias) in biases.iter().enumerate() {
-        taken.take(alloc, p, nodes, i, bias)?;
+    for bias in biases {
+        taken.take(alloc, p, biases, bias, nodes)?;
     }
-    let Taken { best, dropped } = taken;
+    let Taken { best, dropped, .. } = taken;
     let solved = match best {
         Some(best) => Solved::Found(best.least),
-        None => {
-            let pivot = operation_pivot(alloc, p)?;
-            answer_of(alloc, p, pivot, nodes)?
-        }
+        None => answer_alone(alloc, p, nodes)?,
     };
     Ok(LeafAnswer { solved, dropped })
 }

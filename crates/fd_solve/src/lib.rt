@@ -7,12 +7,13 @@
 
 mod answers;
 mod cases;
-mod copies;
 mod easier;
 mod extended;
+mod firsts;
 mod free;
 mod laws;
 mod leaf;
+mod marked;
 mod operations;
 mod order;
 mod pivots;
@@ -21,6 +22,6 @@ mod search;
 
 pub use answers::{LeafAnswer, Solved};
 pub use dom_set::OutOfMemory;
-pub use laws::{answer_law, operation_law, order_law};
+pub use laws::{answer_law, leaf_law, operation_law, order_law};
 pub use leaf::solve_leaf;
 pub use operations::solve;

@@ -7,31 +7,33 @@ ghost use Rattle.fd_prob.specs.Order.{pivot_of};
 ghost use Rattle.fd_prob.specs.Spaces.{space};
 ghost use Rattle.fd_solve.specs.declared.answers.Solved.TheVariants.{Found, NoneFits, Spent};
 ghost use Rattle.fd_solve.specs.Answers.{IsAnswer, IsLeast, NothingFits};
+ghost use Rattle.fd_solve.specs.Marks.{AreSound, IsSound, whole_of, with_marked};
 ghost use Rattle.fd_solve.specs.Search.{IsLeastFrom, NoneBetween};
 
 use crate::Solved;
 use crate::cases::solve_cases;
-use crate::pivots::{operation_pivot, pivots_of};
+use crate::marked::{Marked, pivots_with};
+use crate::pivots::operation_pivot;
 use dom_set::OutOfMemory;
-use fd_prob::{Assignment, Problem, fitting_laws, space};
+use fd_prob::{Assignment, Extra, Problem, fitting_laws, space};
 use std::alloc::Global;
 
 /// The first operation of these numbers with which anything fits, and the least assignment of it.
 fn solve_between(
     alloc: Global,
-    p: &Problem,
+    marked: &Marked,
     pivot: u8,
     from: u8,
     to: u8,
 ) -> Result<Option<Assignment>, OutOfMemory>
-    requires problem { IsProblem p.now }
-    requires pivot { (op : ℕ) → pivot ≡ pivot_of p.now op slots.Op }
-    ensures { IfOk result (λ o. MatchOption o (NoneBetween p.now from to) (IsLeastFrom p.now from)) }
+    requires sound { IsSound marked.now }
+    requires pivot { (op : ℕ) → pivot ≡ pivot_of (whole_of marked.now) op slots.Op }
+    ensures { IfOk result (λ o. MatchOption o (NoneBetween (whole_of marked.now) from to) (IsLeastFrom (whole_of marked.now) from)) }
 {
     fitting_laws();
     for op in from..to {
-        if let Some(pivots) = pivots_of(p, op, pivot) {
-            if let Some(x) = solve_cases(alloc, p, op, &pivots)? {
+        if let Some(pivots) = pivots_with(marked, op, pivot) {
+            if let Some(x) = solve_cases(alloc, marked, op, &pivots)? {
                 return Ok(Some(x));
             }
         }
@@ -40,32 +42,61 @@ fn solve_between(
 }
 
 /// The least assignment that fits.
-fn least(alloc: Global, p: &Problem, pivot: u8) -> Result<Option<Assignment>, OutOfMemory>
-    requires problem { IsProblem p.now }
-    requires pivot { (op : ℕ) → pivot ≡ pivot_of p.now op slots.Op }
-    ensures { IfOk result (λ o. MatchOption o (NothingFits p.now) (IsLeast p.now)) }
+fn least(alloc: Global, marked: &Marked, pivot: u8) -> Result<Option<Assignment>, OutOfMemory>
+    requires sound { IsSound marked.now }
+    requires pivot { (op : ℕ) → pivot ≡ pivot_of (whole_of marked.now) op slots.Op }
+    ensures { IfOk result (λ o. MatchOption o (NothingFits (whole_of marked.now)) (IsLeast (whole_of marked.now))) }
 {
     fitting_laws();
-    if let Some(x) = solve_between(alloc, p, pivot, pivot, 58)? {
+    if let Some(x) = solve_between(alloc, marked, pivot, pivot, 58)? {
         return Ok(Some(x));
     }
-    let lower = solve_between(alloc, p, pivot, 0, pivot)?;
+    let lower = solve_between(alloc, marked, pivot, 0, pivot)?;
     Ok(lower)
 }
 
-/// The answer of the problem, from the pivot of its operations.
-pub fn answer_of(alloc: Global, p: &Problem, pivot: u8, nodes: u64) -> Result<Solved, OutOfMemory>
-    requires problem { IsProblem p.now }
-    requires pivot { (op : ℕ) → pivot ≡ pivot_of p.now op slots.Op }
-    ensures { IfOk result (IsAnswer p.now nodes) }
+/// The answer of the problem with its marked biases.
+fn answer_of(alloc: Global, marked: &Marked, nodes: u64) -> Result<Solved, OutOfMemory>
+    requires { IsSound marked.now }
+    ensures { IfOk result (IsAnswer (whole_of marked.now) nodes) }
 {
-    if nodes < space(p) {
+    if nodes < space(marked.firsts) {
         return Ok(Solved::Spent);
     }
-    match least(alloc, p, pivot)? {
+    let pivot = operation_pivot(alloc, marked.firsts)?;
+    match least(alloc, marked, pivot)? {
         Some(x) => Ok(Solved::Found(x)),
         None => Ok(Solved::NoneFits),
     }
+}
+
+/// The same, by the parts of the problem.
+pub fn answer_with(
+    alloc: Global,
+    p: &Problem,
+    biases: &[Extra],
+    marks: &[bool],
+    firsts: &Problem,
+    nodes: u64,
+) -> Result<Solved, OutOfMemory>
+    requires { AreSound p.now biases.now marks.now firsts.now }
+    ensures { IfOk result (IsAnswer (with_marked marks.now biases.now p.now) nodes) }
+{
+    let marked = Marked {
+        problem: p,
+        biases,
+        marks,
+        firsts,
+    };
+    answer_of(alloc, &marked, nodes)
+}
+
+/// The answer of the problem without biases.
+pub fn answer_alone(alloc: Global, p: &Problem, nodes: u64) -> Result<Solved, OutOfMemory>
+    requires { IsProblem p.now }
+    ensures { IfOk result (IsAnswer p.now nodes) }
+{
+    answer_with(alloc, p, &[], &[], p, nodes)
 }
 
 /// The answer of the problem under a budget of `nodes`: `Spent` exactly where the space of the problem
@@ -79,6 +110,5 @@ pub fn solve(alloc: Global, p: &Problem, nodes: u64) -> Result<Solved, OutOfMemo
     ensures found { (x : Assignment) → result ≡ Ok (Found x) → IsLeast p.now x }
     ensures none { result ≡ Ok NoneFits → NothingFits p.now }
 {
-    let pivot = operation_pivot(alloc, p)?;
-    answer_of(alloc, p, pivot, nodes)
+    answer_alone(alloc, p, nodes)
 }

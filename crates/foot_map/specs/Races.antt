@@ -13,12 +13,22 @@ use Rattle.foot_map.specs.Touches.{has}
 
 -- two roles on one byte break race-freedom: by one hart (true) or by two (false)
 abbrev pub breaks : Bool → Role → Role → Bool
-breaks same Store Store = not same
-breaks same Store Load = not same
+breaks same Fetch Fetch = false
+breaks same Fetch Walk = false
+breaks same Fetch Load = false
+breaks same Fetch Store = true
+breaks same Walk Fetch = false
+breaks same Walk Walk = false
+breaks same Walk Load = false
+breaks same Walk Store = true
+breaks same Load Fetch = false
+breaks same Load Walk = false
+breaks same Load Load = false
 breaks same Load Store = not same
-breaks same Store _ = true
-breaks same _ Store = true
-breaks same _ _ = false
+breaks same Store Fetch = true
+breaks same Store Walk = true
+breaks same Store Load = not same
+breaks same Store Store = not same
 
 -- both touch some byte
 abbrev pub Meet : Access → Access → Type 0
@@ -28,7 +38,8 @@ Meet x y = (b : ℕ) × (covers x b ≡ true) × (covers y b ≡ true)
 abbrev pub is_code : Role → Bool
 is_code Fetch = true
 is_code Walk = true
-is_code _ = false
+is_code Load = false
+is_code Store = false
 
 -- of the accesses that each hart did
 pub record IsRaceFree (did : ℕ → List Access) : Type 0 where

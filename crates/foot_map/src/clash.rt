@@ -19,7 +19,7 @@ pub fn breaks(same_hart: bool, one: Role, other: Role) -> bool
 {
     match (one, other) {
         (Role::Store, Role::Store | Role::Load) | (Role::Load, Role::Store) => !same_hart,
-        (Role::Store, _) | (_, Role::Store) => true,
-        _ => false,
+        (Role::Store, Role::Fetch | Role::Walk) | (Role::Fetch | Role::Walk, Role::Store) => true,
+        (Role::Fetch | Role::Walk | Role::Load, Role::Fetch | Role::Walk | Role::Load) => false,
     }
 }

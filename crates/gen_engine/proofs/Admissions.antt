@@ -2,6 +2,7 @@
 use Rattle.std.proofs.Common.{◌≡◌, ℕ, ◌+◌, ◌-◌, ◌^◌, ◌++◌, true, List, [], ◌∷◌, length, map, append_assoc, append-nil, arith, sym, subst, Option, Some, refl, ap, ◌∙◌}
 use Rattle.std.specs.Prelude.{if◌then◌else◌, min}
 use Rattle.std.proofs.lemmas.Bool.{eq-eqb}
+use Rattle.rv_isa.specs.Numbers.{op_number}
 use Rattle.rv_isa.specs.declared.instruction.Instr.{Instr}
 use Rattle.rv_isa.specs.declared.operation.Op.TheVariants.{Addi}
 use Rattle.rv_isa.specs.Reading.{decoded}
@@ -98,6 +99,7 @@ next_atom : (dropped : List Dropped) (hart step n : ℕ) (m : Moment) (w : Wish)
 next_atom dropped hart step n m w ws is = rw is refl
 
 op_is : (m : Moment) (i : Instr) → decoded m.done.word ≡ Some i → i.op ≡ Addi → holds (among vars.Op addi_number).atom m ≡ true
+unfolding op_number
 op_is m i word op = rw (word, op) refl
 
 rd_is : (m : Moment) (l : Leaf) → decoded m.done.word ≡ Some (instr_of l) → holds (among vars.Rd l.rd).atom m ≡ true

@@ -13,11 +13,11 @@ use Rattle.tpl_ast.specs.declared.template.Atom.{Atom}
 use Rattle.fd_prob.specs.declared.slot.Slot.{Slot}
 use Rattle.fd_prob.specs.declared.slot.Slot.TheVariants as slots
 use Rattle.fd_prob.specs.Order.{picked}
-use Rattle.fd_prob.specs.Relations.{op_numbered}
+use Rattle.rv_isa.specs.Numbers.{op_numbered, op_number}
 use Rattle.fd_solve.specs.declared.answers.Solved.{Solved}
 use Rattle.fd_solve.specs.declared.answers.Solved.TheVariants as answers
 use Rattle.leaf_link.specs.Turns.{Turn}
-use Rattle.leaf_link.specs.Values.{Values, instr_in, new_places, op_number}
+use Rattle.leaf_link.specs.Values.{Values, instr_in, new_places}
 use Rattle.leaf_link.specs.Candidates.{IsCandidate}
 use Rattle.leaf_link.specs.KindLaws.{IsPosed}
 use Rattle.leaf_link.specs.Answers.{IsAnswerOver, values_in}

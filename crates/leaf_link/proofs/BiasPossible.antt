@@ -27,14 +27,15 @@ use Rattle.fd_prob.specs.declared.slot.TheConstants.{SLOTS}
 use Rattle.fd_prob.specs.Extras.{extended}
 use Rattle.fd_prob.specs.Fitting.{IsCase, domain_of, fits, fits_case, is_within}
 use Rattle.fd_prob.specs.Order.{IsAssignment, pivot_of, rank}
-use Rattle.fd_prob.specs.Relations.{op_numbered, value_of}
+use Rattle.fd_prob.specs.Relations.{value_of}
+use Rattle.rv_isa.specs.Numbers.{op_numbered, op_number}
 use Rattle.fd_prob.specs.Slots.{slot_number}
 use Rattle.fd_prob.specs.Spaces.{space}
 use Rattle.fd_prob.proofs.Places.{place_below}
 use Rattle.fd_solve.specs.declared.answers.LeafAnswer.{LeafAnswer}
 use Rattle.fd_solve.specs.declared.answers.Solved.TheVariants as answers
 use Rattle.fd_solve.specs.Answers.{IsLeafAnswer, IsLeast}
-use Rattle.leaf_link.specs.Values.{Values, op_number}
+use Rattle.leaf_link.specs.Values.{Values}
 use Rattle.leaf_link.specs.Cases.{Case, Fits, FitsCase, Way, case_at, cases_of, is_held}
 use Rattle.leaf_link.specs.Kinds.{always, retires, retires_when}
 use Rattle.leaf_link.specs.KindLaws.{IsPosed}

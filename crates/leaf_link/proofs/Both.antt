@@ -23,10 +23,10 @@ use Rattle.tpl_ast.specs.declared.template.Var.TheVariants as vars
 use Rattle.tpl_admit.specs.Variables.{data_address}
 use Rattle.fd_prob.specs.declared.slot.Slot.{Slot}
 use Rattle.fd_prob.specs.declared.slot.Slot.TheVariants as slots
-use Rattle.fd_prob.specs.Relations.{op_numbered}
+use Rattle.rv_isa.specs.Numbers.{op_numbered, op_number}
 use Rattle.rv_script.specs.Logs.{entry_place, entry_label, answer_told, labelled, value_or, by_answers, new_value, value_in, Coherent}
 use Rattle.leaf_link.specs.Turns.{Turn, in_frames, is_free_entry, may_be_source, may_start, word_address_of}
-use Rattle.leaf_link.specs.Values.{Values, op_number, instr_in, has_address, address_if, given_by, assigned, old_csr}
+use Rattle.leaf_link.specs.Values.{Values, instr_in, has_address, address_if, given_by, assigned, old_csr}
 use Rattle.leaf_link.specs.Candidates.{accesses_in, moment_of}
 use Rattle.leaf_link.specs.Cases.{Shape, Way, Fits, FitsCase, is_posed, case_at, all_judged, all_tests, atoms_hold, base_domain, cases_of, code_at, fetch_entry, is_held, is_linked, is_some_word, may_fetch, or_no, shape_of, sources_hold, unless, uses, uses_address, uses_rs1, uses_rs2, value_at}
 use Rattle.leaf_link.specs.Ways.{AsksUsed, DoesRest, FitsWay, HasAddress, IsFetched, IsOf, IsReach, IsWays}

@@ -11,7 +11,8 @@ use Rattle.fd_prob.specs.declared.slot.Slot.{Slot}
 use Rattle.fd_prob.specs.declared.slot.Slot.TheVariants as slots
 use Rattle.rv_script.specs.Logs.{value_or}
 use Rattle.leaf_link.specs.Turns.{Turn}
-use Rattle.leaf_link.specs.Values.{Values, op_number}
+use Rattle.leaf_link.specs.Values.{Values}
+use Rattle.rv_isa.specs.Numbers.{op_number}
 use Rattle.leaf_link.specs.Candidates.{all_met, moment_of}
 use Rattle.leaf_link.specs.Cases.{Shape, Way, all_judged, all_relate, all_tests, shape_of, target_at, unless, uses, value_at}
 use Rattle.leaf_link.specs.Problems.{bias_cut}

@@ -28,13 +28,14 @@ use Rattle.fd_prob.specs.declared.slot.Slot.TheVariants as slots
 use Rattle.fd_prob.specs.Extras.{closed_by, cut_by, cut_by_all, extended, extended_case, extended_cases}
 use Rattle.fd_prob.specs.Fitting.{IsCase, IsProblem, domain_of, fits_case, is_within}
 use Rattle.fd_prob.specs.Order.{IsAssignment}
-use Rattle.fd_prob.specs.Relations.{holds, op_numbered, value_of}
+use Rattle.fd_prob.specs.Relations.{holds, value_of}
+use Rattle.rv_isa.specs.Numbers.{op_numbered, op_number}
 use Rattle.fd_prob.specs.Slots.{slot_number}
 use Rattle.fd_prob.proofs.Fitted.{all_within, each_within}
 use Rattle.fd_prob.proofs.Places.{place_below}
 use Rattle.fd_solve.proofs.Extensions.{length_cut, whole}
 use Rattle.leaf_link.specs.Turns.{Turn}
-use Rattle.leaf_link.specs.Values.{Values, instr_in, op_number}
+use Rattle.leaf_link.specs.Values.{Values, instr_in}
 use Rattle.leaf_link.specs.Candidates.{all_met, is_met, moment_of}
 use Rattle.leaf_link.specs.Cases.{Fits, all_tests, code_at}
 use Rattle.leaf_link.specs.KindLaws.{IsPosed}

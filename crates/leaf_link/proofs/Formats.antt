@@ -13,7 +13,8 @@ use Rattle.rv_isa.proofs.Codec.{encoded_read, fitting_encoded, read_encoded}
 use Rattle.rv_isa.proofs.Cuts.{same_instr}
 use Rattle.fd_prob.specs.declared.slot.Slot.TheVariants as slots
 use Rattle.rv_script.specs.Logs.{value_or}
-use Rattle.leaf_link.specs.Values.{Values, op_number, instr_in}
+use Rattle.leaf_link.specs.Values.{Values, instr_in}
+use Rattle.rv_isa.specs.Numbers.{op_number}
 use Rattle.leaf_link.specs.Cases.{or_no, is_imm, field_of, in_read, in_word}
 use Rattle.leaf_link.proofs.Numbers.{same_op}
 

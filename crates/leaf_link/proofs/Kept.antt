@@ -13,7 +13,7 @@ use Rattle.tpl_ast.specs.declared.template.Atom.{Atom}
 use Rattle.fd_prob.specs.declared.slot.Slot.{Slot}
 use Rattle.fd_prob.specs.declared.slot.Slot.TheVariants as slots
 use Rattle.fd_prob.specs.Order.{rank}
-use Rattle.fd_prob.specs.Relations.{op_numbered}
+use Rattle.rv_isa.specs.Numbers.{op_numbered}
 use Rattle.fd_prob.specs.Slots.{slot_number}
 use Rattle.fd_prob.proofs.Places.{same_slot}
 use Rattle.rv_script.specs.Labels.{Between, label_of, label_number, question_number}

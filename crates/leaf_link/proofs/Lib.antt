@@ -35,6 +35,8 @@ mod FaultFits
 mod Heading
 mod FetchAnswering
 mod WalkPossible
+mod FaultPossible
+mod HaveWalks
 mod InDomains
 mod Serving
 mod Totals

@@ -25,10 +25,10 @@ use Rattle.std.specs.List.{list_all}
 use Rattle.fd_prob.specs.declared.slot.Slot.{Slot}
 use Rattle.fd_prob.specs.declared.slot.Slot.TheVariants as slots
 use Rattle.fd_prob.specs.declared.slot.TheConstants.{SLOTS}
-use Rattle.fd_prob.specs.Relations.{op_numbered}
+use Rattle.rv_isa.specs.Numbers.{op_numbered, op_number}
 use Rattle.rv_script.specs.Script.{Label.DataRoot, Label.DataSecond}
 use Rattle.rv_script.specs.Logs.{answer_told, by_answers, labelled, new_value}
-use Rattle.leaf_link.specs.Values.{Values, fixed_value, new_places, op_number}
+use Rattle.leaf_link.specs.Values.{Values, fixed_value, new_places}
 use Rattle.leaf_link.specs.Turns.{Turn}
 use Rattle.leaf_link.specs.Candidates.{IsCandidate}
 use Rattle.leaf_link.specs.Cases.{Case, Fits, FitsCase, HasSources, cases_of}

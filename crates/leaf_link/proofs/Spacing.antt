@@ -20,11 +20,11 @@ use Rattle.fd_prob.specs.declared.slot.Slot.{Slot}
 use Rattle.fd_prob.specs.declared.slot.Slot.TheVariants as slots
 use Rattle.fd_prob.specs.Fitting.{domain_of}
 use Rattle.fd_prob.specs.Order.{domain_in, draw_of, picked, pivot_of}
-use Rattle.fd_prob.specs.Relations.{op_numbered}
+use Rattle.rv_isa.specs.Numbers.{op_numbered, op_number}
 use Rattle.fd_prob.specs.Slots.{slot_number}
 use Rattle.fd_prob.specs.Spaces.{access_space, allowed_case, allowed_cases, counted_fields, has_data_access, if_allowed, is_access, numbers_from, operation_space, pages_in, pages_of, product_of, saturated, size_in, source_of, sum_of}
 use Rattle.leaf_link.specs.Turns.{Turn}
-use Rattle.leaf_link.specs.Values.{has_address, op_number}
+use Rattle.leaf_link.specs.Values.{has_address}
 use Rattle.leaf_link.specs.Cases.{all_tests}
 use Rattle.leaf_link.specs.Firsts.{AreFirsts, HasDraws, IsDomain, IsFirstOf, PivotsAreExact, SpaceIsExact, allowed_by, counts_imm, data_pairs, data_space, domain_list, domain_size, first_domain, first_of, is_allowed, is_data_op, leaf_draw, leaf_pages, op_space, size_if}
 use Rattle.leaf_link.proofs.Numbers.{op_back}

@@ -22,7 +22,8 @@ use Rattle.tpl_admit.specs.Truth.{are_same, are_different, condition, condition_
 use Rattle.tpl_admit.specs.Variables.{Moment, address_of, data_address, field, first_operand, is_jalr, is_refused, offset, operand, outcome_in, second_operand, target_of, value_of}
 use Rattle.fd_prob.specs.declared.slot.Slot.TheVariants as slots
 use Rattle.leaf_link.specs.Turns.{Turn}
-use Rattle.leaf_link.specs.Values.{Values, op_number, instr_in, has_address, address_if}
+use Rattle.leaf_link.specs.Values.{Values, instr_in, has_address, address_if}
+use Rattle.rv_isa.specs.Numbers.{op_number}
 use Rattle.leaf_link.specs.Candidates.{all_met, is_met, is_named, registers_from}
 use Rattle.tpl_ast.specs.Leaves.{same_var, var_number}
 use Rattle.leaf_link.specs.Cases.{Shape, all_judged, all_relate, all_tests, is_judged, is_relative, is_value_named, relates, tests, uses, uses_condition, uses_rs1, uses_rs2, value_at}
@@ -88,7 +89,6 @@ target_shown false false u near a imm = refl
 
 -- the value of each variable
 pub shown : (t : Turn) (s : Shape) (pa : ℕ) (x : Values) (m : Moment) → Shows t s pa x m → (v : Var) → value_of v m ≡ when (uses s v) (value_at s t.fixed.pc pa x v)
-unfolding op_number
 shown t s pa x m h vars.Op = ap (λ (o : Option Instr). Rattle.tpl_admit.specs.Variables.op_in o) h.read ∙ ap (λ (op : Op). Some (op_number op)) h.op_is
 shown t s pa x m h vars.Rs1 = ap (λ (o : Option Instr). field has_rs1 (λ i. i.rs1) o) h.read ∙ ap (λ (op : Op). when (has_rs1 (row_of op)) (x slots.Rs1)) h.op_is
 shown t s pa x m h vars.Rs2 = ap (λ (o : Option Instr). field has_rs2 (λ i. i.rs2) o) h.read ∙ ap (λ (op : Op). when (has_rs2 (row_of op)) (x slots.Rs2)) h.op_is

@@ -20,10 +20,11 @@ use Rattle.fd_prob.specs.declared.slot.Slot.{Slot}
 use Rattle.fd_prob.specs.declared.slot.Slot.TheVariants as slots
 use Rattle.fd_prob.specs.Fitting.{fits, fits_case, is_within}
 use Rattle.fd_prob.specs.Order.{pivot_of, rank}
-use Rattle.fd_prob.specs.Relations.{holds, op_numbered, value_of}
+use Rattle.fd_prob.specs.Relations.{holds, value_of}
+use Rattle.rv_isa.specs.Numbers.{op_numbered, op_number}
 use Rattle.fd_prob.specs.Spaces.{space}
 use Rattle.leaf_link.specs.Turns.{Turn}
-use Rattle.leaf_link.specs.Values.{Values, new_places, op_number}
+use Rattle.leaf_link.specs.Values.{Values, new_places}
 use Rattle.leaf_link.specs.Candidates.{IsCandidate}
 use Rattle.leaf_link.specs.Cases.{Fits, all_tests, code_at, in_word}
 use Rattle.leaf_link.specs.Answers.{ComesBeforeIn}

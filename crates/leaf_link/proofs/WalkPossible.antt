@@ -25,23 +25,23 @@ use Rattle.sv_walk.specs.Translation.{Reached, At, Fails, arrived, translated, f
 use Rattle.addr_rows.specs.Walks.{EntryRow, end_at, entry_answers}
 use Rattle.rv_hart.specs.Machine.{at_address, data_view, fetch_view, fetched_at, instruction, load_at, load_row, script}
 use Rattle.rv_hart.specs.Privileged.{trap}
-use Rattle.fd_prob.specs.Relations.{op_numbered}
+use Rattle.rv_isa.specs.Numbers.{op_numbered, op_number}
 use Rattle.fd_prob.specs.declared.slot.Slot.TheVariants as slots
 use Rattle.leaf_link.specs.Turns.{in_frames, is_second_form, may_start}
-use Rattle.leaf_link.specs.Values.{Values, fixed_value, given_by, new_places, op_number}
+use Rattle.leaf_link.specs.Values.{Values, fixed_value, given_by, new_places}
 use Rattle.leaf_link.specs.KindLaws.{IsPosed}
 use Rattle.leaf_link.specs.Reaching.{AreRows, Walks}
 use Rattle.leaf_link.specs.Fetches.{fetch_places, fetch_script}
 use Rattle.leaf_link.specs.FetchRows.{AreFetchRows, FetchRow, FetchWalks, entry_values}
 use Rattle.leaf_link.specs.Witnesses.{IsPossible, load_leaf}
-use Rattle.leaf_link.specs.WalkWitnesses.{HaveWalks, IsFaultPossible, IsFetchPossible, fetch_page_rows, fetch_turn, invalid_page, load_fetch, load_turn, new_page, page, page_fault, page_rows, paged_known, pointer}
+use Rattle.leaf_link.specs.WalkWitnesses.{IsFaultPossible, IsFetchPossible, fetch_page_rows, fetch_turn, invalid_page, load_fetch, load_turn, new_page, page, page_fault, page_rows, paged_known, pointer}
 use Rattle.leaf_link.proofs.Front.{same_done}
 use Rattle.leaf_link.proofs.FetchFits.{fetch_problems_are_exact}
 use Rattle.leaf_link.proofs.FaultFits.{fault_problems_are_exact}
 use Rattle.leaf_link.proofs.Possible.{all_in, candidate_of, fits_by, is_in_atom, plain_in}
 
 -- WHAT IS KNOWN
-words : (place : Place) (v : ℕ) → paged_known place ≡ Some v → v < 2 ^ 32
+pub words : (place : Place) (v : ℕ) → paged_known place ≡ Some v → v < 2 ^ 32
 words (Reg n) v h = go (eqb n 0) (eqb n 1) h
   where
     go : (b c : Bool) → (if b then Some 0 else (if c then Some 0x1100 else None)) ≡ Some v → v < 2 ^ 32
@@ -56,7 +56,7 @@ words (Word addr) v h = go (eqb (addr / 4096) 0x8_0001) (eqb addr 0x8000_2000) h
     go false true h = let z : page ≡ v = cc in subst (λ (n : ℕ). n < 2 ^ 32) z (omega arith)
     go false false h = absurd (cc)
 
-fixed : (access : CsrAccess) → fixed_value load_turn.fixed access < 2 ^ 32
+pub fixed : (access : CsrAccess) → fixed_value load_turn.fixed access < 2 ^ 32
 fixed (Granted Sstatus) = omega arith
 fixed (Granted Satp) = omega arith
 fixed (Granted Mstatus) = omega arith
@@ -71,29 +71,29 @@ unfolding translated from_root from_pointer second_end op_number all_in is_in_at
 posed = record { fetched = record { translates = refl; aligned = refl }; words = words; fixed = fixed; plain = plain_in (load_leaf 1) refl }
 
 -- THE TWO QUESTIONS OF AN ADDRESS
-abbrev view : View
+abbrev pub view : View
 view = data_view load_turn.fixed
 
 -- the index of the second entry
-abbrev index : ℕ → ℕ
+abbrev pub index : ℕ → ℕ
 index ea = ea / 2 ^ 12 % 2 ^ 10
 
-abbrev root_question : Kind → ℕ → Question
+abbrev pub root_question : Kind → ℕ → Question
 root_question kind ea = OfMemory (root_label kind) (root_address view ea) 4
 
-abbrev second_question : Kind → ℕ → Question
+abbrev pub second_question : Kind → ℕ → Question
 second_question kind ea = OfMemory (second_label kind) (second_address ea pointer) 4
 
-index_small : (ea : ℕ) → index ea < 1024
+pub index_small : (ea : ℕ) → index ea < 1024
 index_small ea = omega arith
 
 root_small : (ea : ℕ) → ea < 2 ^ 32 → ea / 2 ^ 22 < 1024
 root_small ea less = omega (arith, less)
 
-root_known : (kind : Kind) (ea : ℕ) → ea < 2 ^ 32 → paged_known (place_of (root_question kind ea)) ≡ Some pointer
+pub root_known : (kind : Kind) (ea : ℕ) → ea < 2 ^ 32 → paged_known (place_of (root_question kind ea)) ≡ Some pointer
 root_known kind ea less = ap (λ (b : Bool). if b then Some pointer else (if eqb (word_address (root_address view ea)) 0x8000_2000 then Some page else None)) (eq-eqb _ _ (let s = root_small ea less in omega (arith, s)))
 
-second_known : (kind : Kind) (ea : ℕ) → paged_known (place_of (second_question kind ea)) ≡ (if eqb (index ea) 0 then Some page else None)
+pub second_known : (kind : Kind) (ea : ℕ) → paged_known (place_of (second_question kind ea)) ≡ (if eqb (index ea) 0 then Some page else None)
 second_known kind ea =
     ap (λ (b : Bool). if b then Some pointer else (if eqb (word_address (second_address ea pointer)) 0x8000_2000 then Some page else None)) (ne_eqb _ _ (λ same. let s = index_small ea in omega (arith, s, same)))
     ∙ go (eqb (index ea) 0) refl
@@ -102,14 +102,14 @@ second_known kind ea =
     go true e = ap (λ (c : Bool). if c then Some page else None) (eq-eqb _ _ (let z = eqb-true (index ea) 0 e in omega (arith, z)))
     go false e = ap (λ (c : Bool). if c then Some page else None) (ne_eqb _ _ (λ same. let z : index ea ≡ 0 = omega (arith, same) in let y = eq-eqb (index ea) 0 z in absurd (cc)))
 
-root_told : (kind : Kind) (ea : ℕ) → told_of (root_question kind ea) pointer ≡ pointer
+pub root_told : (kind : Kind) (ea : ℕ) → told_of (root_question kind ea) pointer ≡ pointer
 root_told kind ea = ap (λ (n : ℕ). pointer / 256 ^ n % 256 ^ 4) (let z : root_address view ea % 4 ≡ 0 = omega arith in z)
 
-second_told : (kind : Kind) (ea : ℕ) → told_of (second_question kind ea) page ≡ page
+pub second_told : (kind : Kind) (ea : ℕ) → told_of (second_question kind ea) page ≡ page
 second_told kind ea = ap (λ (n : ℕ). page / 256 ^ n % 256 ^ 4) (let z : second_address ea pointer % 4 ≡ 0 = omega arith in z)
 
 -- THE WALK
-abbrev walked : Kind → (Label → ℕ) → ℕ → List Entry
+abbrev pub walked : Kind → (Label → ℕ) → ℕ → List Entry
 walked kind given ea = answer paged_known given (root_question kind ea) ∷ answer paged_known given (second_question kind ea) ∷ []
 
 asks_root : (kind : Kind) (ea : ℕ) → ea < 2 ^ 32 → translated load_turn.fixed.ram view kind ea ≡ Ask (root_question kind ea) (λ root. from_root load_turn.fixed.ram view kind ea root)
@@ -122,7 +122,7 @@ unfolding from_root from_pointer
 asks_second kind ea =
     ap (λ (b : Bool). if b && true then Ask (second_question kind ea) (λ second. Done (second_end load_turn.fixed.ram view kind ea second)) else Done (Fails (access_cause kind))) (lt-ltb (second_address ea pointer) (2 ^ 32) (let s = index_small ea in omega (arith, s)))
 
-walk_is : (kind : Kind) (given : Label → ℕ) (ea : ℕ) → ea < 2 ^ 32
+pub walk_is : (kind : Kind) (given : Label → ℕ) (ea : ℕ) → ea < 2 ^ 32
     → answer_told (by_answers paged_known given) (translated load_turn.fixed.ram view kind ea)
     ≡ Does (walked kind given ea) (second_end load_turn.fixed.ram view kind ea (told_of (second_question kind ea) (value_or (paged_known (place_of (second_question kind ea))) (given (second_label kind)))))
 walk_is kind given ea less =
@@ -142,17 +142,17 @@ page_open ForFetch = refl
 page_open ForLoad = refl
 page_open ForStore = refl
 
-abbrev led : ℕ → ℕ
+abbrev pub led : ℕ → ℕ
 led ea = 0x8000_0000 + ea % 2 ^ 12
 
-page_end : (kind : Kind) (ea : ℕ) → second_end load_turn.fixed.ram view kind ea page ≡ At (led ea)
+pub page_end : (kind : Kind) (ea : ℕ) → second_end load_turn.fixed.ram view kind ea page ≡ At (led ea)
 unfolding second_end
 page_end kind ea =
     ap (λ (b : Bool). if b then Fails (page_cause kind) else arrived load_turn.fixed.ram kind (led ea)) (page_open kind)
     ∙ ap (λ (b : Bool). if b && true then At (led ea) else Fails (access_cause kind)) (lt-ltb (led ea) (2 ^ 32) (omega arith))
 
 -- ROWS
-abbrev second_value : Kind → ℕ → ℕ → ℕ
+abbrev pub second_value : Kind → ℕ → ℕ → ℕ
 second_value kind ea second = value_or (paged_known (place_of (second_question kind ea))) second
 
 -- the second entry is the page, known or new
@@ -170,27 +170,27 @@ end_is kind ea second h =
     ∙ page_end kind ea
 
 -- the first new value is 0, and the second one is what it is
-first_new : (kind : Kind) (given : Label → ℕ) (ea : ℕ) → ea < 2 ^ 32 → root_label kind ≡ DataRoot → new_value paged_known (labelled (walked kind given ea) DataRoot) ≡ 0
+pub first_new : (kind : Kind) (given : Label → ℕ) (ea : ℕ) → ea < 2 ^ 32 → root_label kind ≡ DataRoot → new_value paged_known (labelled (walked kind given ea) DataRoot) ≡ 0
 first_new ForFetch given ea less h = absurd (cc)
 first_new ForLoad given ea less h = ap (λ (o : Option ℕ). if_new o (value_or o (given DataRoot))) (root_known ForLoad ea less)
 first_new ForStore given ea less h = ap (λ (o : Option ℕ). if_new o (value_or o (given DataRoot))) (root_known ForStore ea less)
 
-second_new : (kind : Kind) (first second ea : ℕ) → root_label kind ≡ DataRoot
+pub second_new : (kind : Kind) (first second ea : ℕ) → root_label kind ≡ DataRoot
     → new_value paged_known (labelled (walked kind (entry_answers first second) ea) DataSecond) ≡ if_new (paged_known (place_of (second_question kind ea))) (second_value kind ea second)
 second_new ForFetch first second ea h = absurd (cc)
 second_new ForLoad first second ea h = refl
 second_new ForStore first second ea h = refl
 
-given_second : (kind : Kind) (first second : ℕ) → root_label kind ≡ DataRoot → entry_answers first second (second_label kind) ≡ second
+pub given_second : (kind : Kind) (first second : ℕ) → root_label kind ≡ DataRoot → entry_answers first second (second_label kind) ≡ second
 given_second ForFetch first second h = absurd (cc)
 given_second ForLoad first second h = refl
 given_second ForStore first second h = refl
 
 -- the second entry is one of the table frame
-in_table : (kind : Kind) (ea : ℕ) → in_frames load_turn.tables (word_address (second_address ea pointer)) ≡ true
+pub in_table : (kind : Kind) (ea : ℕ) → in_frames load_turn.tables (word_address (second_address ea pointer)) ≡ true
 in_table kind ea = ap (λ (b : Bool). b || false) (eq-eqb _ _ (let s = index_small ea in omega (arith, s)))
 
-twice : (b : Bool) → ((b || false) || false) ≡ true → b ≡ true
+pub twice : (b : Bool) → ((b || false) || false) ≡ true → b ≡ true
 twice true h = refl
 twice false h = h
 
@@ -208,7 +208,7 @@ second_may ForFetch i ea v h may = absurd (cc)
 second_may ForLoad i ea v h may = form_is v (and_parts _ _ (and_parts _ _ may).1).1
 second_may ForStore i ea v h may = form_is v (and_parts _ _ (and_parts _ _ may).1).1
 
-coherent_at : (kind : Kind) (given : Label → ℕ) (ea : ℕ) → paged_known (place_of (root_question kind ea)) ≡ Some pointer → Coherent paged_known (walked kind given ea)
+pub coherent_at : (kind : Kind) (given : Label → ℕ) (ea : ℕ) → paged_known (place_of (root_question kind ea)) ≡ Some pointer → Coherent paged_known (walked kind given ea)
 coherent_at kind given ea root e f i j none place = elim i [
   | inl q ↦ let gone : paged_known (place_of (root_question kind ea)) ≡ None = ap (λ (z : Entry). paged_known (entry_place z)) q ∙ none in absurd (cc)
   | inr i ↦ elim i [
@@ -223,7 +223,7 @@ coherent_at kind given ea root e f i j none place = elim i [
   ]
 ]
 
-abbrev some_instr : Instr
+abbrev pub some_instr : Instr
 some_instr = record { op = Lw; rd = 0; rs1 = 0; rs2 = 0; imm = 0; csr = 0 }
 
 -- the second value is the one of the row
@@ -263,7 +263,7 @@ page_walks kind ea first second is_data less f s =
     new_is true e = ap (λ (c : Bool). if c then 0 else page) (sym e)
     new_is false e = s
 
-pages_are_rows : (kind : Kind) → root_label kind ≡ DataRoot → AreRows load_turn (λ ea. true) kind page_rows
+pub pages_are_rows : (kind : Kind) → root_label kind ≡ DataRoot → AreRows load_turn (λ ea. true) kind page_rows
 pages_are_rows kind is_data = record {
   sound = λ row i ea first second less h. elim i [
     | inl q ↦
@@ -299,7 +299,7 @@ load_values slots.SecondPte = page
 load_values slots.DataWord = 7
 load_values _ = 0
 
-load_possible : IsPossible load_turn load_fetch 0x8000_0000 (load_leaf 1) (Word 0x8000_2004) page
+pub load_possible : IsPossible load_turn load_fetch 0x8000_0000 (load_leaf 1) (Word 0x8000_2004) page
 unfolding script at_address translated from_root from_pointer second_end fetched_at instruction decoded load_row load_at op_number op_numbered
 load_possible = record {
   posed = posed;
@@ -394,7 +394,7 @@ fetches_are_rows = record {
       ];
 }
 
-fetch_possible : IsFetchPossible
+pub fetch_possible : IsFetchPossible
 unfolding translated from_root from_pointer second_end
 fetch_possible = record {
   new = fetch_places fetch_turn (entry_values 0 page);
@@ -407,23 +407,11 @@ fault_answers slots.SecondPte = invalid_page
 fault_answers slots.Vector = 0x8000_0200
 fault_answers _ = 0
 
-fault_possible : IsFaultPossible
+pub fault_possible : IsFaultPossible
 unfolding script at_address translated from_root from_pointer second_end trap
 fault_possible = record {
   new = new_places fetch_turn.fixed fetch_turn.known fault_answers;
   candidate = (fault_problems_are_exact fetch_turn page_fault fetch_page_rows fetches_are_rows).into fault_answers (inl (fits_by _ _ refl refl refl));
   starts = refl;
   vector = refl;
-}
-
-pub have_walks : HaveWalks
-have_walks = record {
-  loads = pages_are_rows ForLoad refl;
-  stores = pages_are_rows ForStore refl;
-  load = load_possible;
-  fetches = fetches_are_rows;
-  untouched = refl;
-  vector = refl;
-  fetch = fetch_possible;
-  fault = fault_possible;
 }

@@ -8,9 +8,10 @@ use Rattle.rv_script.specs.Lists.{HasItem}
 use Rattle.rv_script.specs.Folds.{Entry}
 use Rattle.tpl_ast.specs.declared.template.Atom.{Atom}
 use Rattle.fd_prob.specs.declared.slot.Slot.{Slot}
-use Rattle.fd_prob.specs.Relations.{op_numbered}
+use Rattle.rv_isa.proofs.Numbers.{small}
+use Rattle.rv_isa.specs.Numbers.{op_numbered, op_number}
 use Rattle.leaf_link.specs.Turns.{Turn}
-use Rattle.leaf_link.specs.Values.{Values, instr_in, new_places, op_number}
+use Rattle.leaf_link.specs.Values.{Values, instr_in, new_places}
 use Rattle.leaf_link.specs.Candidates.{IsCandidate}
 use Rattle.leaf_link.specs.Cases.{Case, Fits, Way, cases_of}
 use Rattle.leaf_link.specs.Ways.{IsWays}
@@ -56,9 +57,7 @@ of_one t walk pa leaf ways (o ∷ ops) x op i f = elim i [
 
 -- ALL OPERATIONS
 pub below_58 : (op : Op) → op_number op < 58
-unfolding op_number
-below_58 Lui = omega arith
-below_58 _ = omega arith
+below_58 = small
 
 has_at : {A : Type 0} (xs : List A) (n : ℕ) (d : A) → n < length xs → HasItem xs (slice_index_or xs n d)
 has_at [] n d h = absurd (omega (arith, h))

@@ -13,7 +13,7 @@ use Rattle.fd_prob.specs.Relations.{value_of}
 use Rattle.fd_solve.specs.declared.answers.LeafAnswer.{LeafAnswer}
 use Rattle.fd_solve.specs.declared.answers.Solved.TheVariants as answers
 use Rattle.fd_solve.specs.Answers.{IsLeafAnswer}
-use Rattle.leaf_link.specs.Values.{op_number}
+use Rattle.rv_isa.specs.Numbers.{op_number}
 use Rattle.leaf_link.specs.Cases.{HasSources}
 use Rattle.leaf_link.specs.KindLaws.{IsPosed}
 use Rattle.leaf_link.specs.Reaching.{AreRows, HasPages}

@@ -25,7 +25,8 @@ use Rattle.tpl_admit.specs.Variables.{is_jalr}
 use Rattle.fd_prob.specs.declared.slot.Slot.{Slot}
 use Rattle.fd_prob.specs.declared.slot.Slot.TheVariants as slots
 use Rattle.leaf_link.specs.Turns.{Turn, in_frames, is_free_entry, may_be_source}
-use Rattle.leaf_link.specs.Values.{Values, instr_in, op_number, has_address}
+use Rattle.leaf_link.specs.Values.{Values, instr_in, has_address}
+use Rattle.rv_isa.specs.Numbers.{op_number}
 
 -- WHAT A STEP USES, by its operation and its outcome, and whether it makes a data access
 

@@ -18,7 +18,8 @@ use Rattle.fd_prob.specs.declared.slot.Slot.{Slot}
 use Rattle.fd_prob.specs.Extras.{extended}
 use Rattle.fd_prob.specs.Fitting.{IsProblem, fits_case}
 use Rattle.fd_prob.specs.Order.{IsAssignment}
-use Rattle.fd_prob.specs.Relations.{holds, op_numbered, value_of}
+use Rattle.fd_prob.specs.Relations.{holds, value_of}
+use Rattle.rv_isa.specs.Numbers.{op_numbered}
 use Rattle.fd_prob.specs.Slots.{slot_number}
 use Rattle.fd_solve.specs.declared.answers.LeafAnswer.{LeafAnswer}
 use Rattle.fd_solve.specs.declared.answers.Solved.{Solved}

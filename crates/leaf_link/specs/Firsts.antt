@@ -6,7 +6,7 @@ use Rattle.rv_isa.specs.declared.operation.Op.{Op}
 use Rattle.rv_isa.specs.declared.operation.Op.TheVariants.{Mret, Sret}
 use Rattle.rv_isa.specs.declared.operation.TheConstants.{OPS}
 use Rattle.rv_isa.specs.declared.table.Row.{Row}
-use Rattle.rv_isa.specs.declared.table.Row.TheVariants.{U, J}
+use Rattle.rv_isa.specs.declared.table.Row.TheVariants.{U, J, R, I, Shift, S, B, Csr as CsrRow, CsrImmediate, FenceSets, AddressFence, Fixed as Whole, DefinedIllegal}
 use Rattle.rv_isa.specs.Fields.{has_csr, has_imm, has_rs1, has_rs2, reads_rs1, reads_rs2}
 use Rattle.rv_isa.specs.Reading.{decoded}
 use Rattle.rv_isa.specs.Table.{row_of}
@@ -27,14 +27,14 @@ use Rattle.fd_prob.specs.declared.slot.Slot.TheVariants as slots
 use Rattle.fd_prob.specs.declared.slot.TheConstants.{SLOTS}
 use Rattle.fd_prob.specs.Fitting.{IsProblem, domain_of}
 use Rattle.fd_prob.specs.Order.{picked, pivot_of, rank}
-use Rattle.fd_prob.specs.Relations.{op_numbered}
+use Rattle.rv_isa.specs.Numbers.{op_numbered, op_number}
 use Rattle.fd_prob.specs.Slots.{slot_number}
 use Rattle.fd_prob.specs.Spaces.{saturated, source_of, space, sum_of}
 use Rattle.rv_script.specs.Lists.{HasItem}
 use Rattle.fd_solve.specs.declared.answers.Solved.{Solved}
 use Rattle.fd_solve.specs.Answers.{IsAnswer}
 use Rattle.leaf_link.specs.Turns.{Turn, is_first_form, is_second_form}
-use Rattle.leaf_link.specs.Values.{Values, has_address, new_places, op_number}
+use Rattle.leaf_link.specs.Values.{Values, has_address, new_places}
 use Rattle.leaf_link.specs.Candidates.{IsCandidate}
 use Rattle.leaf_link.specs.Cases.{Case, all_tests, code_at, in_format, in_read, or_no}
 use Rattle.leaf_link.specs.KindLaws.{IsPosed}
@@ -107,7 +107,17 @@ domain_size t pa leaf op s = length (domain_list t pa leaf op s)
 abbrev pub counts_imm : Row → Bool
 counts_imm (U opcode) = false
 counts_imm (J opcode) = false
-counts_imm row = has_imm row
+counts_imm (R opcode funct3 funct7) = false
+counts_imm (I opcode funct3) = true
+counts_imm (Shift opcode funct3 funct7) = true
+counts_imm (S opcode funct3) = true
+counts_imm (B opcode funct3) = true
+counts_imm (CsrRow opcode funct3) = false
+counts_imm (CsrImmediate opcode funct3) = true
+counts_imm (FenceSets opcode funct3) = true
+counts_imm (AddressFence opcode funct3 funct7) = false
+counts_imm (Whole word) = false
+counts_imm DefinedIllegal = true
 
 abbrev pub size_if : Bool → ℕ → ℕ
 size_if true n = n

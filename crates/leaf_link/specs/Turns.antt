@@ -4,7 +4,7 @@ use Rattle.std.specs.List.{list_any}
 use Rattle.dom_set.specs.Elements.{elements_of, is_in}
 use Rattle.rv_isa.specs.declared.instruction.Instr.{Instr}
 use Rattle.rv_isa.specs.declared.table.Row.{Row}
-use Rattle.rv_isa.specs.declared.table.Row.TheVariants.{Csr as CsrRow}
+use Rattle.rv_isa.specs.declared.table.Row.TheVariants.{Csr as CsrRow, R, I, Shift, S, B, U, J, CsrImmediate, FenceSets, AddressFence, Fixed as Whole, DefinedIllegal}
 use Rattle.rv_isa.specs.Table.{row_of}
 use Rattle.rv_csr.specs.Table.{is_legal_at}
 use Rattle.rv_script.specs.declared.access.Access.{Access}
@@ -85,7 +85,18 @@ may_be_old t addr v = if holds_address addr then is_in t.vectors v else is_legal
 -- the instruction writes mstatus, sstatus, medeleg, satp, mcause or scause from a register
 abbrev pub is_narrow : Row → ℕ → Bool
 is_narrow (CsrRow opcode funct3) addr = addr == 0x300 || addr == 0x100 || addr == 0x302 || addr == 0x180 || addr == 0x342 || addr == 0x142
-is_narrow row addr = false
+is_narrow (R opcode funct3 funct7) addr = false
+is_narrow (I opcode funct3) addr = false
+is_narrow (Shift opcode funct3 funct7) addr = false
+is_narrow (S opcode funct3) addr = false
+is_narrow (B opcode funct3) addr = false
+is_narrow (U opcode) addr = false
+is_narrow (J opcode) addr = false
+is_narrow (CsrImmediate opcode funct3) addr = false
+is_narrow (FenceSets opcode funct3) addr = false
+is_narrow (AddressFence opcode funct3 funct7) addr = false
+is_narrow (Whole word) addr = false
+is_narrow DefinedIllegal addr = false
 
 -- at most 4,096 values pass
 unfoldable pub is_small : (ℕ → Bool) → Bool

@@ -3,12 +3,10 @@ use Rattle.std.specs.Prelude.{ℕ, ◌+◌, ◌%◌, ◌^◌, Bool, true, false,
 use Rattle.std.specs.Option.{unwrap_or}
 use Rattle.rv_isa.specs.declared.instruction.Instr.{Instr}
 use Rattle.rv_isa.specs.declared.operation.Op.{Op}
-use Rattle.rv_isa.specs.declared.operation.TheConstants.{OPS}
 use Rattle.rv_isa.specs.declared.table.Row.{Row}
-use Rattle.rv_isa.specs.declared.table.Row.TheVariants.{Csr as CsrRow, CsrImmediate}
+use Rattle.rv_isa.specs.declared.table.Row.TheVariants.{Csr as CsrRow, CsrImmediate, R, I, Shift, S, B, U, J, FenceSets, AddressFence, Fixed as Whole, DefinedIllegal}
 use Rattle.rv_isa.specs.Encoding.{word_of}
 use Rattle.rv_isa.specs.Fields.{is_load, is_store}
-use Rattle.rv_isa.specs.Names.{name_of}
 use Rattle.rv_isa.specs.Table.{row_of}
 use Rattle.rv_csr.specs.declared.access.CsrAccess.{CsrAccess}
 use Rattle.rv_csr.specs.declared.access.CsrAccess.TheVariants.{Granted, Denied, Outside as NotModelled}
@@ -20,19 +18,14 @@ use Rattle.rv_script.specs.Folds.{Known, Entry}
 use Rattle.rv_hart.specs.Fixed.{Fixed, fixed_csrs}
 use Rattle.rv_hart.specs.Privileged.{reads_csr, writes_csr}
 use Rattle.rv_hart.specs.Machine.{script}
-use Rattle.tpl_ast.specs.Sets.{op_number_among}
+use Rattle.rv_isa.specs.Numbers.{op_number, op_numbered}
 use Rattle.fd_prob.specs.declared.slot.Slot.{Slot}
 use Rattle.fd_prob.specs.declared.slot.Slot.TheVariants as slots
-use Rattle.fd_prob.specs.Relations.{op_numbered}
 use Rattle.rv_script.specs.Logs.{answer_told, log_of, labelled, started, by_answers, new_value, value_in}
 
 -- a value for each variable
 abbrev pub Values : Type 0
 Values = Slot → ℕ
-
--- the number of an operation
-unfoldable pub op_number : Op → ℕ
-op_number op = op_number_among (name_of op) OPS
 
 -- the instruction of the fields
 abbrev pub instr_in : Values → Instr
@@ -56,12 +49,33 @@ fixed_value f NotModelled = 0
 
 abbrev pub field_of_operand : Row → Instr → ℕ
 field_of_operand (CsrRow opcode funct3) i = i.rs1
-field_of_operand row i = i.imm
+field_of_operand (R opcode funct3 funct7) i = i.imm
+field_of_operand (I opcode funct3) i = i.imm
+field_of_operand (Shift opcode funct3 funct7) i = i.imm
+field_of_operand (S opcode funct3) i = i.imm
+field_of_operand (B opcode funct3) i = i.imm
+field_of_operand (U opcode) i = i.imm
+field_of_operand (J opcode) i = i.imm
+field_of_operand (CsrImmediate opcode funct3) i = i.imm
+field_of_operand (FenceSets opcode funct3) i = i.imm
+field_of_operand (AddressFence opcode funct3 funct7) i = i.imm
+field_of_operand (Whole word) i = i.imm
+field_of_operand DefinedIllegal i = i.imm
 
 abbrev pub has_csr_operand : Row → Bool
 has_csr_operand (CsrRow opcode funct3) = true
 has_csr_operand (CsrImmediate opcode funct3) = true
-has_csr_operand row = false
+has_csr_operand (R opcode funct3 funct7) = false
+has_csr_operand (I opcode funct3) = false
+has_csr_operand (Shift opcode funct3 funct7) = false
+has_csr_operand (S opcode funct3) = false
+has_csr_operand (B opcode funct3) = false
+has_csr_operand (U opcode) = false
+has_csr_operand (J opcode) = false
+has_csr_operand (FenceSets opcode funct3) = false
+has_csr_operand (AddressFence opcode funct3 funct7) = false
+has_csr_operand (Whole word) = false
+has_csr_operand DefinedIllegal = false
 
 -- what a CSR instruction reads of a CSR for which it does not ask, and else 0
 abbrev pub unasked_csr : Fixed → Instr → ℕ

@@ -15,7 +15,7 @@ use Rattle.tpl_ast.specs.declared.template.Atom.{Atom}
 use Rattle.tpl_ast.specs.declared.template.Atom.TheVariants as atoms
 use Rattle.tpl_ast.specs.declared.template.Var.TheVariants as vars
 use Rattle.leaf_link.specs.Turns.{Turn}
-use Rattle.leaf_link.specs.Values.{op_number}
+use Rattle.rv_isa.specs.Numbers.{op_number}
 use Rattle.leaf_link.specs.Candidates.{IsCandidate}
 use Rattle.leaf_link.specs.Cases.{HasSources}
 use Rattle.leaf_link.specs.KindLaws.{IsPosed}

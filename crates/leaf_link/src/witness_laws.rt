@@ -13,8 +13,8 @@ pub fn leaves_are_possible()
 {}
 
 /// Does nothing. Its contract says that the premises of the laws are met, and there is a candidate, where addresses are
-/// translated: for a load in S whose second page table entry is untouched, for a fetch with an untouched entry, and for
-/// one that fails; and that each candidate starts this entry.
+/// translated: for a load in S whose second page table entry is untouched, for a load and a store that such an entry lets
+/// fail, for a fetch with an untouched entry, and for one that fails; and that each candidate starts this entry.
 pub fn walks_are_possible()
     ensures { HaveWalks }
 {}

@@ -16,6 +16,7 @@ use Rattle.tpl_admit.specs.declared.dropped.Why.TheVariants.{NoneFits, Spent}
 use Rattle.byte_format.specs.Numbers.{half}
 use Rattle.byte_format.specs.Readers.{◌>>=◌, byte_at, word_at, both, ahead, as_at, where_at, counted_at, few_at}
 use Rattle.note_items.specs.Checks.{is_access, is_state}
+use Rattle.tpl_ast.specs.Limits.{file_limits}
 
 -- ---- numbers that stand for a case
 
@@ -70,7 +71,7 @@ record_of t = outcome_of t.1.0.1.0 t.1.0.1.1.0 t.1.1.0.1 >>= λ outcome. rd_of t
     Some (record { pc = t.0.0; privilege = t.1.0.0; word = t.0.1.0; outcome = outcome; rd = rd; accesses = t.1.1.1; next_pc = t.0.1.1 })
 
 unfoldable pub record_at : List ℕ → Option (Record × List ℕ)
-record_at = as_at record_of (both place_at (both marks_at (both values_at (few_at 8 access_at))))
+record_at = as_at record_of (both place_at (both marks_at (both values_at (few_at file_limits.accesses access_at))))
 
 -- the records of one hart
 unfoldable pub trace_at : List ℕ → Option (List Record × List ℕ)

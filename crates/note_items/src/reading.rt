@@ -2,6 +2,7 @@
 ghost use Rattle.std.specs.Prelude.{◌≡◌, ◌≤◌, IfErr};
 ghost use Rattle.byte_format.specs.Readers.{Gives, word_at, times, counted_at, few_at, with_front};
 ghost use Rattle.note_items.specs.Readers.{priv_of, role_of, outcome_of, rd_of, priv_at, pair_at, state_at, access_at, place_at, marks_at, values_at, record_at, trace_at, why_of, drop_at};
+ghost use Rattle.tpl_ast.specs.Limits.{file_limits};
 
 use crate::checks::{is_access, is_state};
 use byte_format::{PieceError, after_half, byte_of, word_of};
@@ -10,10 +11,7 @@ use rv_hart::{Outcome, Priv, Record};
 use rv_script::{Access, Accesses, Role};
 use std::alloc::Global;
 use tpl_admit::{Dropped, HartState, Why};
-use tpl_ast::Items;
-
-/// How many accesses a record may have.
-const MAX_ACCESSES: u32 = 8;
+use tpl_ast::{Items, MAX_ACCESSES};
 
 fn priv_from(n: u32) -> Result<Priv, PieceError>
     ensures gives { Gives (λ x. x) result (priv_of n) }
@@ -180,7 +178,7 @@ fn access_of(bytes: &[u8]) -> Result<(Access, &[u8]), PieceError>
 }
 
 fn accesses_in(count: u32, bytes: &[u8]) -> Result<(Accesses, &[u8]), PieceError>
-    requires { count ≤ 8 }
+    requires { count ≤ file_limits.accesses }
     ensures gives { Gives (λ x. (x.0, x.1.now)) result (times access_at count bytes.now) }
     ensures malformed { IfErr result (λ e. e ≡ PieceError.Malformed) }
 {
@@ -196,11 +194,11 @@ fn accesses_in(count: u32, bytes: &[u8]) -> Result<(Accesses, &[u8]), PieceError
 
 #[tactic(auto, unfolding(byte_format::specs::Readers::few_at))]
 fn accesses_of(bytes: &[u8]) -> Result<(Accesses, &[u8]), PieceError>
-    ensures gives { Gives (λ x. (x.0, x.1.now)) result (few_at 8 access_at bytes.now) }
+    ensures gives { Gives (λ x. (x.0, x.1.now)) result (few_at file_limits.accesses access_at bytes.now) }
     ensures malformed { IfErr result (λ e. e ≡ PieceError.Malformed) }
 {
     let (count, rest) = word_of(bytes)?;
-    if count > MAX_ACCESSES {
+    if count > MAX_ACCESSES as u32 {
         return Err(PieceError::Malformed);
     }
     accesses_in(count, rest)

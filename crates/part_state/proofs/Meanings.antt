@@ -304,7 +304,7 @@ number_csr addr v b = go (register_at addr)
     go (Some Mhartid) = refl
     go (Some (Lazy r)) = refl
 
-csr_partial : (k addr v : ℕ) (w : Whole) → HasHart k w → IsFit (first_of k w) → IsFit (hart_of k w) → IsCsrUntouched k addr w
+pub csr_partial : (k addr v : ℕ) (w : Whole) → HasHart k w → IsFit (first_of k w) → IsFit (hart_of k w) → IsCsrUntouched k addr w
     → partial_of (csr_given k addr v w) ≡ place_started k (csr_key addr) v (partial_of w)
 csr_partial k addr v w has first fit untouched = same_partial (partial_of (csr_given k addr v w)) (place_started k (csr_key addr) v (partial_of w)) (record {
   count = length-set w.harts k (with_csr addr v (hart_of k w));

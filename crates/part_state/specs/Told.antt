@@ -9,6 +9,7 @@ use Rattle.tpl_admit.specs.WellFormed.{IsRecord, AreNamed, AreDropped}
 use Rattle.part_machine.specs.Whole.{Whole}
 use Rattle.part_told.specs.Finishing.{known_from, told_state}
 use Rattle.part_told.specs.Words.{ListsWords}
+use Rattle.tpl_ast.specs.Limits.{file_limits}
 
 -- it has the start, the records, the names, the choices and the dropped biases of the test, and where the test stands as its end
 pub record Tells (t : Template) (w : Whole) (c : Cert) : Type 0 where
@@ -24,11 +25,11 @@ pub record Tells (t : Template) (w : Whole) (c : Cert) : Type 0 where
 
 -- what else has to be known so that it has a file: limits, and what depends on the template's names and on who dropped biases
 pub record FitsFile (c : Cert) : Type 0 where
-  pub size : file_size c ≤ 8388608
+  pub size : file_size c ≤ file_limits.size
   pub records : AllByRecursion (λ t. AllByRecursion IsRecord t) c.traces
-  pub steps : sum_by (λ t. length t) c.traces ≤ 8192
-  pub words_count : length c.words ≤ 60000
-  pub choices_count : length c.choices ≤ 8192
+  pub steps : sum_by (λ t. length t) c.traces ≤ file_limits.records
+  pub words_count : length c.words ≤ file_limits.words
+  pub choices_count : length c.choices ≤ file_limits.choices
   pub names : AreNamed c.template.names 0 c.names
-  pub dropped_count : length c.dropped ≤ 262144
+  pub dropped_count : length c.dropped ≤ file_limits.dropped
   pub dropped : AreDropped (length c.start) 0 c.dropped

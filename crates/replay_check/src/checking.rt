@@ -13,6 +13,7 @@ ghost use Rattle.tpl_admit.specs.Failures.{HartIsRight, HartGoesWrong, AllAreRig
 ghost use Rattle.replay_check.specs.declared.verdict.Verdict.TheVariants.{Yes, No};
 ghost use Rattle.replay_check.specs.Memory.{Shows, ShowsOf, WhereShown, AreInWords};
 ghost use Rattle.replay_check.specs.Replay.{AllEndAs, EndsAs, EndsOtherwise, IsFixedTold, IsReplayed};
+ghost use Rattle.tpl_ast.specs.Limits.{most_records};
 
 use crate::memory::{are_last, memory_of};
 use crate::places::are_told;
@@ -52,7 +53,7 @@ fn trace(cert: &Cert, k: u8) -> &[Record]
     requires well_formed { IsWellFormed cert.now }
     requires there { k < length cert.now.start }
     ensures records { result.now ≡ trace_of cert.now k }
-    ensures count { length result.now ≤ 8192 }
+    ensures count { length result.now ≤ most_records }
 {
     cert.traces.as_slice()[usize::from(k)].as_slice()
 }

@@ -9,6 +9,7 @@ ghost use Rattle.tpl_admit.specs.Races.{footprint_of, footprints_of};
 ghost use Rattle.tpl_admit.specs.WellFormed.{IsWellFormed};
 ghost use Rattle.tpl_admit.specs.Failures.{RacesFrom};
 ghost use Rattle.replay_check.specs.Racing.{with_accesses, RacesAt};
+ghost use Rattle.tpl_ast.specs.Limits.{most_records};
 
 use crate::OutOfMemory;
 use crate::collecting::has_race;
@@ -38,7 +39,7 @@ fn races(feet: &mut FootMap, hart: u8, accesses: &[Access]) -> Result<bool, OutO
 /// Puts the accesses of a hart's records into a footprint, up to the first record whose accesses race.
 fn race_in(feet: &mut FootMap, hart: u8, records: &[Record]) -> Result<Option<u32>, OutOfMemory>
     requires words { AllByRecursion (λ r. All IsInWord r.accesses) records.now }
-    requires count { length records.now ≤ 8192 }
+    requires count { length records.now ≤ most_records }
     ensures footprint { IfOk result (λ o. o ≡ None → (did : ℕ → List AnAccess) → IsFootprint feet.old did → IsFootprint feet.new (with_accesses did hart (footprint_of records.now))) }
     ensures free { IfOk result (λ o. o ≡ None → (did : ℕ → List AnAccess) → IsFootprint feet.old did → IsRaceFree did → IsRaceFree (with_accesses did hart (footprint_of records.now))) }
     ensures races { IfOk result (λ o. (step : ℕ) → o ≡ Some step → (did : ℕ → List AnAccess) → IsFootprint feet.old did → IsRaceFree did → RacesAt did hart records.now step) }

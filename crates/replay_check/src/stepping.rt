@@ -6,6 +6,7 @@ ghost use Rattle.rv_hart.specs.Effects.{IsInWord, seen_after};
 ghost use Rattle.tpl_admit.specs.Races.{footprint_of};
 ghost use Rattle.replay_check.specs.Memory.{Shows, WhereShown, AreInWords};
 ghost use Rattle.replay_check.specs.Replay.{IsSameChange, IsSameRecord, Takes, Strays, TakesAll, StraysAt};
+ghost use Rattle.tpl_ast.specs.Limits.{most_records};
 
 use crate::verdict::Kind;
 use rv_hart::{Hart, Record, Stepped, step};
@@ -73,7 +74,7 @@ fn take(hart: &mut Hart, memory: &mut PartMem, done: &Record) -> Option<u8>
 
 /// Takes the hart's steps, and says where they first are not those of the records.
 pub fn take_all(hart: &mut Hart, memory: &mut PartMem, records: &[Record]) -> Option<Wrong>
-    requires count { length records.now ≤ 8192 }
+    requires count { length records.now ≤ most_records }
     ensures right { WhereShown (part_at memory.old) (λ ram given m. result ≡ None → TakesAll ram given m hart.old hart.new records.now) }
     ensures wrong { WhereShown (part_at memory.old) (λ ram given m. IfSome result (λ w. StraysAt ram given m hart.old records.now w.kind w.step)) }
     ensures memory { WhereShown (part_at memory.old) (λ ram given m. result ≡ None → Shows ram given (memory_after (footprint_of records.now) m) (part_at memory.new)) }

@@ -5,7 +5,7 @@ use Rattle.rv_mem.specs.declared.words.Seen.{Seen}
 use Rattle.rv_mem.specs.declared.words.Seen.TheVariants.{Known as KnownWord, Vacant}
 use Rattle.rv_script.specs.declared.access.Access.{Access}
 use Rattle.rv_script.specs.Bytes.{word_address}
-use Rattle.rv_script.specs.Script.{Label, Label.FetchRoot, Label.FetchSecond, Label.Fetched, Label.DataRoot, Label.DataSecond, Question.OfRegister, Question.OfCsr, Question.OfMemory, Question.ToMemory, place_of, access_of, Script}
+use Rattle.rv_script.specs.Script.{Label, Label.FetchRoot, Label.FetchSecond, Label.Fetched, Label.FromRs1, Label.FromRs2, Label.FromCsr, Label.DataRoot, Label.DataSecond, Label.DataWord, Label.FromVector, Question.OfRegister, Question.OfCsr, Question.OfMemory, Question.ToMemory, place_of, access_of, Script}
 use Rattle.rv_script.specs.Folds.{Known, Teller, Sight, Answer, play}
 use Rattle.sv_walk.specs.declared.entry.Kind.{Kind}
 use Rattle.sv_walk.specs.declared.entry.Kind.TheVariants.{Fetch}
@@ -24,7 +24,11 @@ sighted_for FetchSecond words addr = words 0 addr
 sighted_for Fetched words addr = words 1 addr
 sighted_for DataRoot words addr = words 2 addr
 sighted_for DataSecond words addr = words 2 addr
-sighted_for _ words addr = None
+sighted_for FromRs1 words addr = None
+sighted_for FromRs2 words addr = None
+sighted_for FromCsr words addr = None
+sighted_for DataWord words addr = None
+sighted_for FromVector words addr = None
 
 -- the sights that are given by words: 0 is the role of the page table entries of the fetch, 1 that of the fetched word, 2 that of the page
 -- table entries of the data access

@@ -26,11 +26,13 @@ fn apply<M: Mem>(m: &mut M, x: &Access)
     requires { IsInWord x.now }
     ensures { (n : ℕ) → M.at m.new n ≡ seen_accessed x.now (M.at m.old) n }
 {
-    let Role::Store = x.role else {
-        return;
-    };
-    if let Seen::Known(_) = word_of(m, x.addr) {
-        store(m, x);
+    match x.role {
+        Role::Fetch | Role::Walk | Role::Load => {}
+        Role::Store => {
+            if let Seen::Known(_) = word_of(m, x.addr) {
+                store(m, x);
+            }
+        }
     }
 }
 

@@ -4,7 +4,7 @@ use Rattle.std.specs.Int.{w32, w64, cast_signed, cast_unsigned, int_shr}
 use Rattle.rv_isa.specs.declared.operation.Op.{Op}
 use Rattle.rv_isa.specs.declared.operation.Op.TheVariants.{Beq, Bne, Blt, Bge, Bltu, Bgeu, Addi, Slti, Sltiu, Xori, Ori, Andi, Slli, Srli, Srai, Add, Sub, Sll, Slt, Sltu, Xor, Srl, Sra, Or, And, Mul, Mulh, Mulhsu, Mulhu, Div, Divu, Rem, Remu}
 use Rattle.rv_isa.specs.declared.table.Row.{Row}
-use Rattle.rv_isa.specs.declared.table.Row.TheVariants.{R, I, Shift, B}
+use Rattle.rv_isa.specs.declared.table.Row.TheVariants.{R, I, Shift, B, S, U, J, Csr, CsrImmediate, FenceSets, AddressFence, Fixed, DefinedIllegal}
 use Rattle.rv_isa.specs.Table.{row_of}
 
 -- the opcodes OP and OP-IMM (Unprivileged, 2.4)
@@ -12,7 +12,16 @@ abbrev pub has_result : Row → Bool
 has_result (R opcode funct3 funct7) = opcode == 0x33
 has_result (I opcode funct3) = opcode == 0x13
 has_result (Shift opcode funct3 funct7) = opcode == 0x13
-has_result _ = false
+has_result (S opcode funct3) = false
+has_result (B opcode funct3) = false
+has_result (U opcode) = false
+has_result (J opcode) = false
+has_result (Csr opcode funct3) = false
+has_result (CsrImmediate opcode funct3) = false
+has_result (FenceSets opcode funct3) = false
+has_result (AddressFence opcode funct3 funct7) = false
+has_result (Fixed word) = false
+has_result DefinedIllegal = false
 
 -- the operation computes a word of two words
 abbrev pub is_alu : Op → Bool
@@ -21,7 +30,18 @@ is_alu op = has_result (row_of op)
 -- the opcode BRANCH (Unprivileged, 2.5.2)
 abbrev pub has_condition : Row → Bool
 has_condition (B opcode funct3) = opcode == 0x63
-has_condition _ = false
+has_condition (R opcode funct3 funct7) = false
+has_condition (I opcode funct3) = false
+has_condition (Shift opcode funct3 funct7) = false
+has_condition (S opcode funct3) = false
+has_condition (U opcode) = false
+has_condition (J opcode) = false
+has_condition (Csr opcode funct3) = false
+has_condition (CsrImmediate opcode funct3) = false
+has_condition (FenceSets opcode funct3) = false
+has_condition (AddressFence opcode funct3 funct7) = false
+has_condition (Fixed word) = false
+has_condition DefinedIllegal = false
 
 abbrev pub is_branch : Op → Bool
 is_branch op = has_condition (row_of op)

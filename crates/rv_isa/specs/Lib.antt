@@ -5,3 +5,4 @@ pub mod Reading
 pub mod Laws
 pub mod Arithmetic
 pub mod Names
+pub mod Numbers

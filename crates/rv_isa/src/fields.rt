@@ -13,59 +13,98 @@ impl Op {
     pub fn has_rd(self) -> bool
         ensures { result ≡ has_rd (row_of self) }
     {
-        matches!(
-            row_of(self),
+        match row_of(self) {
             Row::R(..)
-                | Row::I(..)
-                | Row::Shift(..)
-                | Row::U(_)
-                | Row::J(_)
-                | Row::Csr(..)
-                | Row::CsrImmediate(..)
-        )
+            | Row::I(..)
+            | Row::Shift(..)
+            | Row::U(_)
+            | Row::J(_)
+            | Row::Csr(..)
+            | Row::CsrImmediate(..) => true,
+            Row::S(..)
+            | Row::B(..)
+            | Row::FenceSets(..)
+            | Row::AddressFence(..)
+            | Row::Fixed(_)
+            | Row::DefinedIllegal => false,
+        }
     }
 
     /// Whether its words have the field rs1.
     pub fn has_rs1(self) -> bool
         ensures { result ≡ has_rs1 (row_of self) }
     {
-        matches!(
-            row_of(self),
+        match row_of(self) {
             Row::R(..)
-                | Row::I(..)
-                | Row::Shift(..)
-                | Row::S(..)
-                | Row::B(..)
-                | Row::Csr(..)
-                | Row::AddressFence(..)
-        )
+            | Row::I(..)
+            | Row::Shift(..)
+            | Row::S(..)
+            | Row::B(..)
+            | Row::Csr(..)
+            | Row::AddressFence(..) => true,
+            Row::U(_)
+            | Row::J(_)
+            | Row::CsrImmediate(..)
+            | Row::FenceSets(..)
+            | Row::Fixed(_)
+            | Row::DefinedIllegal => false,
+        }
     }
 
     /// Whether its words have the field rs2.
     pub fn has_rs2(self) -> bool
         ensures { result ≡ has_rs2 (row_of self) }
     {
-        matches!(
-            row_of(self),
-            Row::R(..) | Row::S(..) | Row::B(..) | Row::AddressFence(..)
-        )
+        match row_of(self) {
+            Row::R(..) | Row::S(..) | Row::B(..) | Row::AddressFence(..) => true,
+            Row::I(..)
+            | Row::Shift(..)
+            | Row::U(_)
+            | Row::J(_)
+            | Row::Csr(..)
+            | Row::CsrImmediate(..)
+            | Row::FenceSets(..)
+            | Row::Fixed(_)
+            | Row::DefinedIllegal => false,
+        }
     }
 
     /// Whether its words have an immediate.
     pub fn has_imm(self) -> bool
         ensures { result ≡ has_imm (row_of self) }
     {
-        !matches!(
-            row_of(self),
-            Row::R(..) | Row::Csr(..) | Row::AddressFence(..) | Row::Fixed(_)
-        )
+        match row_of(self) {
+            Row::I(..)
+            | Row::Shift(..)
+            | Row::S(..)
+            | Row::B(..)
+            | Row::U(_)
+            | Row::J(_)
+            | Row::CsrImmediate(..)
+            | Row::FenceSets(..)
+            | Row::DefinedIllegal => true,
+            Row::R(..) | Row::Csr(..) | Row::AddressFence(..) | Row::Fixed(_) => false,
+        }
     }
 
     /// Whether its words have the address of a control and status register.
     pub fn has_csr(self) -> bool
         ensures { result ≡ has_csr (row_of self) }
     {
-        matches!(row_of(self), Row::Csr(..) | Row::CsrImmediate(..))
+        match row_of(self) {
+            Row::Csr(..) | Row::CsrImmediate(..) => true,
+            Row::R(..)
+            | Row::I(..)
+            | Row::Shift(..)
+            | Row::S(..)
+            | Row::B(..)
+            | Row::U(_)
+            | Row::J(_)
+            | Row::FenceSets(..)
+            | Row::AddressFence(..)
+            | Row::Fixed(_)
+            | Row::DefinedIllegal => false,
+        }
     }
 
     /// Whether it uses the value of rs1. SFENCE.VMA is for all addresses here and uses none.
@@ -73,8 +112,15 @@ impl Op {
         ensures { result ≡ reads_rs1 (row_of self) }
     {
         match row_of(self) {
-            Row::AddressFence(..) => false,
-            _ => self.has_rs1(),
+            Row::R(..) | Row::I(..) | Row::Shift(..) | Row::S(..) | Row::B(..) | Row::Csr(..) =>
+                true,
+            Row::U(_)
+            | Row::J(_)
+            | Row::CsrImmediate(..)
+            | Row::FenceSets(..)
+            | Row::AddressFence(..)
+            | Row::Fixed(_)
+            | Row::DefinedIllegal => false,
         }
     }
 
@@ -83,8 +129,17 @@ impl Op {
         ensures { result ≡ reads_rs2 (row_of self) }
     {
         match row_of(self) {
-            Row::AddressFence(..) => false,
-            _ => self.has_rs2(),
+            Row::R(..) | Row::S(..) | Row::B(..) => true,
+            Row::I(..)
+            | Row::Shift(..)
+            | Row::U(_)
+            | Row::J(_)
+            | Row::Csr(..)
+            | Row::CsrImmediate(..)
+            | Row::FenceSets(..)
+            | Row::AddressFence(..)
+            | Row::Fixed(_)
+            | Row::DefinedIllegal => false,
         }
     }
 
@@ -92,27 +147,83 @@ impl Op {
     pub fn is_load(self) -> bool
         ensures { result ≡ is_load (row_of self) }
     {
-        matches!(row_of(self), Row::I(0x03, _))
+        match row_of(self) {
+            Row::I(opcode, _) => opcode == 0x03,
+            Row::R(..)
+            | Row::Shift(..)
+            | Row::S(..)
+            | Row::B(..)
+            | Row::U(_)
+            | Row::J(_)
+            | Row::Csr(..)
+            | Row::CsrImmediate(..)
+            | Row::FenceSets(..)
+            | Row::AddressFence(..)
+            | Row::Fixed(_)
+            | Row::DefinedIllegal => false,
+        }
     }
 
     /// Whether it is a store (Unprivileged, 2.6).
     pub fn is_store(self) -> bool
         ensures { result ≡ is_store (row_of self) }
     {
-        matches!(row_of(self), Row::S(0x23, _))
+        match row_of(self) {
+            Row::S(opcode, _) => opcode == 0x23,
+            Row::R(..)
+            | Row::I(..)
+            | Row::Shift(..)
+            | Row::B(..)
+            | Row::U(_)
+            | Row::J(_)
+            | Row::Csr(..)
+            | Row::CsrImmediate(..)
+            | Row::FenceSets(..)
+            | Row::AddressFence(..)
+            | Row::Fixed(_)
+            | Row::DefinedIllegal => false,
+        }
     }
 
     /// Whether it is JAL (Unprivileged, 2.5.1).
     pub fn is_jump(self) -> bool
         ensures { result ≡ is_jump (row_of self) }
     {
-        matches!(row_of(self), Row::J(0x6f))
+        match row_of(self) {
+            Row::J(opcode) => opcode == 0x6f,
+            Row::R(..)
+            | Row::I(..)
+            | Row::Shift(..)
+            | Row::S(..)
+            | Row::B(..)
+            | Row::U(_)
+            | Row::Csr(..)
+            | Row::CsrImmediate(..)
+            | Row::FenceSets(..)
+            | Row::AddressFence(..)
+            | Row::Fixed(_)
+            | Row::DefinedIllegal => false,
+        }
     }
 
     /// Whether it is a branch (Unprivileged, 2.5.2).
     pub fn is_branch(self) -> bool
         ensures { result ≡ is_branch self }
     {
-        matches!(row_of(self), Row::B(0x63, _))
+        match row_of(self) {
+            Row::B(opcode, _) => opcode == 0x63,
+            Row::R(..)
+            | Row::I(..)
+            | Row::Shift(..)
+            | Row::S(..)
+            | Row::U(_)
+            | Row::J(_)
+            | Row::Csr(..)
+            | Row::CsrImmediate(..)
+            | Row::FenceSets(..)
+            | Row::AddressFence(..)
+            | Row::Fixed(_)
+            | Row::DefinedIllegal => false,
+        }
     }
 }

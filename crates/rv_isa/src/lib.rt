@@ -20,6 +20,6 @@ pub use arithmetic::{alu, taken};
 pub use decoding::decode;
 pub use encoding::encode;
 pub use instruction::Instr;
-pub use laws::codec_laws;
+pub use laws::{codec_laws, number_laws};
 pub use names::name_of;
 pub use operation::{OPS, Op};

@@ -1,5 +1,8 @@
 //! The operations, in the order of the table.
 
+ghost use Rattle.std.specs.Prelude.{◌≡◌, ◌<◌};
+ghost use Rattle.rv_isa.specs.Numbers.{op_number};
+
 /// An operation, by its name in the manuals: one row of the table of encodings.
 #[derive(Clone, Copy, Debug, PartialEq, Eq)]
 pub enum Op {
@@ -129,3 +132,13 @@ pub const OPS: [Op; 58] = [
     Op::SfenceVma,
     Op::Illegal,
 ];
+
+impl Op {
+    /// The number of its row in the table, from 0.
+    pub fn number(self) -> u8
+        ensures number { result ≡ op_number self }
+        ensures small { result < 58 }
+    {
+        self as u8
+    }
+}

@@ -2,7 +2,7 @@
 use Rattle.std.specs.Prelude.{ℕ, ◌+◌, ◌-◌, ◌/◌, ◌%◌, ◌^◌, Bool, true, false, ◌&&◌, nat_eq, nat_le, nat_lt}
 use Rattle.rv_script.specs.declared.access.Access.{Access}
 use Rattle.rv_script.specs.declared.access.Role.{Role}
-use Rattle.rv_script.specs.declared.access.Role.TheVariants.{Store}
+use Rattle.rv_script.specs.declared.access.Role.TheVariants.{Fetch, Walk, Load, Store}
 
 -- the address of the aligned word that holds the byte
 abbrev pub word_address : ℕ → ℕ
@@ -22,5 +22,7 @@ covers x b = nat_eq (b / 4) (x.addr / 4) && (nat_le x.addr b && nat_lt b (x.addr
 
 -- the access leaves memory as it is
 abbrev pub is_look : Role → Bool
+is_look Fetch = true
+is_look Walk = true
+is_look Load = true
 is_look Store = false
-is_look _ = true

@@ -2,7 +2,7 @@
 use Rattle.std.specs.Prelude.{ℕ, ◌+◌, ◌-◌, ◌*◌, ◌/◌, ◌%◌, ◌^◌, nat_eq, if◌then◌else◌, List, [], ◌∷◌}
 use Rattle.rv_script.specs.declared.access.Access.{Access}
 use Rattle.rv_script.specs.declared.access.Role.{Role}
-use Rattle.rv_script.specs.declared.access.Role.TheVariants.{Store}
+use Rattle.rv_script.specs.declared.access.Role.TheVariants.{Fetch, Walk, Load, Store}
 use Rattle.rv_script.specs.Bytes.{covers}
 
 -- byte i of word n after a store
@@ -14,8 +14,10 @@ stored_word x n word = stored_byte x n word 0 + 256 * stored_byte x n word 1 + 6
 
 -- word n after an access to it
 abbrev pub word_after : Role → Access → ℕ → ℕ → ℕ
+word_after Fetch x n word = word
+word_after Walk x n word = word
+word_after Load x n word = word
 word_after Store x n word = stored_word x n word
-word_after _ x n word = word
 
 -- memory after an access
 abbrev pub accessed : Access → (ℕ → ℕ) → ℕ → ℕ

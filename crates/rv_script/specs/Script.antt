@@ -51,7 +51,11 @@ role_of FetchSecond = Walk
 role_of Fetched = Fetch
 role_of DataRoot = Walk
 role_of DataSecond = Walk
-role_of _ = Load
+role_of FromRs1 = Load
+role_of FromRs2 = Load
+role_of FromCsr = Load
+role_of DataWord = Load
+role_of FromVector = Load
 
 -- the access to memory that a question is, where the place has this value
 abbrev pub access_of : Question → ℕ → Option Access

@@ -1,10 +1,10 @@
 -- What sums leave when they are divided by 4.
-use Rattle.std.proofs.Common.{◌≡◌, ℕ, zero, suc, ◌+◌, ◌*◌, ◌%◌, ◌^◌, ◌<◌, ◌==◌, false, All, List, [], ◌∷◌, IsTrue, bit_and, sym, ap, ◌∙◌, subst, arith, eq-eqb}
+use Rattle.std.proofs.Common.{◌≡◌, ℕ, zero, suc, ◌+◌, ◌*◌, ◌%◌, ◌^◌, ◌<◌, ◌==◌, ◌-◌, inl, inr, false, All, List, [], ◌∷◌, IsTrue, bit_and, sym, ap, ◌∙◌, subst, arith, eq-eqb}
 use Rattle.std.specs.List.{filter}
 use Rattle.std.proofs.lemmas.Nat.{and_mask}
 use Rattle.dom_set.specs.Elements.{elements_of, is_in, is_matching}
 use Rattle.dom_set.specs.Laws.{ElementsPass, IsInTests}
-use Rattle.set_sums.specs.Remainders.{AreClasses, HasClassSums, HasRemainders}
+use Rattle.set_sums.specs.Remainders.{AreClasses, HasClassSums, HasRemainders, IsStepMask}
 use Rattle.set_sums.specs.Spans.{HasDifferences, HasSums}
 use Rattle.set_sums.proofs.Members.{element, is_in-elements_of, is_in-filter, joined}
 use Rattle.set_sums.proofs.Spans.{first_of_two}
@@ -49,5 +49,36 @@ in_both around classes made n is h k = subst IsTrue (sym (ap (λ (d : List ℕ).
 pub both_sums : (first second around classes made : List ℕ) → HasSums first second around → HasClassSums first second 1 classes → made ≡ filter (is_in classes) around → HasSums first second made
 both_sums first second around classes made sums same is v w h k = in_both around classes made ((v + w) % 2 ^ 32) is (sums v w h k) (same ((v + w) % 2 ^ 32) v w (word v w) h k (left_by_sum v w))
 
-pub both_differences : (first second around classes made : List ℕ) → HasDifferences first second around → HasClassSums first second 3 classes → made ≡ filter (is_in classes) around → HasDifferences first second made
-both_differences first second around classes made parts same is v w small h k = in_both around classes made v is (parts v w small h k) (same v ((v + w) % 2 ^ 32) w small k h (left_by_part v w))
+-- what leaves the class of differences holds them
+pub class_has : (first second classes : List ℕ) → HasClassSums first second 3 classes → HasDifferences first second classes
+class_has first second classes same v w small h k = same v ((v + w) % 2 ^ 32) w small k h (left_by_part v w)
+
+pub both_differences : (first second around classes made : List ℕ) → HasDifferences first second around → HasDifferences first second classes → made ≡ filter (is_in classes) around → HasDifferences first second made
+both_differences first second around classes made parts same is v w small h k = in_both around classes made v is (parts v w small h k) (same v w small h k)
+
+-- the low bits of a difference, by those of the sum and of the part
+low_difference : (mask sum part d v w : ℕ) → IsStepMask mask → v < 2 ^ 32 → w < 2 ^ 32 → d ≡ (sum + (2 ^ 32 - part)) % 2 ^ 32 → bit_and ((v + w) % 2 ^ 32) mask ≡ sum → bit_and w mask ≡ part → bit_and v mask ≡ bit_and d mask
+low_difference mask sum part d v w (inl is) lv lw d_is one two =
+    let a : bit_and ((v + w) % 2 ^ 32) mask ≡ (v + w) % 2 ^ 32 % 8192 = ap (bit_and ((v + w) % 2 ^ 32)) is ∙ and_mask ((v + w) % 2 ^ 32) 13 in
+    let b : bit_and w mask ≡ w % 8192 = ap (bit_and w) is ∙ and_mask w 13 in
+    let e : bit_and v mask ≡ v % 8192 = ap (bit_and v) is ∙ and_mask v 13 in
+    let f : bit_and d mask ≡ d % 8192 = ap (bit_and d) is ∙ and_mask d 13 in
+    e ∙ omega (arith, one, two, a, b, d_is, lv, lw) ∙ sym f
+low_difference mask sum part d v w (inr (inl is)) lv lw d_is one two =
+    let a : bit_and ((v + w) % 2 ^ 32) mask ≡ (v + w) % 2 ^ 32 % 4096 = ap (bit_and ((v + w) % 2 ^ 32)) is ∙ and_mask ((v + w) % 2 ^ 32) 12 in
+    let b : bit_and w mask ≡ w % 4096 = ap (bit_and w) is ∙ and_mask w 12 in
+    let e : bit_and v mask ≡ v % 4096 = ap (bit_and v) is ∙ and_mask v 12 in
+    let f : bit_and d mask ≡ d % 4096 = ap (bit_and d) is ∙ and_mask d 12 in
+    e ∙ omega (arith, one, two, a, b, d_is, lv, lw) ∙ sym f
+low_difference mask sum part d v w (inr (inr is)) lv lw d_is one two =
+    let a : bit_and ((v + w) % 2 ^ 32) mask ≡ (v + w) % 2 ^ 32 % 256 = ap (bit_and ((v + w) % 2 ^ 32)) is ∙ and_mask ((v + w) % 2 ^ 32) 8 in
+    let b : bit_and w mask ≡ w % 256 = ap (bit_and w) is ∙ and_mask w 8 in
+    let e : bit_and v mask ≡ v % 256 = ap (bit_and v) is ∙ and_mask v 8 in
+    let f : bit_and d mask ≡ d % 256 = ap (bit_and d) is ∙ and_mask d 8 in
+    e ∙ omega (arith, one, two, a, b, d_is, lv, lw) ∙ sym f
+
+pub in_step : ElementsPass → IsInTests → (mask sum part d v w : ℕ) (set : List ℕ) → IsStepMask mask → set ≡ elements_of (is_matching ((mask, bit_and d mask) ∷ [])) → v < 2 ^ 32 → w < 2 ^ 32 → d ≡ (sum + (2 ^ 32 - part)) % 2 ^ 32 → bit_and ((v + w) % 2 ^ 32) mask ≡ sum → bit_and w mask ≡ part → IsTrue (is_in set v)
+in_step pass tests mask sum part d v w set step is lv lw d_is one two =
+    subst (λ (xs : List ℕ). IsTrue (is_in xs v)) (sym is)
+    (subst IsTrue (sym (is_in-elements_of pass tests (is_matching ((mask, bit_and d mask) ∷ [])) v lv))
+    (first_of_two (bit_and v mask == bit_and d mask) false (eq-eqb (bit_and v mask) (bit_and d mask) (low_difference mask sum part d v w step lv lw d_is one two))))

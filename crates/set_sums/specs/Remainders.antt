@@ -1,5 +1,5 @@
 -- What sums leave when they are divided by 4.
-use Rattle.std.specs.Prelude.{◌≡◌, ℕ, ◌+◌, ◌*◌, ◌%◌, ◌^◌, ◌<◌, List, IsTrue}
+use Rattle.std.specs.Prelude.{◌≡◌, ℕ, ◌+◌, ◌*◌, ◌%◌, ◌^◌, ◌<◌, ◌⊎◌, List, IsTrue}
 use Rattle.dom_set.specs.Elements.{is_in, is_matching}
 
 -- the second list has what elements of the first leave
@@ -25,3 +25,7 @@ AreSameClasses first second = (n : ℕ) → IsTrue (is_matching first n) → IsT
 -- the words that leave what an element of the first set and so many times one of the second do
 abbrev pub HasClassSums : List ℕ → List ℕ → ℕ → List ℕ → Type 0
 HasClassSums first second times set = (n v w : ℕ) → n < 2 ^ 32 → IsTrue (is_in first v) → IsTrue (is_in second w) → n % 4 ≡ (v + times * w) % 4 → IsTrue (is_in set n)
+
+-- the mask of the low bits, 13, 12 or 8 of them
+abbrev pub IsStepMask : ℕ → Type 0
+IsStepMask mask = (mask ≡ 8191) ⊎ ((mask ≡ 4095) ⊎ (mask ≡ 255))

@@ -3,7 +3,7 @@ ghost use Rattle.std.specs.Prelude.{◌≡◌, ℕ, ◌+◌, ◌-◌, ◌%◌, �
 ghost use Rattle.dom_set.specs.Elements.{is_in};
 ghost use Rattle.set_sums.specs.Spans.{AreCovered, AreKept, HasDifferences, HasHalves, HasSums, HaveHalves, HaveHalvesOf, HaveRound, HaveSums, HaveSumsWith, AreNegated, IsBetween, IsOfRanges};
 
-use crate::remainders::class_sums;
+use crate::remainders::{class_differences, class_sums};
 use dom_set::{OutOfMemory, Set, set_laws};
 use std::alloc::Global;
 
@@ -230,8 +230,7 @@ pub fn differences(alloc: Global, first: &Set, second: &Set) -> Result<Set, OutO
         return Ok(differences);
     }
     let around = differences_around(alloc, first, second)?;
-    // What is left by a difference is left by the first number and three times the second.
-    let classes = class_sums(alloc, first, second, 3)?;
+    let classes = class_differences(alloc, first, second)?;
     let differences = around.and(alloc, &classes)?;
     Ok(differences)
 }

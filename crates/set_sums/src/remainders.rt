@@ -1,7 +1,8 @@
 // What sums leave when they are divided by 4, as addresses that are aligned do.
-ghost use Rattle.std.specs.Prelude.{◌≡◌, ℕ, ◌+◌, ◌*◌, ◌%◌, ◌<◌, true, IfOk, IsTrue, OnOk};
+ghost use Rattle.std.specs.Prelude.{◌≡◌, ℕ, ◌+◌, ◌*◌, ◌%◌, ◌<◌, true, IfOk, IfSome, IsTrue, OnOk};
 ghost use Rattle.dom_set.specs.Elements.{is_in, is_matching};
-ghost use Rattle.set_sums.specs.Remainders.{AreClasses, AreClassesOf, AreSameClasses, HasClassSums, HasRemainders, HasRemaindersBelow};
+ghost use Rattle.set_sums.specs.Spans.{HasDifferences};
+ghost use Rattle.set_sums.specs.Remainders.{AreClasses, AreClassesOf, AreSameClasses, HasClassSums, HasRemainders, HasRemaindersBelow, IsStepMask};
 
 use crate::ranges::meet;
 use dom_set::{OutOfMemory, Set, set_laws};
@@ -107,4 +108,45 @@ pub fn class_sums(alloc: Global, first: &Set, second: &Set, times: u32) -> Resul
     let classes = classes_of(alloc, &firsts, &others, times)?;
     let set = Set::from_patterns(alloc, &classes)?;
     Ok(set)
+}
+
+/// The words that may give an element of the first set when one of the second is added, by the low bits under a mask,
+/// where all elements of each set are known to have the same: None where they are not.
+fn step_differences(
+    alloc: Global,
+    first: &Set,
+    second: &Set,
+    mask: u32,
+) -> Result<Option<Set>, OutOfMemory>
+    requires { IsStepMask mask }
+    ensures { IfOk result (λ found. IfSome found (HasDifferences first.now second.now)) }
+{
+    set_laws();
+    second.element_laws();
+    match (first.bits_under(mask), second.bits_under(mask)) {
+        (Some(sum), Some(part)) => {
+            let step = Set::from_patterns(alloc, &[(mask, sum.wrapping_sub(part) & mask)])?;
+            Ok(Some(step))
+        }
+        _ => Ok(None),
+    }
+}
+
+/// The words that may give an element of the first set when one of the second is added, by what they leave when they
+/// are divided by the greatest power of two that tells something of both sets.
+pub fn class_differences(alloc: Global, first: &Set, second: &Set) -> Result<Set, OutOfMemory>
+    ensures { IfOk result (HasDifferences first.now second.now) }
+{
+    if let Some(step) = step_differences(alloc, first, second, 0x1fff)? {
+        return Ok(step);
+    }
+    if let Some(step) = step_differences(alloc, first, second, 0xfff)? {
+        return Ok(step);
+    }
+    if let Some(step) = step_differences(alloc, first, second, 0xff)? {
+        return Ok(step);
+    }
+    // What is left by a difference is left by the first number and three times the second.
+    let classes = class_sums(alloc, first, second, 3)?;
+    Ok(classes)
 }

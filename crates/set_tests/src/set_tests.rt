@@ -347,6 +347,17 @@ fn assert_rest(rt: &impl Abort, alloc: Global, a: &Case<'_>, b: &Case<'_>) {
     assert_eq!(rt; difference == a.set, rest.as_slice() == a.list.as_slice());
 }
 
+fn assert_either(rt: &impl Abort, alloc: Global, a: &Case<'_>, b: &Case<'_>) {
+    let mut either = Vec::from_slice(alloc, &a.list).expect(rt, "memory");
+    for x in &b.list {
+        if a.list.binary_search(x).is_err() {
+            either.push(*x).expect(rt, "memory");
+        }
+    }
+    either.sort_unstable();
+    assert_made(rt, alloc, a.set.or(alloc, &b.set), &either, a.line);
+}
+
 #[test]
 fn two_sets_are_as_two_lists(rt: HostRuntime) {
     let alloc = rt.alloc();
@@ -355,6 +366,7 @@ fn two_sets_are_as_two_lists(rt: HostRuntime) {
         for b in &all {
             assert_common(&rt, alloc, a, b);
             assert_rest(&rt, alloc, a, b);
+            assert_either(&rt, alloc, a, b);
             assert_eq!(rt; a.set == b.set, a.list.as_slice() == b.list.as_slice());
         }
     }
@@ -369,6 +381,21 @@ fn all_numbers(rt: &impl Abort, alloc: Global) -> Set {
 /// The set was made, and is this one.
 fn assert_same(rt: &impl Abort, set: Result<Set, OutOfMemory>, want: &Set, row: &str) {
     assert!(rt; set.expect(rt, "memory") == *want, "{row}");
+}
+
+#[test]
+fn all_are_all_numbers(rt: HostRuntime) {
+    let alloc = rt.alloc();
+    assert_same(&rt, Set::all(alloc), &all_numbers(&rt, alloc), "all");
+}
+
+#[test]
+fn bits_that_all_elements_have_are_told(rt: HostRuntime) {
+    let alloc = rt.alloc();
+    let set = matching(&rt, alloc, "f:3 ff:13 ff0000ff:23");
+    assert_eq!(rt; set.bits_under(0xf), Some(3));
+    assert_eq!(rt; set.bits_under(0x1f), None);
+    assert_eq!(rt; Set::new(alloc).bits_under(0xf), None);
 }
 
 fn assert_place(rt: &impl Abort, alloc: Global, all: &Set, x: u32) {

@@ -1,1 +1,7 @@
-pub mod Refusals
+pub mod Forms
+pub mod Failures
+pub mod Told
+pub mod Tests
+pub mod Files
+pub mod Replays
+pub mod ByCommand

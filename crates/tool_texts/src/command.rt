@@ -1,4 +1,16 @@
-// The commands.
+// The commands: how much each reads, and what it answers.
+ghost use Rattle.std.specs.Prelude.{◌≡◌, ◌<◌, ℕ, List, length, IfOk};
+ghost use Rattle.tpl_ast.specs.Limits.{text_room};
+ghost use Rattle.tool_texts.specs.Answers.{Answers, limit_of, number_of};
+
+use crate::OutOfMemory;
+use crate::answer::Answer;
+use crate::generating::gen_answer;
+use crate::laws::answer_laws;
+use crate::listing::list_answer;
+use crate::replaying::replay_answer;
+use std::alloc::Global;
+use tpl_ast::{MAX_FILE, MAX_TEXT};
 
 /// What the program can be asked to do.
 #[derive(Clone, Copy, Debug, PartialEq, Eq)]
@@ -9,4 +21,38 @@ pub enum Command {
     List { seed: u64 },
     /// `replay`: whether the certificate of a file is valid.
     Replay,
+}
+
+impl Command {
+    /// How many bytes it takes at most: one more than its input may have, or 0 where it reads nothing.
+    pub fn limit(self) -> usize
+        ensures { result ≡ limit_of self }
+    {
+        match self {
+            Command::Gen { .. } => MAX_TEXT + 1,
+            Command::List { .. } => MAX_TEXT + 1,
+            Command::Replay => MAX_FILE + 1,
+        }
+    }
+}
+
+/// What a command answers to the bytes that it read.
+pub fn answer_to(alloc: Global, command: Command, bytes: &[u8]) -> Result<Answer, OutOfMemory>
+    ensures found { IfOk result (λ a. Answers command bytes.now (number_of a.status) a.out.items a.report.items) }
+    ensures only { (s : ℕ) (o r : List ℕ) → Answers command bytes.now s o r → IfOk result (λ a. s ≡ number_of a.status) }
+    ensures out_size { IfOk result (λ a. length a.out.items < text_room) }
+    ensures report_size { IfOk result (λ a. length a.report.items < text_room) }
+{
+    answer_laws();
+    answer_of(alloc, command, bytes)
+}
+
+fn answer_of(alloc: Global, command: Command, bytes: &[u8]) -> Result<Answer, OutOfMemory>
+    ensures { IfOk result (λ a. Answers command bytes.now (number_of a.status) a.out.items a.report.items) }
+{
+    match command {
+        Command::Gen { .. } => gen_answer(alloc, bytes),
+        Command::List { .. } => list_answer(alloc, bytes),
+        Command::Replay => replay_answer(alloc, bytes),
+    }
 }

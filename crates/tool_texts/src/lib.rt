@@ -1,8 +1,16 @@
-//! What a command makes of the bytes that it read: the texts that it writes, or why it writes none, with the line that tells so.
+//! The commands, and what each answers to the bytes that it read: a status, and the texts that tell it.
 #![tactic(auto)]
 
+mod answer;
 mod command;
-mod making;
+mod error;
+mod generating;
+mod laws;
+mod listing;
+mod replaying;
+mod test;
 
-pub use command::Command;
-pub use making::{Refusal, Texts, texts_for};
+pub use answer::{Answer, Status};
+pub use command::{Command, answer_to};
+pub use error::OutOfMemory;
+pub use laws::answer_laws;

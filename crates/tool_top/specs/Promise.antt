@@ -1,72 +1,62 @@
 -- What the program promises.
-use Rattle.std.specs.Prelude.{◌≡◌, ℕ, ◌==◌, if◌then◌else◌, List, [], drop, take, codes, Some, Bool, ◌||◌, true, ◌⊎◌}
+use Rattle.std.specs.Prelude.{◌≡◌, ◌≢◌, ℕ, ◌≤◌, ◌==◌, if◌then◌else◌, List, [], drop, take, length, codes, Some, Bool, ◌||◌, true, ◌⊎◌}
 use Rattle.std.specs.declared.option.Option.{Option}
-use Rattle.std.specs.Io.KnownBytes.{Appends}
+use Rattle.std.specs.Io.KnownBytes.{Appends, Consumes}
+use Rattle.streams.specs.Causes.{EndsAtFault, Rose}
 use Rattle.streams.specs.Sink.{GrowsByPrefix}
-use Rattle.tpl_ast.specs.declared.template.Template.{Template}
-use Rattle.tpl_ast.specs.Parsing.{Parses}
-use Rattle.tpl_admit.specs.declared.certificate.Cert.{Cert}
-use Rattle.tpl_admit.specs.Validity.{IsValid}
-use Rattle.elf_image.specs.Parts.{IsFirstWrong}
 use Rattle.tool_texts.specs.declared.command.Command.{Command}
-use Rattle.tool_texts.specs.declared.command.Command.TheVariants.{Gen, List as Listing, Replay}
-use Rattle.tool_texts.specs.Texts.{IsFileOf, IsBuilt, IsNoTemplate, IsNoFile, IsTemplateLine, AreTexts}
+use Rattle.tool_texts.specs.Answers.{Answers, limit_of}
 use Rattle.tool_top.specs.Words.{IsCommand}
 
 -- WHAT IS READ
 
--- how many bytes a command reads at most, which is one more than its input may have
-abbrev pub limit_of : Command → ℕ
-limit_of Replay = 8388609
-limit_of _ = 65537
+-- bytes that were taken, up to a limit; where the source tells its bytes, they are the first ones of what it had left
+pub record AreTaken (limit : ℕ) (old new : Option (List ℕ)) (bytes : List ℕ) : Type 0 where
+  pub within : length bytes ≤ limit
+  pub consumed : Consumes old new bytes
+  pub first : (left : List ℕ) → old ≡ Some left → bytes ≡ take limit left
 
--- what a command can do something with: a template that this build generates from, or the file of a valid certificate
-abbrev pub IsInput : Command → List ℕ → Type 0
-IsInput Replay bytes = (certificate : Cert) × IsFileOf bytes certificate × IsValid certificate
-IsInput _ bytes = (t : Template) × Parses bytes t × IsBuilt t
-
--- the bytes are the file of a certificate that is not valid
-abbrev pub IsInvalidFile : List ℕ → Type 0
-IsInvalidFile bytes = (certificate : Cert) × IsFileOf bytes certificate × (IsValid certificate → ⊥)
-
--- what a command can do nothing with, by the status that says so
-abbrev pub IsUnfit : Command → List ℕ → ℕ → Type 0
-IsUnfit Replay bytes status = ((status ≡ 9) × IsNoFile bytes) ⊎ ((status ≡ 10) × IsInvalidFile bytes)
-IsUnfit _ bytes status = (status ≡ 3) × IsNoTemplate bytes
+-- the bytes that are there to be taken, where that is known: the first ones of what the source tells that it has left, and none up to a limit of 0
+abbrev pub AreGiven : ℕ → Option (List ℕ) → List ℕ → Type 0
+AreGiven limit old bytes = ((limit ≡ 0) × (bytes ≡ [])) ⊎ ((left : List ℕ) × (old ≡ Some left) × (bytes ≡ take limit left))
 
 -- WHAT THE STATUSES SAY
 
--- 0: the texts of the command, for what the source had left, were appended
-abbrev pub IsDone : Command → Option (List ℕ) → Option (List ℕ) → Option (List ℕ) → Option (List ℕ) → Option (List ℕ) → Type 0
-IsDone command left old_out new_out old_report new_report =
-    (bytes : List ℕ) → left ≡ Some bytes
-    → (out : List ℕ) × (beside : List ℕ) × AreTexts command bytes out beside × Appends old_out new_out out × Appends old_report new_report beside
+-- the command that the words ask for answers this to the bytes that were taken
+pub record IsAnswered (words : List (List ℕ)) (old new : Option (List ℕ)) (status : ℕ) : Type 0 where
+  pub command : Command
+  pub asked : IsCommand words command
+  pub bytes : List ℕ
+  pub taken : AreTaken (limit_of command) old new bytes
+  pub out : List ℕ
+  pub report : List ℕ
+  pub answer : Answers command bytes status out report
 
--- 7: a front of the first of these texts was appended and nothing of the second; or the first whole and a front of the second
-abbrev pub IsCutShort : Command → Option (List ℕ) → Option (List ℕ) → Option (List ℕ) → Option (List ℕ) → Option (List ℕ) → Type 0
-IsCutShort command left old_out new_out old_report new_report =
-    (bytes : List ℕ) → left ≡ Some bytes
-    → (out : List ℕ) × (beside : List ℕ) × AreTexts command bytes out beside
-    × ((GrowsByPrefix old_out new_out out × (new_report ≡ old_report)) ⊎ (Appends old_out new_out out × GrowsByPrefix old_report new_report beside))
+-- a text was appended whole, and no write failed; or, on another status than 0, a front of it, and then one write failed, and nothing was taken after it
+abbrev pub IsWritten : ℕ → Option (List ℕ) → Option (List ℕ) → List ℕ → Option ℕ → ℕ → ℕ → Type 0
+IsWritten status old new text fault_at before now =
+    (Appends old new text × (now ≡ before)) ⊎ ((status ≢ 0) × GrowsByPrefix old new text × EndsAtFault new fault_at before now × Rose before now)
 
--- 3: what the source had left is no template that this build generates from, and the line says why what was read of it is none
-abbrev pub LacksTemplate : List ℕ → List ℕ → Type 0
-LacksTemplate bytes line = IsNoTemplate bytes × IsTemplateLine (take 65537 bytes) line
+-- nothing was done with the sink of an empty text
+abbrev pub IsLeft : {K : Type 0} → List ℕ → K → K → Type 0
+IsLeft text old new = length text ≡ 0 → new ≡ old
 
--- 9: `malformed part N`, where what was read of what the source had left is no file, and N is its first wrong part
-abbrev pub IsMalformed : List ℕ → ℕ → Type 0
-IsMalformed bytes part = IsFirstWrong (take 8388609 bytes) part × IsNoFile bytes
+-- a front of the first text was appended and nothing of the second; or the first whole and a front of the second
+abbrev pub AreCutShort : List ℕ → List ℕ → Option (List ℕ) → Option (List ℕ) → Option (List ℕ) → Option (List ℕ) → Type 0
+AreCutShort out report old_out new_out old_report new_report =
+    (GrowsByPrefix old_out new_out out × (new_report ≡ old_report)) ⊎ (Appends old_out new_out out × GrowsByPrefix old_report new_report report)
 
--- where the words are accepted, the input is one that the command can do something with and no call failed, the command was done or
--- memory ran out
+-- where the words are accepted, the command's answer to the bytes that are there is that it is done, and no call failed, it was done or memory ran out
 abbrev pub IsComplete : List (List ℕ) → Option (List ℕ) → Type 0 → ℕ → Type 0
 IsComplete words left failed status =
-    (command : Command) (bytes : List ℕ) → IsCommand words command → left ≡ Some bytes → IsInput command bytes → (failed → ⊥) → (status ≡ 0) ⊎ (status ≡ 8)
+    (command : Command) (bytes out report : List ℕ) → IsCommand words command → AreGiven (limit_of command) left bytes → Answers command bytes 0 out report
+    → (failed → ⊥) → (status ≡ 0) ⊎ (status ≡ 8)
 
--- where the words are accepted, the input is one that the command can do nothing with and no read failed, that is said or memory ran out
+-- where the words are accepted, the command's answer to the bytes that are there is another status, and no read failed, that is said or memory ran out
 abbrev pub IsRefused : List (List ℕ) → Option (List ℕ) → Type 0 → ℕ → Type 0
 IsRefused words left failed status =
-    (command : Command) (bytes : List ℕ) (why : ℕ) → IsCommand words command → left ≡ Some bytes → IsUnfit command bytes why → (failed → ⊥) → (status ≡ why) ⊎ (status ≡ 8)
+    (command : Command) (bytes out report : List ℕ) (why : ℕ) → IsCommand words command → AreGiven (limit_of command) left bytes → Answers command bytes why out report
+    → why ≢ 0 → (failed → ⊥) → (status ≡ why) ⊎ (status ≡ 8)
 
 -- the line that a status tells `report`, where it is always the same
 abbrev pub told_line : ℕ → List ℕ
@@ -77,10 +67,6 @@ told_line status =
 -- the statuses that tell such a line
 abbrev pub tells : ℕ → Bool
 tells status = status == 2 || status == 6
-
--- the statuses on which something was written to `out`
-abbrev pub writes : ℕ → Bool
-writes status = status == 0 || (status == 7 || status == 10)
 
 -- the statuses on which reading came to its end
 abbrev pub ends_reading : ℕ → Bool

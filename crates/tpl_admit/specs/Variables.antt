@@ -3,23 +3,21 @@ use Rattle.std.specs.Prelude.{ℕ, ◌+◌, ◌%◌, ◌^◌, Bool, true, false,
 use Rattle.rv_isa.specs.declared.instruction.Instr.{Instr}
 use Rattle.rv_isa.specs.declared.operation.Op.{Op}
 use Rattle.rv_isa.specs.declared.operation.Op.TheVariants.{Jalr}
-use Rattle.rv_isa.specs.declared.operation.TheConstants.{OPS}
 use Rattle.rv_isa.specs.declared.table.Row.{Row}
 use Rattle.rv_isa.specs.Fields.{has_csr, has_imm, has_rd, has_rs1, has_rs2, is_jump, is_load, is_store, reads_rs1, reads_rs2}
 use Rattle.rv_isa.specs.Arithmetic.{is_branch}
-use Rattle.rv_isa.specs.Names.{name_of}
 use Rattle.rv_isa.specs.Reading.{decoded}
 use Rattle.rv_isa.specs.Table.{row_of}
 use Rattle.rv_script.specs.declared.access.Access.{Access}
 use Rattle.rv_script.specs.declared.access.Role.{Role}
-use Rattle.rv_script.specs.declared.access.Role.TheVariants.{Load, Store}
+use Rattle.rv_script.specs.declared.access.Role.TheVariants.{Fetch, Walk, Load, Store}
 use Rattle.rv_hart.specs.declared.record.Outcome.{Outcome}
 use Rattle.rv_hart.specs.declared.record.Outcome.TheVariants.{Retired, Trap}
 use Rattle.rv_hart.specs.declared.record.Record.{Record}
 use Rattle.rv_hart.specs.Machine.{even}
 use Rattle.tpl_ast.specs.declared.template.Var.{Var}
 use Rattle.tpl_ast.specs.declared.template.Var.TheVariants as vars
-use Rattle.tpl_ast.specs.Sets.{op_number_among}
+use Rattle.rv_isa.specs.Numbers.{op_number}
 
 -- what an atom is judged on: a record, the values of its hart's registers before it, the values of names, and the records of harts of lower numbers
 pub record Moment : Type 0 where
@@ -64,9 +62,10 @@ address_of m None = None
 address_of m (Some i) = if is_load (row_of i.op) || is_store (row_of i.op) then offset i.imm (first_operand m) else None
 
 abbrev pub is_data : Role → Bool
+is_data Fetch = false
+is_data Walk = false
 is_data Load = true
 is_data Store = true
-is_data _ = false
 
 -- the physical address of the data access
 abbrev pub data_address : List Access → Option ℕ
@@ -92,7 +91,7 @@ outcome_in (Trap cause value to) = cause
 -- an operation is the number of its row
 abbrev pub op_in : Option Instr → Option ℕ
 op_in None = None
-op_in (Some i) = Some (op_number_among (name_of i.op) OPS)
+op_in (Some i) = Some (op_number i.op)
 
 -- the value of a variable, where it has one
 abbrev pub value_of : Var → Moment → Option ℕ

@@ -10,6 +10,7 @@ use Rattle.tpl_admit.specs.declared.judging.Walk.{Walk}
 use Rattle.tpl_admit.specs.declared.judging.Trace.{Trace as ATrace}
 use Rattle.tpl_admit.specs.Admitting.{Context, Failure, Stand, failures_at, here, least_among, of_hart, stand_after, Trace}
 use Rattle.tpl_admit.specs.Starts.{found}
+use Rattle.tpl_ast.specs.Limits.{most_harts, most_records}
 
 abbrev pub context : AContext → Context
 context c = record { hart = c.hart; names = found c.names.now; others = c.others.now; dropped = c.dropped.now }
@@ -77,9 +78,9 @@ trace t = record {
   dropped = t.dropped.now;
 }
 
--- as many starts and traces as the template has harts, at most four, and no trace is longer than 8,192 records
+-- as many starts and traces as the template has harts, no more than a test may have, and no trace is longer than all may be together
 pub record IsWithinLimits (t : Trace) : Type 0 where
-  pub harts : length t.template.harts ≤ 4
+  pub harts : length t.template.harts ≤ most_harts
   pub start : length t.start ≡ length t.template.harts
   pub records : length t.records ≡ length t.template.harts
-  pub steps : AllByRecursion (λ rs. length rs ≤ 8192) t.records
+  pub steps : AllByRecursion (λ rs. length rs ≤ most_records) t.records

@@ -8,6 +8,7 @@ use Rattle.rv_hart.specs.declared.record.Outcome.TheVariants.{Retired, Trap}
 use Rattle.rv_hart.specs.declared.record.Record.{Record}
 use Rattle.dom_set.specs.Elements.{is_in}
 use Rattle.tpl_ast.specs.declared.template.NameDecl.{NameDecl}
+use Rattle.tpl_ast.specs.Limits.{FileLimits, file_limits}
 use Rattle.tpl_ast.specs.Parsing.{Parses}
 use Rattle.tpl_admit.specs.declared.certificate.Cert.{Cert}
 use Rattle.tpl_admit.specs.declared.dropped.Dropped.{Dropped}
@@ -30,7 +31,7 @@ pub record IsRecord (r : Record) : Type 0 where
   pub outcome : IsOutcome r.outcome
   pub rd : IsWritten r.rd
   pub accesses : AllByRecursion IsAccess r.accesses
-  pub count : length r.accesses ≤ 8
+  pub count : length r.accesses ≤ file_limits.accesses
 
 -- the name is one of the template's, and the value is in its domain
 abbrev pub IsNamed : Option NameDecl → ℕ → Type 0
@@ -42,34 +43,37 @@ abbrev pub AreNamed : List NameDecl → ℕ → List (ℕ × ℕ) → Type 0
 AreNamed names from [] = Unit {0}
 AreNamed names from (e ∷ es) = (from ≤ e.0) × IsWord e.0 × IsWord e.1 × IsNamed (slice_get names e.0) e.1 × AreNamed names (e.0 + 1) es
 
--- where an entry stands among all that could be dropped: 8,192 steps a hart and 32 atoms a step
+-- where an entry stands among all that could be dropped: so many steps a hart and atoms a step
 abbrev pub drop_place : Dropped → ℕ
-drop_place d = (d.hart * 8192 + d.step) * 32 + d.atom
+drop_place d = (d.hart * file_limits.steps + d.step) * file_limits.atoms + d.atom
 
 -- dropped biases of so many harts from a place on, by ascending hart, step and atom
 abbrev pub AreDropped : ℕ → ℕ → List Dropped → Type 0
 AreDropped harts from [] = Unit {0}
-AreDropped harts from (d ∷ ds) = (d.hart < harts) × (d.step < 8192) × (d.atom < 32) × (from ≤ drop_place d) × AreDropped harts (drop_place d + 1) ds
+AreDropped harts from (d ∷ ds) = (d.hart < harts) × (d.step < file_limits.steps) × (d.atom < file_limits.atoms) × (from ≤ drop_place d) × AreDropped harts (drop_place d + 1) ds
 
--- the values that a file can hold, and its limits
-pub record IsWellFormed (c : Cert) : Type 0 where
-  pub size : file_size c ≤ 8388608
+-- the values that a file can hold, within its limits
+pub record IsWellFormedBy (limits : FileLimits) (c : Cert) : Type 0 where
+  pub size : file_size c ≤ limits.size
   pub some_harts : 1 ≤ length c.start
-  pub harts : length c.start ≤ 4
+  pub harts : length c.start ≤ limits.harts
   pub start : AllByRecursion IsState c.start
   pub finals_count : length c.finals ≡ length c.start
   pub finals : AllByRecursion IsState c.finals
   pub traces_count : length c.traces ≡ length c.start
   pub traces : AllByRecursion (λ t. AllByRecursion IsRecord t) c.traces
-  pub steps : sum_by (λ t. length t) c.traces ≤ 8192
-  pub words_count : length c.words ≤ 60000
+  pub steps : sum_by (λ t. length t) c.traces ≤ limits.records
+  pub words_count : length c.words ≤ limits.words
   pub words : AreStartWords c.template.ram 0 c.words
   pub last_count : length c.last ≡ length c.words
   pub last : AllByRecursion IsWord c.last
   pub template : Parses c.template.text c.template
   pub template_harts : length c.template.harts ≡ length c.start
-  pub choices_count : length c.choices ≤ 8192
+  pub choices_count : length c.choices ≤ limits.choices
   pub choices : AllByRecursion IsWord c.choices
   pub names : AreNamed c.template.names 0 c.names
-  pub dropped_count : length c.dropped ≤ 262144
+  pub dropped_count : length c.dropped ≤ limits.dropped
   pub dropped : AreDropped (length c.start) 0 c.dropped
+
+abbrev pub IsWellFormed : Cert → Type 0
+IsWellFormed c = IsWellFormedBy file_limits c

@@ -1,6 +1,7 @@
 // A hart's records against its body.
 ghost use Rattle.std.specs.Prelude.{◌≡◌, ◌+◌, ◌≤◌, length, true};
 ghost use Rattle.tpl_admit.specs.Ordered.{is_ascending};
+ghost use Rattle.tpl_ast.specs.Limits.{most_records};
 
 use crate::admission::Unmet;
 use crate::dropped::Dropped;
@@ -34,7 +35,7 @@ pub struct Walk<'c> {
     pub(crate) choices: Option<&'c [u32]>,
     /// The least failure so far.
     pub(crate) least: Option<Unmet>,
-    ghost short: { step + length records.now ≤ 8192 },
+    ghost short: { step + length records.now ≤ most_records },
 }
 
 /// A trace with its template, and what it says of choices, names and biases.

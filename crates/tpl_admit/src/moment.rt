@@ -11,9 +11,9 @@ ghost use Rattle.tpl_admit.specs.Variables.{address_of, data_address, first_oper
 
 use dom_set::Set;
 use rv_hart::{Outcome, Record};
-use rv_isa::{Instr, Op, decode, name_of, taken};
+use rv_isa::{Instr, Op, decode, taken};
 use rv_script::{Access, Role};
-use tpl_ast::{Atom, Items, Var, op_number};
+use tpl_ast::{Atom, Items, Var};
 
 /// What an atom is judged on.
 #[derive(Clone, Copy)]
@@ -65,7 +65,10 @@ fn offset(imm: u32, base: Option<u32>) -> Option<u32>
 fn is_data(role: Role) -> bool
     ensures { result ≡ is_data role }
 {
-    matches!(role, Role::Load | Role::Store)
+    match role {
+        Role::Fetch | Role::Walk => false,
+        Role::Load | Role::Store => true,
+    }
 }
 
 /// The physical address of the data access.
@@ -259,7 +262,7 @@ impl<'m> Moment<'m> {
         ensures { result ≡ value_of var (moment self.now) }
     {
         match var {
-            Var::Op => Some(op_number(name_of(self.instruction()?.op))),
+            Var::Op => Some(u32::from(self.instruction()?.op.number())),
             Var::Rs1 => {
                 let i = self.instruction()?;
                 if i.op.has_rs1() {

@@ -2,9 +2,10 @@
 ghost use Rattle.std.specs.Prelude.{◌≡◌, ◌<◌, false, true, length, OnOk};
 ghost use Rattle.tpl_ast.specs.Bodies.{LabelOf};
 ghost use Rattle.tpl_ast.specs.Judging.{is_phrase_above};
-ghost use Rattle.tpl_ast.specs.Parsing.{after, all_values, allows, closed_in, passes_count, takes_items, with_item, with_name};
+ghost use Rattle.tpl_ast.specs.Parsing.{after, all_values, allows, closed_in, is_declared, is_double, passes_count, takes_items, with_item, with_name};
 ghost use Rattle.tpl_state.specs.State.{known};
 ghost use Rattle.tpl_token.specs.Phrases.{phrase};
+ghost use Rattle.tpl_ast.specs.Limits.{most_names};
 
 use crate::blocks::{
     add_fault, add_leaf, end_body, open_alternative, open_body, open_choice, open_repeat,
@@ -41,7 +42,8 @@ fn close(alloc: Global, state: &mut State) -> Result<(), OutOfMemory>
 /// A label here.
 fn set_label(alloc: Global, state: &mut State, name: &[u8]) -> Result<(), OutOfMemory>
     requires place { takes_items (known state.old).blocks ≡ true }
-    requires few { length (known state.old).names < 256 }
+    requires fresh { is_declared (known state.old) name.now ≡ false }
+    requires few { length (known state.old).names < most_names }
     ensures { let k = known state.old in OnOk result (known state.new ≡ with_name (with_item k (LabelOf (length k.names)) 0) name.now all_values true) }
 {
     state.body.label(state.names.len() as u32)?;
@@ -57,6 +59,7 @@ pub fn apply(
 ) -> Result<(), OutOfMemory>
     requires place { allows (known state.old) (phrase statement.now) ≡ true }
     requires within { is_phrase_above (phrase statement.now) ≡ false }
+    requires fresh { is_double (known state.old) (phrase statement.now) ≡ false }
     requires counted { passes_count (known state.old) (phrase statement.now) ≡ false }
     ensures { OnOk result (known state.new ≡ after (known state.old) line (phrase statement.now)) }
 {

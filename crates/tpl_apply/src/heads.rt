@@ -3,20 +3,21 @@ ghost use Rattle.std.specs.Prelude.{◌≡◌, ◌<◌, length, ◌∷◌, [], �
 ghost use Rattle.std.specs.List.{list_any};
 ghost use Rattle.std.specs.Option.{unwrap_or};
 ghost use Rattle.tpl_ast.specs.Judging.{is_above};
-ghost use Rattle.tpl_ast.specs.Parsing.{all_values, inserted, key_in, numbers, with_name};
+ghost use Rattle.tpl_ast.specs.Parsing.{all_values, inserted, is_declared, key_in, numbers, with_name};
 ghost use Rattle.tpl_ast.specs.Sets.{fours, number, resolved};
 ghost use Rattle.tpl_ast.specs.Words.{csr_of};
 ghost use Rattle.tpl_judge.specs.Aligns.{is_misaligned};
 ghost use Rattle.tpl_state.specs.State.{known};
 ghost use Rattle.tpl_token.specs.Phrases.{set_view};
+ghost use Rattle.tpl_ast.specs.Limits.{most_names};
 
 use dom_set::{OutOfMemory, Set};
 use std::alloc::Global;
-use tpl_ast::{Items, NameDecl, Numeral, Region, csr_of};
+use tpl_ast::{Numeral, Region, csr_of};
 use tpl_judge::{
     all_values, fours, insert_pair, key_in, number, push_bytes, push_numbers, resolve,
 };
-use tpl_state::{NamedSet, State};
+use tpl_state::State;
 use tpl_token::SetText;
 
 /// A region of memory.
@@ -74,14 +75,14 @@ pub fn add_set(
     name: &[u8],
     set: &SetText<'_>,
 ) -> Result<(), OutOfMemory>
-    requires { is_misaligned (set_view set.now) ≡ false }
+    requires set { is_misaligned (set_view set.now) ≡ false }
+    requires fresh { is_declared (known state.old) name.now ≡ false }
     ensures { let k = known state.old in OnOk result (known state.new ≡
         record k { sets = k.sets ++ (name.now, resolved k.sets (set_view set.now)) ∷ [] }) }
 {
     let set = resolve(alloc, &state.sets, set)?;
     let name = Vec::from_slice(alloc, name)?;
-    state.sets.push(NamedSet { name, set })?;
-    Ok(())
+    state.sets.push(name, set)
 }
 
 /// A name or a label with its values.
@@ -92,12 +93,12 @@ fn push_name(
     set: Set,
     label: bool,
 ) -> Result<(), OutOfMemory>
-    requires { length (known state.old).names < 256 }
+    requires fresh { is_declared (known state.old) name.now ≡ false }
+    requires few { length (known state.old).names < most_names }
     ensures { OnOk result (known state.new ≡ with_name (known state.old) name.now set label) }
 {
-    let name = Items::from_slice(alloc, name)?;
-    state.names.push(NameDecl { name, set, label })?;
-    Ok(())
+    let name = Vec::from_slice(alloc, name)?;
+    state.names.push(name, set, label)
 }
 
 /// A name with its domain.
@@ -108,7 +109,8 @@ pub fn add_name(
     set: &SetText<'_>,
 ) -> Result<(), OutOfMemory>
     requires set { is_misaligned (set_view set.now) ≡ false }
-    requires few { length (known state.old).names < 256 }
+    requires fresh { is_declared (known state.old) name.now ≡ false }
+    requires few { length (known state.old).names < most_names }
     ensures { let k = known state.old in OnOk result (known state.new ≡
         with_name k name.now (resolved k.sets (set_view set.now)) false) }
 {
@@ -118,7 +120,8 @@ pub fn add_name(
 
 /// A label, which has all values.
 pub fn add_label(alloc: Global, state: &mut State, name: &[u8]) -> Result<(), OutOfMemory>
-    requires { length (known state.old).names < 256 }
+    requires fresh { is_declared (known state.old) name.now ≡ false }
+    requires few { length (known state.old).names < most_names }
     ensures { OnOk result (known state.new ≡ with_name (known state.old) name.now all_values true) }
 {
     let set = all_values(alloc)?;

@@ -2,25 +2,24 @@
 ghost use Rattle.std.specs.Prelude.{◌≡◌, false, IfOk};
 ghost use Rattle.tpl_ast.specs.Judging.{is_domain_above};
 ghost use Rattle.tpl_ast.specs.Sets.{domain_of};
-ghost use Rattle.tpl_state.specs.NamedSets.{named_views};
 ghost use Rattle.tpl_token.specs.Phrases.{domain_view};
 
 use dom_set::{OutOfMemory, Set};
 use std::alloc::Global;
 use tpl_ast::Var;
 use tpl_judge::{align_law, causes, resolve, word_points};
-use tpl_state::NamedSet;
+use tpl_state::Sets;
 use tpl_token::DomainText;
 
 /// The values that a variable is among.
 pub fn domain_of(
     alloc: Global,
-    sets: &[NamedSet],
+    sets: &Sets,
     var: Var,
     domain: &DomainText<'_>,
 ) -> Result<Set, OutOfMemory>
     requires { is_domain_above var (domain_view domain.now) ≡ false }
-    ensures { IfOk result (λ s. s ≡ domain_of (named_views sets.now) var (domain_view domain.now)) }
+    ensures { IfOk result (λ s. s ≡ domain_of sets.now var (domain_view domain.now)) }
 {
     align_law();
     match domain {

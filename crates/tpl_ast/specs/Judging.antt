@@ -13,6 +13,7 @@ use Rattle.tpl_ast.specs.declared.template.Var.{Var}
 use Rattle.tpl_ast.specs.declared.template.Var.TheVariants as vars
 use Rattle.tpl_ast.specs.Phrases.{SetPhrase, Named, Listed, Domain, Numbers, Words, Outcomes, AtomPhrase, Among, NotAmong, IsName, WishPhrase, Phrase, Ram, Pool, Tables, Flags, Vectors, Set, Name, Data, Hart, Start, Csr, Reg, Do, Fault, Repeat, Way}
 use Rattle.tpl_ast.specs.Sets.{number}
+use Rattle.tpl_ast.specs.Limits.{most_atoms, most_elements, most_times, most_weight}
 
 -- above 2 ^ 32 - 1
 abbrev pub is_large : Numeral → Bool
@@ -84,8 +85,8 @@ is_phrase_above (Csr name v) = is_large v
 is_phrase_above (Reg n v) = is_no_register n || is_large v
 is_phrase_above (Do ws) = list_any is_wish_above ws
 is_phrase_above (Fault os) = list_any is_no_fetch_cause os
-is_phrase_above (Repeat n) = is_above 8192 n
-is_phrase_above (Way w) = is_above 65535 w
+is_phrase_above (Repeat n) = is_above most_times n
+is_phrase_above (Way w) = is_above most_weight w
 is_phrase_above _ = false
 
 -- ---- kind 6
@@ -109,16 +110,16 @@ abbrev pub is_name_twice : Phrase → Bool
 is_name_twice (Do ws) = has_twice (names_in ws)
 is_name_twice _ = false
 
--- ---- kind 10, the counts of the statement's own lists: 64 elements of a set, 32 atoms
+-- ---- kind 10, the counts of the statement's own lists: elements of a set, and atoms
 
 abbrev pub is_set_long : SetPhrase → Bool
 is_set_long (Named name) = false
-is_set_long (Listed es align) = nat_lt 64 (length es)
+is_set_long (Listed es align) = nat_lt most_elements (length es)
 
 abbrev pub is_domain_long : Domain → Bool
 is_domain_long (Numbers s) = is_set_long s
-is_domain_long (Words ws) = nat_lt 64 (length ws)
-is_domain_long (Outcomes os) = nat_lt 64 (length os)
+is_domain_long (Words ws) = nat_lt most_elements (length ws)
+is_domain_long (Outcomes os) = nat_lt most_elements (length os)
 
 abbrev pub is_wish_long : WishPhrase → Bool
 is_wish_long w = elim (w.atom) [
@@ -131,6 +132,6 @@ abbrev pub is_phrase_long : Phrase → Bool
 is_phrase_long (Vectors s) = is_set_long s
 is_phrase_long (Set name s) = is_set_long s
 is_phrase_long (Name name s) = is_set_long s
-is_phrase_long (Do ws) = nat_lt 32 (length ws) || list_any is_wish_long ws
-is_phrase_long (Fault os) = nat_lt 64 (length os)
+is_phrase_long (Do ws) = nat_lt most_atoms (length ws) || list_any is_wish_long ws
+is_phrase_long (Fault os) = nat_lt most_elements (length os)
 is_phrase_long _ = false

@@ -30,10 +30,11 @@ use Rattle.tpl_ast.specs.Parsing.{Known, Parses, allows, body_length, fault, fau
 use Rattle.tpl_ast.specs.Phrases.{Phrase}
 use Rattle.tpl_ast.specs.Templates.{KeepsLimits}
 use Rattle.tpl_ast.specs.Words.{csr_of, key_of, op_of, spelling_of}
+use Rattle.tpl_ast.specs.Limits.{most_text}
 
 -- a text of more than 65,536 bytes is refused as a whole
 abbrev pub LongTextsAreRefused : Type 0
-LongTextsAreRefused = (text : List ℕ) → 65536 < length text → parses text ≡ Err (fault 0 TooLong)
+LongTextsAreRefused = (text : List ℕ) → most_text < length text → parses text ≡ Err (fault 0 TooLong)
 
 -- ---- what a text says depends on the tokens of its lines alone
 
@@ -49,7 +50,7 @@ AreAlike (l ∷ l' ∷ ls) (m ∷ m' ∷ ms) = ReadAlike (stripped l) (stripped 
 AreAlike _ _ = ⊥
 
 abbrev pub TokensDecide : Type 0
-TokensDecide = (text other : List ℕ) → length text ≤ 65536 → length other ≤ 65536 → AreAlike (lines text) (lines other) → parses text ≡ parses other
+TokensDecide = (text other : List ℕ) → length text ≤ most_text → length other ≤ most_text → AreAlike (lines text) (lines other) → parses text ≡ parses other
 
 -- a comment at the end of a line says nothing, where its bytes are allowed
 abbrev pub CommentsSayNothing : Type 0
@@ -70,7 +71,7 @@ pub record BlanksSayNothing : Type 0 where
 -- the first lines of both texts are the same, and neither ends with them
 abbrev pub FirstFaultDecides : Type 0
 FirstFaultDecides =
-    (text other : List ℕ) → length text ≤ 65536 → length other ≤ 65536
+    (text other : List ℕ) → length text ≤ most_text → length other ≤ most_text
     → (first : List (List ℕ)) (l m : List ℕ) (ls ms : List (List ℕ)) → lines text ≡ first ++ l ∷ ls → lines other ≡ first ++ m ∷ ms
     → (n : ℕ) (kind : Kind) → n ≤ length first → parses text ≡ Err (fault n kind) → parses other ≡ Err (fault n kind)
 

@@ -6,6 +6,7 @@ use Rattle.tpl_ast.specs.declared.template.Atom.TheVariants as atoms
 use Rattle.tpl_ast.specs.declared.template.Var.{Var}
 use Rattle.tpl_ast.specs.declared.template.Var.TheVariants as vars
 use Rattle.tpl_ast.specs.declared.template.Wish.{Wish}
+use Rattle.tpl_ast.specs.Limits.{most_atoms}
 
 abbrev pub var_number : Var → ℕ
 var_number vars.Op = 0
@@ -75,10 +76,10 @@ is_name_below count _ = true
 abbrev pub atoms_of : List Wish → List Atom
 atoms_of ws = map (λ w. w.atom) ws
 
--- at most 32 atoms, none of which relates the physical address to another variable, and each of whose names is one of so many and stands once
+-- not too many atoms, none of which relates the physical address to another variable, and each of whose names is one of so many and stands once
 abbrev pub is_leaf : ℕ → List Wish → Bool
 is_leaf count ws =
-    nat_le (length ws) 32
+    nat_le (length ws) most_atoms
     && (list_all is_plain (atoms_of ws)
     && (list_all (is_name_below count) (atoms_of ws)
     && is_named_once (atoms_of ws)))
@@ -90,7 +91,7 @@ IsNameBelow count _ = Unit {0}
 
 -- what is known of the atoms of each leaf of a template with so many names
 pub record IsLeaf (count : ℕ) (leaf : List Atom) : Type 0 where
-  pub most : length leaf ≤ 32
+  pub most : length leaf ≤ most_atoms
   pub plain : AllByRecursion IsPlain leaf
   pub names : AllByRecursion (IsNameBelow count) leaf
   pub once : NamedOnce leaf

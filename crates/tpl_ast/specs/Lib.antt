@@ -18,3 +18,4 @@ pub mod Leaves
 pub mod Choices
 pub mod Templates
 pub mod Laws
+pub mod Limits

@@ -31,6 +31,7 @@ use Rattle.tpl_ast.specs.Lengths.{saturated}
 use Rattle.tpl_ast.specs.Sets.{NamedSet, number, find_set, resolved, domain_of, outcome_number, points, listed, fours}
 use Rattle.tpl_ast.specs.Judging.{is_phrase_above, is_name_twice, is_phrase_long}
 use Rattle.tpl_ast.specs.Words.{csr_of, op_of}
+use Rattle.tpl_ast.specs.Limits.{last_end, most_blocks, most_flags, most_harts, most_memory, most_names, most_pool, most_records, most_regions, most_sets, most_tables, most_text, most_ways}
 
 -- ---- what was said
 
@@ -255,7 +256,7 @@ opens (Way w) = true
 opens _ = false
 
 abbrev pub is_deep : Known → Phrase → Bool
-is_deep k p = opens p && nat_le 17 (length k.blocks)
+is_deep k p = opens p && nat_lt most_blocks (length k.blocks)
 
 -- ---- lengths: a leaf is 1, a label 0, a sequence the sum, a repeat its times by its body, at least 1, a choice 1 and its longest alternative
 
@@ -278,7 +279,7 @@ closing (Times times) n os = add_length (saturated (times * max 1 n)) os
 closing Choice n os = add_length (saturated (n + 1)) os
 closing (Alternative w) n os = add_way w n os
 
--- ---- kind 9: the brace closes the body, and the length over all harts is above 8192
+-- ---- kind 9: the brace closes the body, and the length over all harts is above that of a test
 
 abbrev pub body_length : List Open → Option ℕ
 body_length [] = None
@@ -289,7 +290,7 @@ body_length (o ∷ os) = elim (o.block) [
 
 abbrev pub is_length_above : Known → Option ℕ → Bool
 is_length_above k None = false
-is_length_above k (Some n) = nat_lt 8192 (k.length + n)
+is_length_above k (Some n) = nat_lt most_records (k.length + n)
 
 abbrev pub is_long : Known → Phrase → Bool
 is_long k Close = is_inside k.place && is_length_above k (body_length k.blocks)
@@ -302,15 +303,15 @@ ways_in [] = 0
 ways_in (o ∷ os) = o.ways
 
 abbrev pub passes_count : Known → Phrase → Bool
-passes_count k (Ram lo hi) = nat_le 8 (length k.ram)
-passes_count k (Pool fs) = nat_lt 32 (length k.pool + length fs)
-passes_count k (Tables fs) = nat_lt 8 (length k.tables + length fs)
-passes_count k (Flags bs) = nat_lt 8 (length k.flags + length bs)
-passes_count k (Set name s) = nat_le 64 (length k.sets)
-passes_count k (Name name s) = nat_le 256 (length k.names)
-passes_count k (Label name) = nat_le 256 (length k.names)
-passes_count k (Hart n) = nat_le 4 (length k.harts)
-passes_count k (Way w) = nat_le 64 (ways_in k.blocks)
+passes_count k (Ram lo hi) = nat_le most_regions (length k.ram)
+passes_count k (Pool fs) = nat_lt most_pool (length k.pool + length fs)
+passes_count k (Tables fs) = nat_lt most_tables (length k.tables + length fs)
+passes_count k (Flags bs) = nat_lt most_flags (length k.flags + length bs)
+passes_count k (Set name s) = nat_le most_sets (length k.sets)
+passes_count k (Name name s) = nat_le most_names (length k.names)
+passes_count k (Label name) = nat_le most_names (length k.names)
+passes_count k (Hart n) = nat_le most_harts (length k.harts)
+passes_count k (Way w) = nat_le most_ways (ways_in k.blocks)
 passes_count k _ = false
 
 -- ---- kind 11
@@ -328,9 +329,9 @@ is_bad_region ram lo hi =
     nat_le hi lo
     || (not (lo % 4096 == 0)
     || (not (hi % 4096 == 0)
-    || (nat_lt 0xfffff000 hi
+    || (nat_lt last_end hi
     || (list_any (overlaps lo hi) ram
-    || nat_lt (2 ^ 26) (size_of ram + (hi - lo))))))
+    || nat_lt most_memory (size_of ram + (hi - lo))))))
 
 abbrev pub holds : ℕ → ℕ → Region → Bool
 holds lo size r = nat_le r.low lo && nat_le (lo + size) r.high
@@ -615,7 +616,7 @@ run k n (l ∷ m ∷ ls) = elim (judged k n (stripped l) false) [
 
 -- what a text says, or its first faulty line with the least kind of fault on it
 unfoldable pub parses : List ℕ → Result Said AFault
-parses text = if nat_lt 65536 (length text) then Err (fault 0 kinds.TooLong) else run nothing 1 (lines text)
+parses text = if nat_lt most_text (length text) then Err (fault 0 kinds.TooLong) else run nothing 1 (lines text)
 
 -- the template is what the text says
 pub record Parses (bytes : List ℕ) (t : Template) : Type 0 where

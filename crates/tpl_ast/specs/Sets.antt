@@ -5,7 +5,7 @@ use Rattle.std.specs.Str.{bytes_eq}
 use Rattle.dom_set.specs.Elements.{elements_of, is_within}
 use Rattle.rv_isa.specs.declared.operation.Op.{Op}
 use Rattle.rv_isa.specs.declared.operation.TheConstants.{OPS}
-use Rattle.rv_isa.specs.Names.{name_of}
+use Rattle.rv_isa.specs.Numbers.{op_number_among}
 use Rattle.rv_csr.specs.declared.table.Register.{Register}
 use Rattle.rv_csr.specs.Table.{address_of}
 use Rattle.tpl_ast.specs.declared.phrase.Element.{Element}
@@ -62,10 +62,6 @@ resolved sets (Listed es align) = listed (ranges_of es) (align_in align)
 -- single numbers as ranges
 abbrev pub points : List ℕ → List (ℕ × ℕ)
 points ns = map (λ n. (n, n)) ns
-
-abbrev pub op_number_among : List ℕ → List Op → ℕ
-op_number_among word [] = 0
-op_number_among word (op ∷ ops) = if bytes_eq (name_of op) word then 0 else op_number_among word ops + 1
 
 abbrev pub address_in : Option Register → ℕ
 address_in None = 0

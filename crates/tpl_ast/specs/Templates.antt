@@ -16,15 +16,16 @@ use Rattle.tpl_ast.specs.Leaves.{is_leaf}
 use Rattle.tpl_ast.specs.Lengths.{length_of_harts}
 use Rattle.tpl_ast.specs.Parsing.{holds, is_number_among, size_of}
 use Rattle.tpl_ast.specs.States.{AreStartWords, IsState}
+use Rattle.tpl_ast.specs.Limits.{data_bound, last_end, longest_name, most_flags, most_harts, most_memory, most_names, most_pool, most_records, most_regions, most_tables, most_text, most_times, most_ways, most_weight}
 
 -- ---- memory
 
--- whole frames of 4,096 bytes, up to 0xFFFFF000
+-- whole frames of 4,096 bytes
 pub record IsFramed (r : Region) : Type 0 where
   pub low : r.low % 4096 ≡ 0
   pub high : r.high % 4096 ≡ 0
   pub some : r.low < r.high
-  pub most : r.high ≤ 0xFFFFF000
+  pub most : r.high ≤ last_end
 
 -- no byte is in both
 abbrev pub IsApart : Region → Region → Type 0
@@ -55,9 +56,8 @@ IsFlagByte b = (b < 256) × ((b % 16 == 1) ≡ false)
 
 -- ---- names
 
--- at most 32 bytes
 abbrev pub IsShortName : NameDecl → Type 0
-IsShortName d = length d.name ≤ 32
+IsShortName d = length d.name ≤ longest_name
 
 -- a value can be chosen
 abbrev pub HasValues : NameDecl → Type 0
@@ -71,18 +71,18 @@ is_fetch_outcome n = n == 1 || (n == 12 || n == 255)
 
 abbrev pub are_weights : List (ℕ × Vec Bool Global) → Bool
 are_weights [] = true
-are_weights (w ∷ ws) = nat_le w.0 65535 && are_weights ws
+are_weights (w ∷ ws) = nat_le w.0 most_weight && are_weights ws
 
 -- an item, with the answer for each inner item in its place
 abbrev pub stands_in : ℕ → Item-F Bool → Bool
 stands_in names (layers.Leaf line wishes) = is_leaf names wishes.items
 stands_in names (layers.FetchFault line causes) = list_all is_fetch_outcome causes
 stands_in names (layers.Seq body) = all_true body.items
-stands_in names (layers.Repeat times body) = nat_le times 8192 && all_true body.items
-stands_in names (layers.Choose line ways) = nat_le 1 (weight_of ways.items) && (nat_le (length ways.items) 64 && (are_weights ways.items && all_ways ways.items))
+stands_in names (layers.Repeat times body) = nat_le times most_times && all_true body.items
+stands_in names (layers.Choose line ways) = nat_le 1 (weight_of ways.items) && (nat_le (length ways.items) most_ways && (are_weights ways.items && all_ways ways.items))
 stands_in names (layers.Label name) = nat_lt name names
 
--- an item of a template with so many names: its leaves are leaves, faults of fetches are such, repeats are at most 8,192 times, and of each choice, of at most 64 alternatives with weights of at most 65,535, one can be picked
+-- an item of a template with so many names: its leaves are leaves, faults of fetches are such, repeats and choices keep their limits, and of each choice one alternative can be picked
 abbrev pub stands : ℕ → Item → Bool
 stands names = fold-Item Bool (stands_in names)
 
@@ -96,27 +96,26 @@ CanPick items = all_true (map is_fit items) ≡ true
 -- ---- templates
 
 pub record KeepsLimits (bytes : List ℕ) (t : Template) : Type 0 where
-  pub text : length bytes ≤ 65536
+  pub text : length bytes ≤ most_text
   pub ram : AllByRecursion IsFramed t.ram
-  pub regions : length t.ram ≤ 8
+  pub regions : length t.ram ≤ most_regions
   pub apart : AreApart t.ram
-  -- 64 MiB
-  pub memory : size_of t.ram ≤ 2 ^ 26
+  pub memory : size_of t.ram ≤ most_memory
   pub pool : AreFrames t.ram t.tables t.pool
-  pub pool_count : length t.pool ≤ 32
+  pub pool_count : length t.pool ≤ most_pool
   pub tables : AreFrames t.ram t.pool t.tables
-  pub tables_count : length t.tables ≤ 8
+  pub tables_count : length t.tables ≤ most_tables
   pub flags : AllByRecursion IsFlagByte t.flags
-  pub flags_count : length t.flags ≤ 8
+  pub flags_count : length t.flags ≤ most_flags
   pub vectors : (x : ℕ) → is_in t.vectors x ≡ true → x % 4 ≡ 0
   pub words : AreStartWords t.ram 0 t.words
-  pub words_count : length t.words < 7300
+  pub words_count : length t.words < data_bound
   pub names : AllByRecursion IsShortName t.names
-  pub names_count : length t.names ≤ 256
+  pub names_count : length t.names ≤ most_names
   pub values : AllByRecursion HasValues t.names
   pub some_harts : 1 ≤ length t.harts
-  pub harts : length t.harts ≤ 4
+  pub harts : length t.harts ≤ most_harts
   pub states : AllByRecursion (λ (h : HartDecl). IsState h.start) t.harts
   pub bodies : AllByRecursion (λ (h : HartDecl). IsBody (length t.names) h.body.items) t.harts
   pub picks : AllByRecursion (λ (h : HartDecl). CanPick h.body.items) t.harts
-  pub length : length_of_harts t.harts ≤ 8192
+  pub length : length_of_harts t.harts ≤ most_records

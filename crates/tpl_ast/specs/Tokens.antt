@@ -7,6 +7,7 @@ use Rattle.tpl_ast.specs.declared.mark.Mark.{Mark}
 use Rattle.tpl_ast.specs.declared.mark.Mark.TheVariants as marks
 use Rattle.tpl_ast.specs.declared.phrase.Numeral.{Numeral}
 use Rattle.tpl_ast.specs.Numbers.{are_digits, fitting, negated_of, value_of}
+use Rattle.tpl_ast.specs.Limits.{longest_name}
 
 pub data Token : Type 0 where
   Word : List ℕ → Token
@@ -40,9 +41,9 @@ abbrev pub pieces : List ℕ → List (List ℕ)
 pieces [] = []
 pieces (b ∷ bs) = with_byte b (pieces bs)
 
--- a lower-case letter, then lower-case letters, digits and underscores, at most 32 bytes
+-- a lower-case letter, then lower-case letters, digits and underscores, no longer than a name
 unfoldable pub is_word : List ℕ → Bool
-is_word p = nat_le (length p) 32 && is_ascii_lowercase (slice_index p 0) && list_all (λ b. is_word_byte b && not (is_ascii_uppercase b)) p
+is_word p = nat_le (length p) longest_name && is_ascii_lowercase (slice_index p 0) && list_all (λ b. is_word_byte b && not (is_ascii_uppercase b)) p
 
 abbrev pub numeral : Bool → Option ℕ → Numeral
 numeral minus value = record { minus = minus; value = value }

@@ -5,6 +5,7 @@ mod fault;
 mod items;
 mod laws;
 mod lengths;
+mod limits;
 mod mark;
 mod phrase;
 mod template;
@@ -17,6 +18,12 @@ pub use laws::{
     template_law, word_law,
 };
 pub use lengths::length;
+pub use limits::{
+    LAST_END, MAX_ACCESSES, MAX_ATOMS, MAX_BLOCKS, MAX_CHOICES, MAX_DROPPED, MAX_ELEMENTS,
+    MAX_FILE, MAX_FLAGS, MAX_HARTS, MAX_MEMORY, MAX_NAME, MAX_NAMES, MAX_POOL, MAX_RECORDS,
+    MAX_REGIONS, MAX_SETS, MAX_STEPS, MAX_TABLES, MAX_TEXT, MAX_TIMES, MAX_WAYS, MAX_WEIGHT,
+    MAX_WORDS,
+};
 pub use mark::Mark;
 pub use phrase::{Element, Numeral, OutcomeElement};
 pub use template::{Atom, HartDecl, HartState, Item, NameDecl, Region, Template, Var, Wish};

@@ -1,7 +1,7 @@
 // The words of the template language.
 ghost use Rattle.std.specs.Prelude.{◌≡◌, ◌≤◌, ◌||◌, is_some, length};
 ghost use Rattle.rv_isa.specs.declared.operation.TheConstants.{OPS};
-ghost use Rattle.tpl_ast.specs.Sets.{op_number_among};
+ghost use Rattle.rv_isa.specs.Numbers.{op_number_among};
 ghost use Rattle.tpl_ast.specs.Words.{csr_among, csr_of, is_register_word, is_reserved, key_among, key_of, op_among, op_of, spelling_of};
 
 use rv_csr::{REGISTERS, Register, row_of};

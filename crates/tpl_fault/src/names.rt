@@ -6,7 +6,7 @@ ghost use Rattle.tpl_state.specs.State.{known};
 ghost use Rattle.tpl_token.specs.Phrases.{atom_view, domain_view, phrase, set_view, wishes_view};
 
 use tpl_ast::{Var, csr_of};
-use tpl_judge::{find_set, is_any_word_unknown, name_among};
+use tpl_judge::is_any_word_unknown;
 use tpl_state::State;
 use tpl_token::{AtomText, DomainText, SetText, Statement, WishText};
 
@@ -14,14 +14,14 @@ use tpl_token::{AtomText, DomainText, SetText, Statement, WishText};
 pub fn is_declared(state: &State, name: &[u8]) -> bool
     ensures { result ≡ is_declared (known state.now) name.now }
 {
-    find_set(&state.sets, name).is_some() || name_among(&state.names, name)
+    state.sets.find(name).is_some() || state.names.has(name)
 }
 
 fn is_set_unknown(state: &State, set: &SetText<'_>) -> bool
     ensures { result ≡ is_set_unknown (known state.now) (set_view set.now) }
 {
     match set {
-        SetText::Named(name) => find_set(&state.sets, name).is_none(),
+        SetText::Named(name) => state.sets.find(name).is_none(),
         SetText::Listed(_, _) => false,
     }
 }
@@ -42,7 +42,7 @@ fn is_atom_unknown(state: &State, atom: &AtomText<'_>) -> bool
     match atom {
         AtomText::Among(var, domain) => is_domain_unknown(state, *var, domain),
         AtomText::NotAmong(var, domain) => is_domain_unknown(state, *var, domain),
-        AtomText::IsName(_, name) => !name_among(&state.names, name),
+        AtomText::IsName(_, name) => !state.names.has(name),
         _ => false,
     }
 }

@@ -6,7 +6,10 @@ ghost use Rattle.tpl_state.specs.State.{known};
 ghost use Rattle.tpl_token.specs.Phrases.{phrase};
 
 use rv_csr::Register;
-use tpl_ast::csr_of;
+use tpl_ast::{
+    MAX_BLOCKS, MAX_FLAGS, MAX_HARTS, MAX_NAMES, MAX_POOL, MAX_RECORDS, MAX_REGIONS, MAX_SETS,
+    MAX_TABLES, MAX_WAYS, csr_of,
+};
 use tpl_state::State;
 use tpl_token::Statement;
 
@@ -73,7 +76,7 @@ pub fn allows(state: &State, statement: &Statement<'_>) -> bool
 pub fn is_deep(state: &State, statement: &Statement<'_>) -> bool
     ensures { result ≡ is_deep (known state.now) (phrase statement.now) }
 {
-    opens(statement) && 17 <= state.body.depth()
+    opens(statement) && MAX_BLOCKS < state.body.depth()
 }
 
 /// Kind 9: whether the statement closes a body with which all harts are too long.
@@ -82,7 +85,7 @@ pub fn is_long(state: &State, statement: &Statement<'_>) -> bool
 {
     match (statement, state.body.length()) {
         (Statement::Close, Some(length)) => {
-            state.place.is_inside() && 8192 < state.total.saturating_add(length)
+            state.place.is_inside() && (MAX_RECORDS as u64) < state.total.saturating_add(length)
         }
         _ => false,
     }
@@ -93,14 +96,14 @@ pub fn passes_count(state: &State, statement: &Statement<'_>) -> bool
     ensures { result ≡ passes_count (known state.now) (phrase statement.now) }
 {
     match statement {
-        Statement::Ram(_, _) => 8 <= state.ram.len(),
-        Statement::Pool(frames) => 32 < state.pool.len() + frames.len(),
-        Statement::Tables(frames) => 8 < state.tables.len() + frames.len(),
-        Statement::Flags(flags) => 8 < state.flags.len() + flags.len(),
-        Statement::Set(_, _) => 64 <= state.sets.len(),
-        Statement::Name(_, _) | Statement::Label(_) => 256 <= state.names.len(),
-        Statement::Hart(_) => 4 <= state.harts.len(),
-        Statement::Way(_) => 64 <= state.body.ways(),
+        Statement::Ram(_, _) => MAX_REGIONS <= state.ram.len(),
+        Statement::Pool(frames) => MAX_POOL < state.pool.len() + frames.len(),
+        Statement::Tables(frames) => MAX_TABLES < state.tables.len() + frames.len(),
+        Statement::Flags(flags) => MAX_FLAGS < state.flags.len() + flags.len(),
+        Statement::Set(_, _) => MAX_SETS <= state.sets.len(),
+        Statement::Name(_, _) | Statement::Label(_) => MAX_NAMES <= state.names.len(),
+        Statement::Hart(_) => MAX_HARTS <= state.harts.len(),
+        Statement::Way(_) => MAX_WAYS <= state.body.ways(),
         _ => false,
     }
 }

@@ -7,7 +7,9 @@ ghost use Rattle.tpl_token.specs.Phrases.{domain_view, atom_view, phrase, set_vi
 use crate::values::number;
 use rv_csr::is_cause;
 use std::alloc::{AllocError, Global};
-use tpl_ast::{Element, Numeral, OutcomeElement, Var};
+use tpl_ast::{
+    Element, MAX_ATOMS, MAX_ELEMENTS, MAX_TIMES, MAX_WEIGHT, Numeral, OutcomeElement, Var,
+};
 use tpl_token::{AtomText, DomainText, SetText, Statement, WishText};
 
 fn is_large(n: Numeral) -> bool
@@ -174,8 +176,8 @@ pub fn is_phrase_above(statement: &Statement<'_>) -> bool
         Statement::Reg(number, value) => is_no_register(*number) || is_large(*value),
         Statement::Do(wishes) => is_any_wish_above(wishes),
         Statement::Fault(outcomes) => is_any_no_fetch_cause(outcomes),
-        Statement::Repeat(times) => is_above(8192, *times),
-        Statement::Way(weight) => is_above(65535, *weight),
+        Statement::Repeat(times) => is_above(MAX_TIMES, *times),
+        Statement::Way(weight) => is_above(MAX_WEIGHT, *weight),
         _ => false,
     }
 }
@@ -185,7 +187,7 @@ fn is_set_long(set: &SetText<'_>) -> bool
 {
     match set {
         SetText::Named(_) => false,
-        SetText::Listed(elements, _) => 64 < elements.len(),
+        SetText::Listed(elements, _) => MAX_ELEMENTS < elements.len(),
     }
 }
 
@@ -194,8 +196,8 @@ fn is_domain_long(domain: &DomainText<'_>) -> bool
 {
     match domain {
         DomainText::Numbers(set) => is_set_long(set),
-        DomainText::Words(words) => 64 < words.len(),
-        DomainText::Outcomes(outcomes) => 64 < outcomes.len(),
+        DomainText::Words(words) => MAX_ELEMENTS < words.len(),
+        DomainText::Outcomes(outcomes) => MAX_ELEMENTS < outcomes.len(),
     }
 }
 
@@ -228,8 +230,8 @@ pub fn is_phrase_long(statement: &Statement<'_>) -> bool
         Statement::Vectors(set) => is_set_long(set),
         Statement::Set(_, set) => is_set_long(set),
         Statement::Name(_, set) => is_set_long(set),
-        Statement::Do(wishes) => 32 < wishes.len() || is_any_wish_long(wishes),
-        Statement::Fault(outcomes) => 64 < outcomes.len(),
+        Statement::Do(wishes) => MAX_ATOMS < wishes.len() || is_any_wish_long(wishes),
+        Statement::Fault(outcomes) => MAX_ELEMENTS < outcomes.len(),
         _ => false,
     }
 }

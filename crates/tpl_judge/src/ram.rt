@@ -5,7 +5,7 @@ ghost use Rattle.tpl_ast.specs.Parsing.{holds, is_bad_region, is_number_among, i
 ghost use Rattle.tpl_ast.specs.Sets.{number};
 
 use crate::values::number;
-use tpl_ast::{Numeral, Region};
+use tpl_ast::{LAST_END, MAX_MEMORY, Numeral, Region};
 
 fn overlaps(low: u32, high: u32, region: Region) -> bool
     ensures { result ≡ overlaps low high region }
@@ -37,9 +37,9 @@ pub fn is_bad_region(ram: &[Region], low: u32, high: u32) -> bool
     high <= low
         || low % 4096 != 0
         || high % 4096 != 0
-        || 0xffff_f000 < high
+        || LAST_END < high
         || overlaps_any(low, high, ram)
-        || 1 << 26 < size_of(ram).saturating_add(u64::from(high - low))
+        || MAX_MEMORY < size_of(ram).saturating_add(u64::from(high - low))
 }
 
 fn holds(low: u32, size: u32, region: Region) -> bool

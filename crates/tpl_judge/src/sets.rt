@@ -6,16 +6,14 @@ ghost use Rattle.tpl_ast.specs.Parsing.{all_values, vectors_of};
 ghost use Rattle.tpl_ast.specs.Phrases.{SetPhrase};
 ghost use Rattle.tpl_ast.specs.Sets.{align_in, address_in, fours, listed, number, outcome_number, points, ranges_in, ranges_of, resolved, word_number, wraps};
 ghost use Rattle.tpl_judge.specs.Aligns.{is_misaligned};
-ghost use Rattle.tpl_state.specs.NamedSets.{named_views};
 ghost use Rattle.tpl_token.specs.Phrases.{set_view, words_view};
 
-use crate::names::find_set;
 use crate::values::number;
 use dom_set::{OutOfMemory, Set, set_laws};
 use rv_csr::{Register, row_of};
 use std::alloc::Global;
 use tpl_ast::{Element, Numeral, OutcomeElement, Var, csr_of, op_number};
-use tpl_state::NamedSet;
+use tpl_state::Sets;
 use tpl_token::SetText;
 
 /// Whether a range wraps round from the greatest number to 0.
@@ -77,13 +75,13 @@ pub fn align_law()
 {}
 
 /// The elements of a set.
-pub fn resolve(alloc: Global, sets: &[NamedSet], set: &SetText<'_>) -> Result<Set, OutOfMemory>
+pub fn resolve(alloc: Global, sets: &Sets, set: &SetText<'_>) -> Result<Set, OutOfMemory>
     requires { is_misaligned (set_view set.now) ≡ false }
-    ensures { IfOk result (λ s. s ≡ resolved (named_views sets.now) (set_view set.now)) }
+    ensures { IfOk result (λ s. s ≡ resolved sets.now (set_view set.now)) }
 {
     match set {
-        SetText::Named(name) => match find_set(sets, name) {
-            Some(named) => named.set.copy(alloc),
+        SetText::Named(name) => match sets.find(name) {
+            Some(set) => set.copy(alloc),
             None => Ok(Set::new(alloc)),
         },
         SetText::Listed(elements, align) => {

@@ -12,7 +12,7 @@ unfold_if : (b : Bool) (k : Kind) (rest : Option Kind) → (if b then Some k els
 unfold_if true k rest h = absurd cc
 unfold_if false k rest h = (refl, h)
 
-pub faultless : (k : Known) (last : Bool) (p : Phrase) → fault_of k last p ≡ None → (allows k p ≡ true) × (is_phrase_above p ≡ false) × (passes_count k p ≡ false)
+pub faultless : (k : Known) (last : Bool) (p : Phrase) → fault_of k last p ≡ None → (allows k p ≡ true) × (is_phrase_above p ≡ false) × (is_double k p ≡ false) × (passes_count k p ≡ false)
 unfolding fault_of
 faultless k last p fine =
     let place = unfold_if (not (allows k p)) kinds.Unexpected _ fine in
@@ -25,4 +25,4 @@ faultless k last p fine =
     let deep = unfold_if (is_deep k p) kinds.TooDeep _ empty.1 in
     let long = unfold_if (is_long k p) kinds.TooLong _ deep.1 in
     let many = unfold_if (is_phrase_long p || passes_count k p) kinds.TooMany _ long.1 in
-    (not-false (allows k p) place.0, above.0, (or_parts (is_phrase_long p) (passes_count k p) many.0).1)
+    (not-false (allows k p) place.0, above.0, double.0, (or_parts (is_phrase_long p) (passes_count k p) many.0).1)

@@ -7,11 +7,12 @@ ghost use Rattle.tpl_parse.specs.declared.error.ParseError.TheVariants as errors
 ghost use Rattle.tpl_parse.specs.Answers.{Answers, IsSaid, Meets, at_line};
 ghost use Rattle.tpl_state.specs.State.{known};
 ghost use Rattle.tpl_token.specs.Views.{views};
+ghost use Rattle.tpl_ast.specs.Limits.{most_text};
 
 use crate::error::{ParseError, Trouble};
 use std::alloc::Global;
 use tpl_apply::apply;
-use tpl_ast::{Fault, Items, Kind, Template};
+use tpl_ast::{Fault, Items, Kind, MAX_TEXT, Template};
 use tpl_fault::{find_fault, is_finished};
 use tpl_judge::vectors_of;
 use tpl_phrase::read_statement;
@@ -70,6 +71,9 @@ fn finish(alloc: Global, state: State, text: Items<u8>) -> Result<Template, Pars
     let Ok(vectors) = vectors_of(alloc, state.vectors, &state.pool) else {
         return Err(ParseError::OutOfMemory);
     };
+    let Ok(names) = state.names.into_decls(alloc) else {
+        return Err(ParseError::OutOfMemory);
+    };
     Ok(Template {
         text,
         ram: Items::from_vec(state.ram),
@@ -78,7 +82,7 @@ fn finish(alloc: Global, state: State, text: Items<u8>) -> Result<Template, Pars
         flags: Items::from_vec(state.flags),
         vectors,
         words: Items::from_vec(state.words),
-        names: Items::from_vec(state.names),
+        names,
         harts: Items::from_vec(state.harts),
     })
 }
@@ -94,7 +98,7 @@ fn refuse(trouble: Trouble, line: u32) -> ParseError
 
 /// What all lines have said, or the first faulty one and its fault.
 fn read_lines(alloc: Global, text: &[u8]) -> Result<State, ParseError>
-    requires { length text.now ≤ 65536 }
+    requires { length text.now ≤ most_text }
     ensures { Answers (λ s. said (known s)) result (run nothing 1 (lines text.now)) }
 {
     let mut state = State::new(alloc);
@@ -127,9 +131,9 @@ pub fn parse(alloc: Global, text: &[u8]) -> Result<Template, ParseError>
     ensures text { IfOk result (λ t. t.text ≡ text.now) }
     ensures template { IfOk result (λ t. Parses t.text t) }
     // A text that is too long takes no memory to refuse.
-    ensures long { 65536 < length text.now → result ≡ Err (errors.Fault (fault 0 TooLong)) }
+    ensures long { most_text < length text.now → result ≡ Err (errors.Fault (fault 0 TooLong)) }
 {
-    if text.len() > 65536 {
+    if text.len() > MAX_TEXT {
         return Err(ParseError::Fault(Fault {
             line: 0,
             kind: Kind::TooLong,

@@ -1,4 +1,4 @@
 pub mod Growing
-pub mod NamedSets
+pub mod Finding
 pub mod Places
 pub mod State

@@ -1,7 +1,6 @@
 -- What is kept of the lines so far, as what they have said.
 use Rattle.std.specs.Prelude.{map}
 use Rattle.tpl_ast.specs.Parsing.{Known, hart_lines}
-use Rattle.tpl_state.specs.NamedSets.{named_views}
 use Rattle.tpl_state.specs.Places.{place_view}
 use Rattle.tpl_state.specs.declared.state.State.{State}
 
@@ -13,8 +12,8 @@ known p = record {
   tables = p.tables.items;
   flags = p.flags.items;
   vectors = p.vectors;
-  sets = named_views p.sets.items;
-  names = p.names.items;
+  sets = p.sets;
+  names = p.names;
   words = p.words.items;
   harts = map hart_lines p.harts.items;
   length = p.total;

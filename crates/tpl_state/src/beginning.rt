@@ -4,7 +4,9 @@ ghost use Rattle.tpl_ast.specs.Parsing.{nothing};
 ghost use Rattle.tpl_state.specs.State.{known};
 
 use crate::body::Growing;
+use crate::names::Names;
 use crate::place::Place;
+use crate::sets::Sets;
 use crate::state::State;
 use rv_csr::Priv;
 use std::alloc::Global;
@@ -21,8 +23,8 @@ impl State {
             tables: Vec::new(alloc),
             flags: Vec::new(alloc),
             vectors: None,
-            sets: Vec::new(alloc),
-            names: Vec::new(alloc),
+            sets: Sets::new(alloc),
+            names: Names::new(alloc),
             words: Vec::new(alloc),
             harts: Vec::new(alloc),
             total: 0,

@@ -4,11 +4,13 @@
 
 mod beginning;
 mod body;
+mod names;
 mod place;
 mod sets;
 mod state;
 
 pub use body::Growing;
+pub use names::Names;
 pub use place::Place;
-pub use sets::NamedSet;
+pub use sets::Sets;
 pub use state::State;

@@ -1,12 +1,14 @@
 // What the lines so far have said.
 ghost use Rattle.std.specs.Prelude.{◌≤◌, length};
+ghost use Rattle.tpl_ast.specs.Limits.{most_names};
 
 use crate::body::Growing;
+use crate::names::Names;
 use crate::place::Place;
-use crate::sets::NamedSet;
+use crate::sets::Sets;
 use dom_set::Set;
 use rv_csr::Priv;
-use tpl_ast::{HartDecl, NameDecl, Region};
+use tpl_ast::{HartDecl, Region};
 
 /// What the lines so far have said.
 #[derive(Drop)]
@@ -24,9 +26,9 @@ pub struct State {
     /// The addresses that vectors may have, where they are given.
     pub vectors: Option<Set>,
     /// The sets that are declared.
-    pub sets: Vec<NamedSet>,
+    pub sets: Sets,
     /// The names and labels that are declared.
-    pub names: Vec<NameDecl>,
+    pub names: Names,
     /// The started words by ascending address.
     pub words: Vec<(u32, u32)>,
     /// The harts that are ended.
@@ -41,5 +43,5 @@ pub struct State {
     pub given: Vec<(u32, u32)>,
     /// Its body.
     pub body: Growing,
-    ghost few: { length names.items ≤ 256 },
+    ghost few: { length names ≤ most_names },
 }

@@ -8,7 +8,7 @@ ghost use Rattle.tpl_token.specs.Views.{view, views};
 
 use crate::number::{are_digits, decimal, hexadecimal, negated};
 use std::alloc::{AllocError, Global};
-use tpl_ast::{Mark, Numeral};
+use tpl_ast::{MAX_NAME, Mark, Numeral};
 
 /// A token; a word lies in the text.
 #[derive(Clone, Copy, Debug)]
@@ -70,7 +70,7 @@ fn is_word(piece: &[u8]) -> bool
     requires { 0 < length piece.now }
     ensures { result ≡ is_word piece.now }
 {
-    piece.len() <= 32 && piece[0].is_ascii_lowercase() && are_word_bytes(piece)
+    piece.len() <= MAX_NAME && piece[0].is_ascii_lowercase() && are_word_bytes(piece)
 }
 
 /// The number that a piece spells, if it spells one.

@@ -1,3 +1,4 @@
 pub mod Numbered
 pub mod Parts
 pub mod Lengths
+pub mod Reports

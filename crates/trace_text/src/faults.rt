@@ -1,5 +1,5 @@
 // What is said of a text that is no template.
-ghost use Rattle.std.specs.Prelude.{◌≡◌, ◌++◌, ◌≤◌, length, OnOk, IfOk, string_bytes};
+ghost use Rattle.std.specs.Prelude.{◌≡◌, ◌++◌, OnOk, IfOk, string_bytes};
 ghost use Rattle.trace_text.specs.Faults.{fault_head, fault_line, fault_text, kind_text};
 
 use crate::OutOfMemory;
@@ -42,10 +42,8 @@ fn push_fault(text: &mut String, line: u32, name: &str) -> Result<(), AllocError
 }
 
 /// What is wrong with a text as one line: the first faulty line's number, from 1, and the least kind of fault on it.
-#[tactic(auto, using(crate::proofs::Lengths::fault_short))]
 pub fn fault_text(alloc: Global, fault: &Fault) -> Result<String, OutOfMemory>
-    ensures text { IfOk result (λ s. string_bytes s ≡ fault_text fault.now) }
-    ensures size { length (fault_text fault.now) ≤ 256 }
+    ensures { IfOk result (λ s. string_bytes s ≡ fault_text fault.now) }
 {
     let mut text = String::new(alloc);
     push_fault(&mut text, fault.line, name_of(fault.kind))?;

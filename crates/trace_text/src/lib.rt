@@ -5,6 +5,7 @@
 mod error;
 mod faults;
 mod harts;
+mod laws;
 mod names;
 mod printing;
 mod rest;
@@ -13,5 +14,6 @@ mod verdicts;
 
 pub use error::OutOfMemory;
 pub use faults::fault_text;
+pub use laws::length_laws;
 pub use printing::report;
 pub use verdicts::{malformed, verdict};

@@ -1,6 +1,5 @@
 // The report of a certificate.
-ghost use Rattle.std.specs.Prelude.{◌≡◌, ◌++◌, ◌≤◌, ◌+◌, ◌*◌, length, OnOk, IfOk, string_bytes};
-ghost use Rattle.tpl_admit.specs.Sizes.{certificate_size};
+ghost use Rattle.std.specs.Prelude.{◌≡◌, ◌++◌, length, OnOk, IfOk, string_bytes};
 ghost use Rattle.trace_text.specs.Report.{word_line, words_text, harts_line, report_text};
 
 use crate::OutOfMemory;
@@ -53,12 +52,10 @@ fn push_report(text: &mut String, cert: &Cert) -> Result<(), AllocError>
 
 /// The report of a certificate: its harts in order, each with its start, its steps and its end, and then its words of
 /// memory, its names, its choices and its dropped biases.
-#[tactic(auto, using(crate::proofs::Lengths::report_short))]
 pub fn report(alloc: Global, cert: &Cert) -> Result<String, OutOfMemory>
     requires traces { length cert.now.traces ≡ length cert.now.start }
     requires finals { length cert.now.finals ≡ length cert.now.start }
-    ensures text { IfOk result (λ s. string_bytes s ≡ report_text cert.now) }
-    ensures size { length (report_text cert.now) ≤ 2048 * certificate_size cert.now + 2048 }
+    ensures { IfOk result (λ s. string_bytes s ≡ report_text cert.now) }
 {
     let mut text = String::new(alloc);
     push_report(&mut text, cert)?;

@@ -1,5 +1,5 @@
 // What is said of a file.
-ghost use Rattle.std.specs.Prelude.{◌≡◌, ◌++◌, ◌≤◌, length, OnOk, IfOk, string_bytes};
+ghost use Rattle.std.specs.Prelude.{◌≡◌, ◌++◌, OnOk, IfOk, string_bytes};
 ghost use Rattle.trace_text.specs.Verdicts.{no_text, verdict_text, malformed_text};
 
 use crate::OutOfMemory;
@@ -24,10 +24,8 @@ fn push_verdict(text: &mut String, verdict: &Verdict) -> Result<(), AllocError>
 }
 
 /// The verdict of a check as one line: `yes`, or the first failure.
-#[tactic(auto, using(crate::proofs::Lengths::verdict_short))]
 pub fn verdict(alloc: Global, verdict: &Verdict) -> Result<String, OutOfMemory>
-    ensures text { IfOk result (λ s. string_bytes s ≡ verdict_text verdict.now) }
-    ensures size { length (verdict_text verdict.now) ≤ 256 }
+    ensures { IfOk result (λ s. string_bytes s ≡ verdict_text verdict.now) }
 {
     let mut text = String::new(alloc);
     push_verdict(&mut text, verdict)?;
@@ -42,10 +40,8 @@ fn push_malformed(text: &mut String, part: u8) -> Result<(), AllocError>
 }
 
 /// That bytes are no file, as one line with the number of their first wrong part.
-#[tactic(auto, using(crate::proofs::Lengths::malformed_short))]
 pub fn malformed(alloc: Global, part: u8) -> Result<String, OutOfMemory>
-    ensures text { IfOk result (λ s. string_bytes s ≡ malformed_text part) }
-    ensures size { length (malformed_text part) ≤ 256 }
+    ensures { IfOk result (λ s. string_bytes s ≡ malformed_text part) }
 {
     let mut text = String::new(alloc);
     push_malformed(&mut text, part)?;

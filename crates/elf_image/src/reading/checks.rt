@@ -7,28 +7,19 @@ ghost use Rattle.elf_headers.specs.Runs.{total_words};
 ghost use Rattle.elf_headers.specs.Checks.{are_runs, is_table};
 ghost use Rattle.elf_image.specs.Checks.{are_harts, are_values, is_drop, are_dropped, is_rest, are_traces, are_in, is_named, are_named, is_fit};
 ghost use Rattle.elf_image.specs.Views.{notes_view};
+ghost use Rattle.tpl_ast.specs.Limits.{file_limits};
 
 use crate::reading::notes::NoteDescs;
 use elf_headers::{Run, Table};
 use rv_hart::Record;
 use std::cmp::min;
 use tpl_admit::{Dropped, HartState};
-use tpl_ast::{Items, NameDecl, Region, Template};
+use tpl_ast::{
+    Items, MAX_ATOMS, MAX_CHOICES, MAX_DROPPED, MAX_HARTS, MAX_RECORDS, MAX_STEPS, NameDecl,
+    Region, Template,
+};
 
-/// How many records all harts may have.
-pub const MAX_RECORDS: usize = 8_192;
-/// How many harts there may be.
-const MAX_HARTS: usize = 4;
-/// How many choices there may be.
-const MAX_CHOICES: usize = 8_192;
-/// How many biases may be dropped.
-const MAX_DROPPED: usize = 262_144;
-/// How many steps a hart may have.
-const MAX_STEPS: u32 = 8_192;
-/// How many atoms a step may have.
-const MAX_ATOMS: u32 = 32;
-
-/// Whether all harts have at most 8,192 records.
+/// Whether all harts together have no more records than a file.
 #[tactic(auto, unfolding(crate::specs::Checks::are_traces))]
 pub fn are_traces(traces: &[Items<Record>]) -> bool
     ensures { result ≡ are_traces traces.now }
@@ -59,7 +50,7 @@ pub fn are_in(words: &[(u32, u32)], ram: &[Region]) -> bool
 /// Whether there are one to four harts.
 pub fn are_harts(states: &[HartState]) -> bool
     ensures value { result ≡ are_harts states.now }
-    ensures few { IsTrue result → length states.now ≤ 4 }
+    ensures few { IsTrue result → length states.now ≤ file_limits.harts }
 {
     1 <= states.len() && states.len() <= MAX_HARTS
 }
@@ -83,7 +74,7 @@ fn are_values(names: &[(u32, u32)]) -> bool
 fn is_drop(d: Dropped, harts: u32) -> bool
     ensures { result ≡ is_drop harts d }
 {
-    d.hart < harts && d.step < MAX_STEPS && d.atom < MAX_ATOMS
+    d.hart < harts && d.step < MAX_STEPS && d.atom < MAX_ATOMS as u32
 }
 
 /// Where the bias stands among all that could be dropped.
@@ -92,7 +83,7 @@ fn drop_place(d: Dropped) -> u64
     ensures small { result < 2 ^ 60 }
 {
     let step = u64::from(d.hart) * u64::from(MAX_STEPS) + u64::from(d.step);
-    step * u64::from(MAX_ATOMS) + u64::from(d.atom)
+    step * MAX_ATOMS as u64 + u64::from(d.atom)
 }
 
 /// Whether the biases are those of so many harts, each once and by ascending hart, step and atom.

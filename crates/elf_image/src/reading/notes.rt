@@ -5,6 +5,7 @@ ghost use Rattle.elf_headers.specs.Runs.{total_words};
 ghost use Rattle.elf_image.specs.Notes.{note_name};
 ghost use Rattle.elf_image.specs.PartReaders.{note_at, start_at, final_at, rest_at, notes_at, segment_notes_at, traces_at};
 ghost use Rattle.elf_image.specs.Views.{notes_view};
+ghost use Rattle.tpl_ast.specs.Limits.{file_limits};
 
 use crate::reading::checks::{are_harts, are_traces, is_rest};
 use byte_format::{PieceError, after, after_word, padded_of, word_of};
@@ -55,7 +56,7 @@ fn note_of(bytes: &[u8], kind: u32) -> Result<(&[u8], &[u8]), PieceError>
 #[tactic(auto, unfolding(crate::specs::PartReaders::start_at))]
 fn start_of(alloc: Global, desc: &[u8]) -> Result<Items<HartState>, PieceError>
     ensures gives { Gives (λ x. x) result (whole start_at desc.now) }
-    ensures few { IfOk result (λ x. length x ≤ 4) }
+    ensures few { IfOk result (λ x. length x ≤ file_limits.harts) }
 {
     let rest = after_word(desc, VERSION)?;
     let (states, rest) = states_of(alloc, rest)?;
@@ -117,7 +118,7 @@ fn rest_of(alloc: Global, desc: &[u8], harts: u32) -> Result<Rest, PieceError>
 #[tactic(auto, unfolding(crate::specs::PartReaders::notes_at))]
 fn notes_of(alloc: Global, bytes: &[u8], total: u64) -> Result<(NoteDescs<'_>, &[u8]), PieceError>
     ensures gives { Gives (λ x. (notes_view x.0, x.1.now)) result (notes_at total bytes.now) }
-    ensures few { IfOk result (λ x. length x.0.start ≤ 4) }
+    ensures few { IfOk result (λ x. length x.0.start ≤ file_limits.harts) }
 {
     let (desc, rest) = note_of(bytes, NT_START)?;
     let start = start_of(alloc, desc)?;
@@ -143,7 +144,7 @@ fn notes_of(alloc: Global, bytes: &[u8], total: u64) -> Result<(NoteDescs<'_>, &
 
 /// How many words the runs have.
 fn total_of(runs: &[Run]) -> u64
-    requires { total_words runs.now ≤ 60000 }
+    requires { total_words runs.now ≤ file_limits.words }
     ensures { result ≡ total_words runs.now }
 {
     runs.iter().map(|run| u64::from(run.words)).sum()
@@ -156,9 +157,9 @@ pub fn segment_notes_of<'a>(
     bytes: &'a [u8],
     table: &Table,
 ) -> Result<(NoteDescs<'a>, &'a [u8]), PieceError>
-    requires { total_words table.now.runs ≤ 60000 }
+    requires { total_words table.now.runs ≤ file_limits.words }
     ensures gives { Gives (λ x. (notes_view x.0, x.1.now)) result (segment_notes_at table.now.notes (total_words table.now.runs) bytes.entry.now) }
-    ensures few { IfOk result (λ x. length x.0.start ≤ 4) }
+    ensures few { IfOk result (λ x. length x.0.start ≤ file_limits.harts) }
 {
     if bytes.len() < table.notes as usize {
         return Err(PieceError::Malformed);

@@ -1,14 +1,8 @@
-use Rattle.std.proofs.Common.{◌≡◌, ◌∙◌, true, List, ℕ, sym, ap, subst}
-use Rattle.dom_set.specs.Elements.{is_in}
-use Rattle.fd_narrow.specs.Narrowing.{domain_in}
-use Rattle.fd_prob.specs.declared.slot.Slot.TheVariants as slots
-use Rattle.fd_solve.proofs.OneOperation.{domain_is, least_made}
+use Rattle.fd_solve.proofs.Joining.{case_restated, least_restated}
 use Rattle.fd_solve.proofs.cases.solve_case.Goals as goal
 
-pub with_value-requires-clause-element : goal.with_value-requires-clause-element
-with_value-requires-clause-element c =
-    let same : c.domain.result.now ≡ domain_in c.in_ok-of.field-0 slots.Op = c.domain.ensures ∙ domain_is c.args.case.now slots.Op ∙ ap (λ (ds : List (List ℕ)). domain_in ds slots.Op) (sym c.in_ok-of.ensures) in
-    subst (λ (xs : List ℕ). is_in xs c.from-op.result ≡ true) same (sym c.if-not-has.ensures.test)
+pub least_of-requires : goal.least_of-requires
+least_of-requires c = case_restated c.args.case.now c.in_ok-joined.joined c.in_ok-joined.ensures c.requires
 
-pub returns : goal.returns
-returns c = least_made c.args.case.now c.in_ok-of.field-0 c.in_ok-of.ensures c.from-op.result c.from-op.ensures c.in_ok-doms.doms c.in_ok-doms.ensures c.args.pivots.now c.in_ok-least.least c.in_ok-least.ensures
+pub returns-then-has_several_rows : goal.returns-then-has_several_rows
+returns-then-has_several_rows c = least_restated c.args.case.now c.in_ok-joined.joined c.in_ok-joined.ensures c.args.pivots.now c.in_ok-least.least c.in_ok-least.ensures

@@ -1,6 +1,7 @@
+use Rattle.fd_solve.specs.Marks.{whole_of}
 use Rattle.fd_solve.specs.Search.{LeastOrNone}
 use Rattle.fd_solve.proofs.OneOperation.{IsMadeBefore}
 use Rattle.fd_solve.proofs.cases.solve_cases.Given as goal
 
-abbrev pub invariant-loop-case : goal.invariant-loop-case
-invariant-loop-case l = LeastOrNone l.pivots (IsMadeBefore l.op l.case-items l.case-index) l.best
+abbrev pub invariant-loop-place : goal.invariant-loop-place
+invariant-loop-place l = LeastOrNone l.pivots (IsMadeBefore l.op (whole_of l.marked).cases l.place) l.best

@@ -1,8 +1,10 @@
+use Rattle.fd_solve.specs.Marks.{whole_of}
+use Rattle.fd_solve.proofs.Marking.{whole_marked}
 use Rattle.fd_solve.proofs.AllOperations.{least_above, rest_is_least}
 use Rattle.fd_solve.proofs.operations.least.Goals as goal
 
 pub returns-in-Some : goal.returns-in-Some
-returns-in-Some c = least_above c.args.p.now c.fitting_laws.ensures.fitting c.requires.problem c.args.pivot c.requires.pivot c.in-Some.x (rw c.in-Some.is at c.in_ok-x.ensures)
+returns-in-Some c = least_above (whole_of c.args.marked.now) c.fitting_laws.ensures.fitting (whole_marked c.args.marked.now.marks.now c.args.marked.now.biases.now c.args.marked.now.problem.now c.requires.sound.problem) c.args.pivot c.requires.pivot c.in-Some.x (rw c.in-Some.is at c.in_ok-x.ensures)
 
 pub returns : goal.returns
-returns c = rest_is_least c.args.p.now c.fitting_laws.ensures.fitting c.requires.problem c.args.pivot c.requires.pivot (rw c.in_default.is at c.in_ok-x.ensures) c.in_ok-lower.lower c.in_ok-lower.ensures
+returns c = rest_is_least (whole_of c.args.marked.now) c.fitting_laws.ensures.fitting (whole_marked c.args.marked.now.marks.now c.args.marked.now.biases.now c.args.marked.now.problem.now c.requires.sound.problem) c.args.pivot c.requires.pivot (rw c.in_default.is at c.in_ok-x.ensures) c.in_ok-lower.lower c.in_ok-lower.ensures

@@ -1,9 +1,10 @@
+use Rattle.fd_solve.specs.Marks.{whole_of}
 use Rattle.fd_solve.proofs.AllOperations.{no_case, no_fit}
 use Rattle.fd_solve.proofs.operations.solve_between.Goals.{in-Some+in_ok-x+in_default-2, in_default}
 use Rattle.fd_solve.proofs.operations.solve_between.Goals as goal
 
 pub loop-op-preserved : goal.loop-op-preserved
-loop-op-preserved c = elim c.match-pivots_of.branch [
-  | in-Some+in_ok-x+in_default-2 w ↦ no_fit c.args.p.now c.fitting_laws.ensures.fitting c.args.from c.loop-op.op c.loop-op.invariant (rw w.in_default-2.is at w.in_ok-x.ensures)
-  | in_default w ↦ no_case c.args.p.now c.fitting_laws.ensures.fitting c.args.from c.loop-op.op c.loop-op.invariant w.in_default.ensures
+loop-op-preserved c = elim c.match-pivots_with.branch [
+  | in-Some+in_ok-x+in_default-2 w ↦ no_fit (whole_of c.args.marked.now) c.fitting_laws.ensures.fitting c.args.from c.loop-op.op c.loop-op.invariant (rw w.in_default-2.is at w.in_ok-x.ensures)
+  | in_default w ↦ no_case (whole_of c.args.marked.now) c.fitting_laws.ensures.fitting c.args.from c.loop-op.op c.loop-op.invariant w.in_default.ensures
 ]

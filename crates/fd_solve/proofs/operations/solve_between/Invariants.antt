@@ -1,5 +1,6 @@
+use Rattle.fd_solve.specs.Marks.{whole_of}
 use Rattle.fd_solve.specs.Search.{NoneBetween}
 use Rattle.fd_solve.proofs.operations.solve_between.Given as goal
 
 abbrev pub invariant-loop-op : goal.invariant-loop-op
-invariant-loop-op l = NoneBetween l.p l.from l.op
+invariant-loop-op l = NoneBetween (whole_of l.marked) l.from l.op

@@ -1,4 +1,4 @@
-use Rattle.leaf_link.proofs.WalkPossible.{have_walks}
+use Rattle.leaf_link.proofs.HaveWalks.{have_walks}
 use Rattle.leaf_link.proofs.witness_laws.walks_are_possible.Goals as goal
 
 pub returns : goal.returns

@@ -1,5 +1,5 @@
 use Rattle.std.proofs.Common.{◌≡◌, ◌+◌, drop}
-use Rattle.tpl_ast.specs.Sets.{op_number_among}
+use Rattle.rv_isa.specs.Numbers.{op_number_among}
 use Rattle.tpl_ast.proofs.words.number_among.Given as goal
 
 abbrev pub invariant-loop-one : goal.invariant-loop-one

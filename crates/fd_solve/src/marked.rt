@@ -1,0 +1,74 @@
+// A problem with some of its biases.
+ghost use Rattle.std.specs.Prelude.{◌≡◌, ◌<◌, ◌≤◌, ◌==◌, All, IfOk, MatchOption, None, find, if◌then◌else◌, length, slice_index_or, false};
+ghost use Rattle.fd_prob.specs.Extras.{extended_case};
+ghost use Rattle.fd_prob.specs.Fitting.{IsCase};
+ghost use Rattle.fd_prob.specs.Order.{pivot_of};
+ghost use Rattle.fd_prob.specs.declared.slot.Slot.TheVariants as slots;
+ghost use Rattle.fd_solve.specs.Marks.{IsSound, marked_case, whole_of};
+ghost use Rattle.fd_solve.specs.Search.{ArePivots};
+
+use crate::extended::extended_case;
+use crate::pivots::pivots_of;
+use dom_set::OutOfMemory;
+use fd_prob::{Case, Extra, Problem};
+use std::alloc::Global;
+
+/// A problem with those of its biases that are marked. Its cases get what the biases add only when they are searched.
+#[derive(Clone, Copy)]
+pub struct Marked<'a> {
+    pub problem: &'a Problem,
+    pub biases: &'a [Extra],
+    /// Marks of the first biases; where there are fewer than biases, the others are not marked.
+    pub marks: &'a [bool],
+    /// A problem with the same first cases of operations, as far as their domains go: they give space and pivots.
+    pub firsts: &'a Problem,
+}
+
+/// The case with what the bias adds to it, where it is marked.
+fn with_bias(
+    alloc: Global,
+    case: Case,
+    place: usize,
+    bias: &Extra,
+    mark: bool,
+) -> Result<Case, OutOfMemory>
+    requires case { IsCase case }
+    requires entry { place < length bias.now.cases }
+    ensures { IfOk result (λ made. made ≡ (if mark then extended_case bias.now (slice_index_or bias.now.cases place false) case else case)) }
+{
+    if mark {
+        let stays = bias.cases.as_slice()[place];
+        let made = extended_case(alloc, case, bias, stays)?;
+        return Ok(made);
+    }
+    Ok(case)
+}
+
+/// The case at a place with what the marked biases add to it.
+pub fn marked_case(
+    alloc: Global,
+    case: &Case,
+    place: usize,
+    biases: &[Extra],
+    marks: &[bool],
+) -> Result<Case, OutOfMemory>
+    requires case { IsCase case.now }
+    requires entries { All (λ e. place < length e.cases) biases.now }
+    requires marks { length marks.now ≤ length biases.now }
+    ensures { IfOk result (λ made. made ≡ marked_case marks.now biases.now place case.now) }
+{
+    let mut made = case.copy(alloc)?;
+    for (i, mark) in marks.iter().enumerate() {
+        made = with_bias(alloc, made, place, &biases[i], *mark)?;
+    }
+    Ok(made)
+}
+
+/// The pivots of all variables with an operation, from the operation's own pivot, if it has a case.
+pub fn pivots_with(marked: &Marked, op: u8, pivot: u8) -> Option<[u32; 14]>
+    requires sound { IsSound marked.now }
+    requires pivot { pivot ≡ pivot_of (whole_of marked.now) op slots.Op }
+    ensures { MatchOption result (find (λ c. c.op == op) (whole_of marked.now).cases ≡ None) (ArePivots (whole_of marked.now) op) }
+{
+    pivots_of(marked.firsts, op, pivot)
+}

@@ -1,0 +1,24 @@
+-- Laws of answers.
+use Rattle.std.specs.Prelude.{◌≡◌, ◌≢◌, ℕ, ◌<◌, ◌↔◌, List, [], length, take}
+use Rattle.std.specs.List.{AllByRecursion}
+use Rattle.tpl_ast.specs.Limits.{text_room}
+use Rattle.tool_texts.specs.declared.command.Command.{Command}
+use Rattle.tool_texts.specs.Answers.{Answers, limit_of}
+
+-- a command has one answer at most to its bytes
+abbrev pub OneAnswer : Type 0
+OneAnswer =
+    (command : Command) (bytes : List ℕ) → AllByRecursion (λ b. b < 256) bytes → (s : ℕ) (o r : List ℕ) → Answers command bytes s o r
+    → (s' : ℕ) (o' r' : List ℕ) → Answers command bytes s' o' r' → (s ≡ s') × (o ≡ o') × (r ≡ r')
+
+-- and none that rests on bytes behind its limit
+abbrev pub LimitsLoseNothing : Type 0
+LimitsLoseNothing = (command : Command) (bytes : List ℕ) (s : ℕ) (o r : List ℕ) → Answers command (take (limit_of command) bytes) s o r ↔ Answers command bytes s o r
+
+-- only what was done, and a verdict on it, is told to `out`
+abbrev pub RefusalsAreReported : Type 0
+RefusalsAreReported = (command : Command) (bytes : List ℕ) (s : ℕ) (o r : List ℕ) → Answers command bytes s o r → s ≢ 0 → s ≢ 10 → o ≡ []
+
+-- texts are shorter than the room that the sinks have for them
+abbrev pub TextsAreShort : Type 0
+TextsAreShort = (command : Command) (bytes : List ℕ) (s : ℕ) (o r : List ℕ) → Answers command bytes s o r → (length o < text_room) × (length r < text_room)

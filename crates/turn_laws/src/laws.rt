@@ -1,0 +1,17 @@
+// What holds of places that are given and of steps that are taken.
+ghost use Rattle.turn_laws.specs.Laws.{CandidatesAreSteps, GivenPlacesAreKnown, GivenTestsAreTests, FixedPartsStay, OthersStay};
+
+/// Does nothing. Its contract says what giving places to a hart one by one makes of a test: what was known, and these
+/// places with their values; the hart's fixed parts, the records and the footprints stay, and it is a test.
+pub fn given_places_are_known()
+    ensures known { GivenPlacesAreKnown }
+    ensures tests { GivenTestsAreTests }
+    ensures fixed { FixedPartsStay }
+    ensures others { OthersStay }
+{}
+
+/// Does nothing. Its contract says that behind the places of a candidate the next step of the hart is the candidate's,
+/// told on what is known, and that it races with nothing.
+pub fn candidates_are_steps()
+    ensures { CandidatesAreSteps }
+{}
