@@ -1,12 +1,15 @@
 -- Rows joined with rows.
-use Rattle.std.proofs.Common.{◌≡◌, ◌==◌, ℕ, Bool, true, false, ◌&&◌, ◌||◌, List, [], Some, None, refl, sym, ap, ◌∙◌, eqb-true}
+use Rattle.std.proofs.Common.{◌≡◌, ◌==◌, ℕ, ◌+◌, ◌≤◌, Bool, true, false, ◌&&◌, ◌||◌, cond, count_by, List, [], ◌∷◌, ◌++◌, Some, None, refl, sym, ap, ◌∙◌, eqb-true, arith}
 use Rattle.std.specs.List.{filter}
+use Rattle.std.proofs.lemmas.List.Sums.{sum_by-append}
 use Rattle.std.proofs.lemmas.Map.Views.{any-filter_same}
 use Rattle.dom_set.specs.Elements.{is_in}
 use Rattle.fd_prob.specs.declared.problem.Assignment.{Assignment}
 use Rattle.fd_prob.specs.declared.relation.Quad.{Quad}
+use Rattle.fd_prob.specs.declared.relation.Rel.{Rel}
+use Rattle.fd_prob.specs.declared.relation.Rel.TheVariants.{Rows}
 use Rattle.fd_prob.specs.declared.slot.Slot.TheVariants as slots
-use Rattle.fd_prob.specs.Joining.{IsCommonRow}
+use Rattle.fd_prob.specs.Joining.{IsCommonRow, is_rows}
 use Rattle.fd_prob.specs.Relations.{is_in_row, value_of}
 
 and_comm : (a b : Bool) → (a && b) ≡ (b && a)
@@ -104,3 +107,31 @@ with_rel rels rows rel made is = ap (λ (p : Bool). p && rows) is ∙ and_assoc 
 pub and_true : (a : Bool) → (a && true) ≡ a
 and_true true = refl
 and_true false = refl
+
+-- ---- how many relations are of rows
+
+not_rows : (rel : Rel) → ((rows : List Quad) → rel ≡ Rows rows → ⊥) → is_rows rel ≡ false
+not_rows (Rows rows) not = absurd (not rows refl)
+not_rows _ not = refl
+
+one_by : (b : Bool) → cond b 1 0 ≤ 1
+one_by true = omega arith
+one_by false = omega arith
+
+none_by : (b : Bool) → b ≡ false → cond b 1 0 ≤ 0
+none_by true h = absurd (cc h)
+none_by false h = omega arith
+
+pub none_with : (rels made : List Rel) (rel : Rel) → made ≡ rels ++ rel ∷ [] → ((rows : List Quad) → rel ≡ Rows rows → ⊥) → count_by is_rows rels ≡ 0 → count_by is_rows made ≡ 0
+none_with rels made rel is not zero =
+    let all : count_by is_rows (rels ++ rel ∷ []) ≡ count_by is_rows rels + (0 + cond (is_rows rel) 1 0) = sum_by-append (λ (r : Rel). cond (is_rows r) 1 0) rels (rel ∷ []) in
+    let same : count_by is_rows made ≡ count_by is_rows (rels ++ rel ∷ []) = ap (λ (l : List Rel). count_by is_rows l) is in
+    let last : cond (is_rows rel) 1 0 ≤ 0 = none_by (is_rows rel) (not_rows rel not) in
+    omega (arith, all, last, zero, same)
+
+pub few_with : (rels made : List Rel) (rel : Rel) → made ≡ rels ++ rel ∷ [] → count_by is_rows rels ≡ 0 → count_by is_rows made ≤ 1
+few_with rels made rel is zero =
+    let all : count_by is_rows (rels ++ rel ∷ []) ≡ count_by is_rows rels + (0 + cond (is_rows rel) 1 0) = sum_by-append (λ (r : Rel). cond (is_rows r) 1 0) rels (rel ∷ []) in
+    let same : count_by is_rows made ≡ count_by is_rows (rels ++ rel ∷ []) = ap (λ (l : List Rel). count_by is_rows l) is in
+    let last : cond (is_rows rel) 1 0 ≤ 1 = one_by (is_rows rel) in
+    omega (arith, all, last, zero, same)

@@ -1,5 +1,5 @@
 -- Several lists of rows as one.
-use Rattle.std.specs.Prelude.{◌≡◌, ℕ, Bool, true, false, ◌&&◌, List, Option, Some, None, MatchOption}
+use Rattle.std.specs.Prelude.{◌≡◌, ℕ, ◌≤◌, Bool, true, false, ◌&&◌, List, Option, Some, None, MatchOption, count_by}
 use Rattle.std.specs.List.{list_any, list_all}
 use Rattle.dom_set.specs.Elements.{is_in}
 use Rattle.rv_isa.specs.declared.operation.Op.{Op}
@@ -37,8 +37,9 @@ abbrev pub some_row_holds : Assignment → Option (List Quad) → Bool
 some_row_holds x None = true
 some_row_holds x (Some rows) = list_any (is_in_row x) rows
 
--- the same case, but that other relations hold together where those of the case do
+-- the same case, but that other relations hold together where those of the case do, of which one at most is of rows
 pub record IsRestated (c made : Case) : Type 0 where
   pub op : made.op ≡ c.op
   pub doms : made.doms ≡ c.doms
   pub rels : (op : Op) (x : Assignment) → list_all (holds op x) made.rels ≡ list_all (holds op x) c.rels
+  pub few : count_by is_rows made.rels ≤ 1

@@ -1,5 +1,5 @@
 // Several lists of rows as one.
-ghost use Rattle.std.specs.Prelude.{◌≡◌, ◌↔◌, ◌<◌, ◌&&◌, ◌||◌, IfOk, IsTrue, OnOk, count_by};
+ghost use Rattle.std.specs.Prelude.{◌≤◌, ◌≡◌, ◌↔◌, ◌<◌, ◌&&◌, ◌||◌, IfOk, IsTrue, OnOk, count_by};
 ghost use Rattle.std.specs.List.{list_all, list_any};
 ghost use Rattle.rv_isa.specs.declared.operation.Op.{Op};
 ghost use Rattle.fd_prob.specs.declared.problem.Assignment.{Assignment};
@@ -116,7 +116,8 @@ fn with_rows(
 impl Joined {
     /// The same with one relation more.
     fn with(self, alloc: Global, rel: &Rel) -> Result<Joined, OutOfMemory>
-        ensures { IfOk result (λ made. (op : Op) (x : Assignment) → all_hold op x made ≡ (all_hold op x self && holds op x rel.now)) }
+        ensures holds { IfOk result (λ made. (op : Op) (x : Assignment) → all_hold op x made ≡ (all_hold op x self && holds op x rel.now)) }
+        ensures none { count_by is_rows self.rels ≡ 0 → IfOk result (λ made. count_by is_rows made.rels ≡ 0) }
     {
         let Joined { mut rels, rows } = self;
         match rel {
@@ -136,7 +137,8 @@ impl Joined {
 
     /// The relations, with the rows as one of them.
     fn into_rels(self) -> Result<Items<Rel>, OutOfMemory>
-        ensures { IfOk result (λ made. (op : Op) (x : Assignment) → list_all (holds op x) made ≡ all_hold op x self) }
+        ensures holds { IfOk result (λ made. (op : Op) (x : Assignment) → list_all (holds op x) made ≡ all_hold op x self) }
+        ensures few { count_by is_rows self.rels ≡ 0 → IfOk result (λ made. count_by is_rows made ≤ 1) }
     {
         let Joined { mut rels, rows } = self;
         if let Some(rows) = rows {

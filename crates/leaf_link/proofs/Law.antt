@@ -29,6 +29,7 @@ use Rattle.rv_script.specs.Logs.{is_register, is_word, entry_place, entry_label,
 use Rattle.leaf_link.specs.Turns.{Turn}
 use Rattle.leaf_link.specs.Values.{Values, instr_in, has_address, address_if, given_by}
 use Rattle.leaf_link.specs.Candidates.{accesses_in, moment_of}
+use Rattle.tpl_ast.specs.Grammar.{are_comparable}
 use Rattle.tpl_ast.specs.Leaves.{same_var, IsPlain}
 use Rattle.leaf_link.specs.Cases.{Shape, Way, Fits, FitsCase, all_relate, case_at, case_if, cases_of, fetch_entry, is_held, is_posed, or_no, relates, shape_of, unless, uses_rs1, value_at}
 use Rattle.leaf_link.specs.Ways.{HasAddress, IsFetched, IsOf, step_accesses}
@@ -322,9 +323,21 @@ value_without s pc pa x vars.Pa h = absurd (cc)
 value_without s pc pa x vars.Op h = refl
 value_without s pc pa x _ h = refl
 
+-- variables that are compared are not the physical address
+first_apart : (v u : Var) → are_comparable v u ≡ true → same_var v vars.Pa ≡ false
+first_apart vars.Pa u h = absurd (cc h)
+first_apart vars.Op u h = refl
+first_apart _ u h = refl
+
+second_apart : (v u : Var) → are_comparable v u ≡ true → same_var u vars.Pa ≡ false
+second_apart vars.Op vars.Pa h = absurd (cc h)
+second_apart _ vars.Pa h = absurd (cc h)
+second_apart v vars.Op h = refl
+second_apart v _ h = refl
+
 pub relates_without : (s : Shape) (pc pa : ℕ) (x : Values) (atom : Atom) → IsPlain atom → relates s.op (value_at s pc pa x) atom ≡ relates s.op (value_at s pc 0 x) atom
-relates_without s pc pa x (atoms.Same v u) p = ap (λ (n : ℕ). n == value_at s pc pa x u) (value_without s pc pa x v p.0) ∙ ap (λ (n : ℕ). value_at s pc 0 x v == n) (value_without s pc pa x u p.1)
-relates_without s pc pa x (atoms.Differ v u) p = ap (λ (n : ℕ). not (n == value_at s pc pa x u)) (value_without s pc pa x v p.0) ∙ ap (λ (n : ℕ). not (value_at s pc 0 x v == n)) (value_without s pc pa x u p.1)
+relates_without s pc pa x (atoms.Same v u) p = ap (λ (n : ℕ). n == value_at s pc pa x u) (value_without s pc pa x v (first_apart v u p)) ∙ ap (λ (n : ℕ). value_at s pc 0 x v == n) (value_without s pc pa x u (second_apart v u p))
+relates_without s pc pa x (atoms.Differ v u) p = ap (λ (n : ℕ). not (n == value_at s pc pa x u)) (value_without s pc pa x v (first_apart v u p)) ∙ ap (λ (n : ℕ). not (value_at s pc 0 x v == n)) (value_without s pc pa x u (second_apart v u p))
 relates_without s pc pa x atoms.Taken p = refl
 relates_without s pc pa x _ p = refl
 

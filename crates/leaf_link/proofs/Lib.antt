@@ -1,4 +1,4 @@
-mod Numbers
+pub mod Numbers
 mod Links
 mod Formats
 mod Truths

@@ -1,7 +1,8 @@
 -- The ways of every operation, and the problem that a leaf poses.
-use Rattle.std.specs.Prelude.{ℕ, Bool, List}
+use Rattle.std.specs.Prelude.{◌≡◌, ℕ, Bool, false, List, []}
 use Rattle.rv_isa.specs.declared.operation.Op.{Op}
 use Rattle.rv_isa.specs.declared.operation.Op.TheVariants.{Jal, Jalr, Beq, Bne, Blt, Bge, Bltu, Bgeu, Lb, Lh, Lw, Lbu, Lhu, Sb, Sh, Sw, Ecall, Ebreak, Csrrw, Csrrs, Csrrc, Csrrwi, Csrrsi, Csrrci, Mret, Sret, SfenceVma, Illegal}
+use Rattle.rv_isa.specs.Table.{row_of}
 use Rattle.rv_csr.specs.declared.cause.Cause.TheVariants.{FetchMisaligned, Illegal as IllegalCause, Breakpoint}
 use Rattle.rv_script.specs.Folds.{Entry}
 use Rattle.sv_walk.specs.declared.entry.Kind.TheVariants.{Load as ForLoad, Store as ForStore}
@@ -12,7 +13,8 @@ use Rattle.fd_prob.specs.declared.problem.Problem.{Problem}
 use Rattle.fd_solve.specs.declared.answers.Solved.{Solved}
 use Rattle.fd_solve.specs.Answers.{IsAnswer}
 use Rattle.leaf_link.specs.Turns.{Turn}
-use Rattle.leaf_link.specs.Values.{assigned, new_places}
+use Rattle.leaf_link.specs.Values.{assigned, has_address, new_places}
+use Rattle.leaf_link.specs.Ways.{IsFetched, IsWays}
 use Rattle.leaf_link.specs.Candidates.{IsCandidate}
 use Rattle.leaf_link.specs.Cases.{Case, Fits, Way}
 use Rattle.leaf_link.specs.Kinds.{branch_goes, far_is_target, forks, near_is_target, retires, traps}
@@ -54,6 +56,12 @@ ways_of t walk pa leaf loads stores Sret = sret_ways t
 ways_of t walk pa leaf loads stores SfenceVma = fence_ways t
 ways_of t walk pa leaf loads stores Illegal = traps t IllegalCause
 ways_of t walk pa leaf loads stores _ = retires
+
+-- without a data access, the ways are what the rest of the script does, whatever the rows
+abbrev pub WaysAreBuilt : Type 0
+WaysAreBuilt =
+    (t : Turn) (walk : List Entry) (pa : ℕ) (leaf : List Atom) → IsFetched t walk pa → (op : Op) → has_address (row_of op) ≡ false
+    → IsWays t walk pa leaf op (ways_of t walk pa leaf [] [] op)
 
 -- the cases of a leaf's problem
 abbrev pub leaf_cases : Turn → List Entry → ℕ → List Atom → List EntryRow → List EntryRow → List Case

@@ -21,7 +21,9 @@ pub use leaf_laws::{
     candidates_are_in_domains, firsts_exist, leaf_problems_are_exact, order_is_kept,
     problems_are_exact, spaces_are_exact, turn_answers_are_exact, turns_have_one_answer,
 };
-pub use operation_laws::{accesses_are_exact, operations_are_exact, ways_are_exact};
+pub use operation_laws::{
+    accesses_are_exact, operations_are_exact, ways_are_built, ways_are_exact,
+};
 pub use row_laws::rows_serve_leaves;
 pub use truth_laws::{leaves_are_true, met_atoms_are_true};
 pub use witness_laws::{answers_are_possible, leaves_are_possible, walks_are_possible};

@@ -1,4 +1,5 @@
 // The laws of single operations.
+ghost use Rattle.leaf_link.specs.AllWays.{WaysAreBuilt};
 ghost use Rattle.leaf_link.specs.Controls.{CsrsAreExact, ReturnsAreExact};
 ghost use Rattle.leaf_link.specs.KindLaws.{AddressFenceIsExact, BranchesAreExact, BreakIsExact, CallIsExact, IllegalIsExact, JumpIsExact, JumpRegisterIsExact, PlainIsExact, WaysAreExact};
 ghost use Rattle.leaf_link.specs.Reaching.{LoadsAreExact, StoresAreExact};
@@ -7,6 +8,12 @@ ghost use Rattle.leaf_link.specs.Reaching.{LoadsAreExact, StoresAreExact};
 /// what fits the cases of these ways stands one to one for the candidates with this operation.
 pub fn ways_are_exact()
     ensures { WaysAreExact }
+{}
+
+/// Does nothing. Its contract says that the ways of an operation without a data access are what the rest of its script
+/// does.
+pub fn ways_are_built()
+    ensures { WaysAreBuilt }
 {}
 
 /// Does nothing. Its contract says that the problems of register and immediate operations, LUI, AUIPC and FENCE, of

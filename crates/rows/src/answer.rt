@@ -9,10 +9,8 @@ use std::alloc::Global;
 use streams::{MemSink, MemSource};
 use tool_top::{ArgList, run};
 use tpl_admit::{Cert, admits};
+use tpl_ast::TEXT_ROOM;
 use trace_text::{malformed, report};
-
-/// How many bytes a sink has room for.
-const ROOM: usize = 16_777_216;
 
 /// The status of what is no file.
 const NO_FILE: u8 = 9;
@@ -49,7 +47,7 @@ fn run_of(alloc: Global, row: &Row, input: &[u8]) -> Result<Answer, Stop> {
     );
     let Ok(mut out) = MemSink::with_room(
         alloc,
-        ROOM,
+        TEXT_ROOM,
         chunk_of(&row.out.pace),
         row.out.pace.fails.clone()?,
     ) else {
@@ -57,7 +55,7 @@ fn run_of(alloc: Global, row: &Row, input: &[u8]) -> Result<Answer, Stop> {
     };
     let Ok(mut told) = MemSink::with_room(
         alloc,
-        ROOM,
+        TEXT_ROOM,
         chunk_of(&row.report.pace),
         row.report.pace.fails.clone()?,
     ) else {

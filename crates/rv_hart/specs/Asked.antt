@@ -15,7 +15,9 @@ use Rattle.rv_hart.specs.Whole.{WholeHart, needed_places}
 -- a register is one of 32
 abbrev pub IsInFile : Question → Type 0
 IsInFile (OfRegister label n) = n < 32
-IsInFile _ = Unit {0}
+IsInFile (OfCsr label addr) = Unit {0}
+IsInFile (OfMemory label addr size) = Unit {0}
+IsInFile (ToMemory addr size value) = Unit {0}
 
 -- a step asks in the order of the labels, each one once at most
 abbrev pub AsksInOrder : Type 0

@@ -13,7 +13,7 @@ use Rattle.trace_text.specs.Verdicts.{malformed_text, verdict_text}
 use Rattle.tpl_ast.specs.Laws.{LongTextsAreRefused, TemplatesKeepLimits}
 use Rattle.tool_texts.specs.declared.command.Command.{Command}
 use Rattle.tool_texts.specs.declared.command.Command.TheVariants.{Gen, List as Listing, Replay}
-use Rattle.tool_texts.specs.Answers.{Answers, limit_of}
+use Rattle.tool_texts.specs.Commands.{limit_of, Answers}
 use Rattle.tool_texts.specs.Gen.{GenAnswers}
 use Rattle.tool_texts.specs.Laws.{LimitsLoseNothing, OneAnswer, RefusalsAreReported, TextsAreShort}
 use Rattle.tool_texts.specs.Listing.{ListAnswers}

@@ -3,7 +3,7 @@ use Rattle.std.specs.Prelude.{◌≡◌, ◌≢◌, ℕ, ◌<◌, ◌↔◌, Lis
 use Rattle.std.specs.List.{AllByRecursion}
 use Rattle.tpl_ast.specs.Limits.{text_room}
 use Rattle.tool_texts.specs.declared.command.Command.{Command}
-use Rattle.tool_texts.specs.Answers.{Answers, limit_of}
+use Rattle.tool_texts.specs.Commands.{limit_of, Answers}
 
 -- a command has one answer at most to its bytes
 abbrev pub OneAnswer : Type 0

@@ -1,4 +1,5 @@
 pub mod Answers
+pub mod Commands
 pub mod Gen
 pub mod Listing
 pub mod Replay

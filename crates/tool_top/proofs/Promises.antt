@@ -3,8 +3,8 @@ use Rattle.std.proofs.Common.{◌≡◌, ℕ, ◌<◌, ◌≤◌, ◌⊎◌, inl
 use Rattle.std.specs.declared.option.Option.{Option}
 use Rattle.std.specs.Io.KnownBytes.{Consumes, IsAtEnd}
 use Rattle.tool_texts.specs.declared.command.Command.{Command}
-use Rattle.tool_texts.specs.Answers.{Answers, is_answer, limit_of}
-use Rattle.tool_top.specs.Words.{IsCommand}
+use Rattle.tool_texts.specs.Answers.{is_answer}
+use Rattle.tool_texts.specs.Commands.{limit_of, Answers, IsCommand}
 use Rattle.tool_top.specs.Promise.{AreGiven, IsAllRead, IsAnswered, IsComplete, IsRefused}
 use Rattle.tool_top.proofs.Reading.{Reads, are_taken, given_taken, read_all, reads_of, same_some}
 

@@ -1,12 +1,11 @@
 -- What the program promises.
-use Rattle.std.specs.Prelude.{◌≡◌, ◌≢◌, ℕ, ◌≤◌, ◌==◌, if◌then◌else◌, List, [], drop, take, length, codes, Some, Bool, ◌||◌, true, ◌⊎◌}
+use Rattle.std.specs.Prelude.{◌≡◌, ◌≢◌, ℕ, ◌≤◌, ◌==◌, if◌then◌else◌, List, [], drop, take, length, codes, Some, Bool, not, ◌||◌, true, ◌⊎◌}
 use Rattle.std.specs.declared.option.Option.{Option}
 use Rattle.std.specs.Io.KnownBytes.{Appends, Consumes}
 use Rattle.streams.specs.Causes.{EndsAtFault, Rose}
 use Rattle.streams.specs.Sink.{GrowsByPrefix}
 use Rattle.tool_texts.specs.declared.command.Command.{Command}
-use Rattle.tool_texts.specs.Answers.{Answers, limit_of}
-use Rattle.tool_top.specs.Words.{IsCommand}
+use Rattle.tool_texts.specs.Commands.{limit_of, Answers, IsCommand}
 
 -- WHAT IS READ
 
@@ -68,9 +67,9 @@ told_line status =
 abbrev pub tells : ℕ → Bool
 tells status = status == 2 || status == 6
 
--- the statuses on which reading came to its end
+-- the statuses on which reading came to its end: all but those of the words, of a failing read and of memory
 abbrev pub ends_reading : ℕ → Bool
-ends_reading status = status == 0 || (status == 3 || (status == 7 || (status == 9 || status == 10)))
+ends_reading status = not (status == 2 || (status == 6 || status == 8))
 
 -- then all that the source had left was read, up to the command's limit
 abbrev pub IsAllRead : Command → Option (List ℕ) → Option (List ℕ) → ℕ → Type 0

@@ -1,10 +1,10 @@
 // The words of the command line.
-ghost use Rattle.std.specs.Prelude.{◌≡◌, ◌≢◌, ℕ, Some, [], ◌∷◌, ◌++◌, drop, map, string_bytes, IfOk, IfErr, OnOk, OnErr, IfSome, SomeIff, MatchResult};
+ghost use Rattle.std.specs.Prelude.{◌≡◌, ◌≢◌, ℕ, Some, [], ◌∷◌, ◌++◌, drop, map, string_bytes, IfOk, IfErr, OnOk, OnErr, IfSome, MatchResult};
 ghost use Rattle.std.specs.Vec.Iter.{into_iter_items};
 ghost use Rattle.std.specs.IoError.{error_kind};
-ghost use Rattle.std.specs.Str.Parse.{digits_value};
 ghost use Rattle.tool_texts.specs.declared.command.Command.{Command as ACommand};
-ghost use Rattle.tool_top.specs.Words.{IsSeed, IsCommand, IsSeeded, AreBehindName};
+ghost use Rattle.tool_top.specs.Words.{AreBehindName};
+ghost use Rattle.tool_texts.specs.Commands.{IsCommand};
 
 use std::alloc::{AllocError, Global};
 use std::env::Args;
@@ -63,26 +63,7 @@ impl ArgList {
         ensures found { IfSome result (λ c. IsCommand self.now c) }
         ensures only { (command : ACommand) → IsCommand self.now command → result ≡ Some command }
     {
-        match self.texts.as_slice() {
-            [name] if name.as_str() == "replay" => Some(Command::Replay),
-            [name, option, number] if option.as_str() == "--seed" => {
-                let seed = seed_of(number.as_str())?;
-                seeded(name.as_str(), seed)
-            }
-            _ => None,
-        }
-    }
-}
-
-/// The command with this name that takes a seed.
-fn seeded(name: &str, seed: u64) -> Option<Command>
-    ensures found { IfSome result (λ c. IsSeeded name.now seed c) }
-    ensures only { (command : ACommand) → IsSeeded name.now seed command → result ≡ Some command }
-{
-    match name {
-        "gen" => Some(Command::Gen { seed }),
-        "list" => Some(Command::List { seed }),
-        _ => None,
+        Command::asked(self.texts.as_slice())
     }
 }
 
@@ -100,14 +81,4 @@ pub fn words_of(alloc: Global, args: io::Result<Args>) -> Result<ArgList, AllocE
         Err(e) if e.kind() == ErrorKind::InvalidData => Ok(ArgList::new(alloc)),
         Err(_) => Err(AllocError),
     }
-}
-
-/// A number of at most twenty digits.
-fn seed_of(word: &str) -> Option<u64>
-    ensures { SomeIff result (IsSeed word.now) (digits_value 10 word.now) }
-{
-    if word.len() > 20 || word.as_bytes().first() == Some(&b'+') {
-        return None;
-    }
-    word.parse::<u64>().ok()
 }

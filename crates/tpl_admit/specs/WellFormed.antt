@@ -24,14 +24,18 @@ abbrev pub IsWritten : Option (ℕ × ℕ) → Type 0
 IsWritten None = Unit {0}
 IsWritten (Some rd) = (1 ≤ rd.0) × (rd.0 < 32) × IsWord rd.1
 
-pub record IsRecord (r : Record) : Type 0 where
+-- the values of a record that a file within these limits can hold
+pub record IsRecordBy (limits : FileLimits) (r : Record) : Type 0 where
   pub pc : IsWord r.pc
   pub word : IsWord r.word
   pub next_pc : IsWord r.next_pc
   pub outcome : IsOutcome r.outcome
   pub rd : IsWritten r.rd
   pub accesses : AllByRecursion IsAccess r.accesses
-  pub count : length r.accesses ≤ file_limits.accesses
+  pub count : length r.accesses ≤ limits.accesses
+
+abbrev pub IsRecord : Record → Type 0
+IsRecord r = IsRecordBy file_limits r
 
 -- the name is one of the template's, and the value is in its domain
 abbrev pub IsNamed : Option NameDecl → ℕ → Type 0
@@ -44,13 +48,20 @@ AreNamed names from [] = Unit {0}
 AreNamed names from (e ∷ es) = (from ≤ e.0) × IsWord e.0 × IsWord e.1 × IsNamed (slice_get names e.0) e.1 × AreNamed names (e.0 + 1) es
 
 -- where an entry stands among all that could be dropped: so many steps a hart and atoms a step
+abbrev pub drop_place_by : FileLimits → Dropped → ℕ
+drop_place_by limits d = (d.hart * limits.steps + d.step) * limits.atoms + d.atom
+
 abbrev pub drop_place : Dropped → ℕ
-drop_place d = (d.hart * file_limits.steps + d.step) * file_limits.atoms + d.atom
+drop_place d = drop_place_by file_limits d
 
 -- dropped biases of so many harts from a place on, by ascending hart, step and atom
+abbrev pub AreDroppedBy : FileLimits → ℕ → ℕ → List Dropped → Type 0
+AreDroppedBy limits harts from [] = Unit {0}
+AreDroppedBy limits harts from (d ∷ ds) =
+    (d.hart < harts) × (d.step < limits.steps) × (d.atom < limits.atoms) × (from ≤ drop_place_by limits d) × AreDroppedBy limits harts (drop_place_by limits d + 1) ds
+
 abbrev pub AreDropped : ℕ → ℕ → List Dropped → Type 0
-AreDropped harts from [] = Unit {0}
-AreDropped harts from (d ∷ ds) = (d.hart < harts) × (d.step < file_limits.steps) × (d.atom < file_limits.atoms) × (from ≤ drop_place d) × AreDropped harts (drop_place d + 1) ds
+AreDropped harts from ds = AreDroppedBy file_limits harts from ds
 
 -- the values that a file can hold, within its limits
 pub record IsWellFormedBy (limits : FileLimits) (c : Cert) : Type 0 where
@@ -61,7 +72,7 @@ pub record IsWellFormedBy (limits : FileLimits) (c : Cert) : Type 0 where
   pub finals_count : length c.finals ≡ length c.start
   pub finals : AllByRecursion IsState c.finals
   pub traces_count : length c.traces ≡ length c.start
-  pub traces : AllByRecursion (λ t. AllByRecursion IsRecord t) c.traces
+  pub traces : AllByRecursion (λ t. AllByRecursion (IsRecordBy limits) t) c.traces
   pub steps : sum_by (λ t. length t) c.traces ≤ limits.records
   pub words_count : length c.words ≤ limits.words
   pub words : AreStartWords c.template.ram 0 c.words
@@ -73,7 +84,7 @@ pub record IsWellFormedBy (limits : FileLimits) (c : Cert) : Type 0 where
   pub choices : AllByRecursion IsWord c.choices
   pub names : AreNamed c.template.names 0 c.names
   pub dropped_count : length c.dropped ≤ limits.dropped
-  pub dropped : AreDropped (length c.start) 0 c.dropped
+  pub dropped : AreDroppedBy limits (length c.start) 0 c.dropped
 
 abbrev pub IsWellFormed : Cert → Type 0
 IsWellFormed c = IsWellFormedBy file_limits c

@@ -16,7 +16,8 @@ use Rattle.tpl_ast.specs.declared.template.NameDecl.{NameDecl}
 use Rattle.tpl_ast.specs.declared.template.Var.{Var}
 use Rattle.tpl_ast.specs.declared.template.Wish.{Wish}
 use Rattle.tpl_ast.specs.Judging.{has_twice, is_large, is_name_among, is_no_fetch_cause, names_in}
-use Rattle.tpl_ast.specs.Leaves.{IsLeaf, IsNameBelow, IsPlain, NamedOnce, atoms_of, is_alone, is_leaf, is_name_below, is_named_in, is_named_once, is_pa, is_plain, stands_alone}
+use Rattle.tpl_ast.specs.Grammar.{are_comparable}
+use Rattle.tpl_ast.specs.Leaves.{IsLeaf, IsNameBelow, IsPlain, NamedOnce, atoms_of, is_alone, is_leaf, is_name_below, is_named_in, is_named_once, is_plain, stands_alone}
 use Rattle.tpl_ast.specs.Parsing.{Known, atom_of, index_among, is_atom_unknown, name_among, wish_of}
 use Rattle.tpl_ast.specs.Phrases.{AtomPhrase, Among, NotAmong, IsName, Same, Differ, Taken, NotTaken, Shared, WishPhrase}
 use Rattle.tpl_ast.specs.Sets.{listed, number, outcome_number, points}
@@ -28,7 +29,7 @@ use Rattle.tpl_ast.proofs.Steps.{either_false, not_false, not_true}
 
 -- ---- plain atoms
 
-comparable_plain : {v u : Var} → AreComparable v u → not (is_pa v) && not (is_pa u) ≡ true
+comparable_plain : {v u : Var} → AreComparable v u → are_comparable v u ≡ true
 comparable_plain Rs1Rs2 = refl
 comparable_plain Rs1Rd = refl
 comparable_plain Rs2Rs1 = refl
@@ -209,8 +210,8 @@ causes_fit os h = all_by is_fetch_outcome (listed (points (map outcome_number os
 -- ---- what the test of a leaf says
 
 plain_told : (a : Atom) → is_plain a ≡ true → IsPlain a
-plain_told (atoms.Same v u) h = let x = both_true (not (is_pa v)) _ h in (not_true _ x.0, not_true _ x.1)
-plain_told (atoms.Differ v u) h = let x = both_true (not (is_pa v)) _ h in (not_true _ x.0, not_true _ x.1)
+plain_told (atoms.Same v u) h = h
+plain_told (atoms.Differ v u) h = h
 plain_told (atoms.In v s) h = tt
 plain_told (atoms.NotIn v s) h = tt
 plain_told (atoms.Is v name) h = tt

@@ -6,6 +6,7 @@ use Rattle.tpl_ast.specs.declared.template.Atom.TheVariants as atoms
 use Rattle.tpl_ast.specs.declared.template.Var.{Var}
 use Rattle.tpl_ast.specs.declared.template.Var.TheVariants as vars
 use Rattle.tpl_ast.specs.declared.template.Wish.{Wish}
+use Rattle.tpl_ast.specs.Grammar.{are_comparable}
 use Rattle.tpl_ast.specs.Limits.{most_atoms}
 
 abbrev pub var_number : Var → ℕ
@@ -25,10 +26,10 @@ var_number vars.Outcome = 11
 abbrev pub same_var : Var → Var → Bool
 same_var v u = nat_eq (var_number v) (var_number u)
 
--- relations between two variables are not on the physical address: the language has them between registers and between their values alone
+-- relations between two variables are between two registers, or between the values of the sources
 abbrev pub IsPlain : Atom → Type 0
-IsPlain (atoms.Same v u) = (same_var v vars.Pa ≡ false) × (same_var u vars.Pa ≡ false)
-IsPlain (atoms.Differ v u) = (same_var v vars.Pa ≡ false) × (same_var u vars.Pa ≡ false)
+IsPlain (atoms.Same v u) = are_comparable v u ≡ true
+IsPlain (atoms.Differ v u) = are_comparable v u ≡ true
 IsPlain _ = Unit {0}
 
 -- a name stands in an atom, and in a leaf
@@ -52,12 +53,9 @@ NamedOnce (atom ∷ leaf) = stands_alone atom leaf × NamedOnce leaf
 
 -- ---- the same as tests
 
-abbrev pub is_pa : Var → Bool
-is_pa v = same_var v vars.Pa
-
 abbrev pub is_plain : Atom → Bool
-is_plain (atoms.Same v u) = not (is_pa v) && not (is_pa u)
-is_plain (atoms.Differ v u) = not (is_pa v) && not (is_pa u)
+is_plain (atoms.Same v u) = are_comparable v u
+is_plain (atoms.Differ v u) = are_comparable v u
 is_plain _ = true
 
 abbrev pub is_alone : Atom → List Atom → Bool

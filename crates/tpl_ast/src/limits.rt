@@ -48,3 +48,5 @@ pub const MAX_DROPPED: usize = 262_144;
 pub const MAX_ACCESSES: usize = 8;
 /// Steps of a hart that a dropped bias may be of.
 pub const MAX_STEPS: u32 = 8_192;
+/// Bytes for which a sink needs room: every text that the program writes has fewer.
+pub const TEXT_ROOM: usize = 16_777_216;

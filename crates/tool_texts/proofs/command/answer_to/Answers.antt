@@ -4,7 +4,8 @@ use Rattle.std.specs.List.{AllByRecursion}
 use Rattle.tool_texts.specs.declared.answer.Answer.{Answer}
 use Rattle.tool_texts.specs.declared.command.Command.{Command}
 use Rattle.tool_texts.specs.declared.error.OutOfMemory.{OutOfMemory}
-use Rattle.tool_texts.specs.Answers.{Answers, number_of}
+use Rattle.tool_texts.specs.Answers.{number_of}
+use Rattle.tool_texts.specs.Commands.{Answers}
 use Rattle.tool_texts.specs.Laws.{OneAnswer, TextsAreShort}
 use Rattle.tool_texts.proofs.command.answer_to.Goals as goal
 

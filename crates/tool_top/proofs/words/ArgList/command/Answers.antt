@@ -1,30 +1,11 @@
-use Rattle.std.proofs.Common.{◌≡◌, ◌∙◌, refl, sym, ap, map, codes, string_bytes, arith, rules}
-use Rattle.tool_top.proofs.WordLemmas.{one, three, same_one, same_three, seeded_found, seeded_only}
+use Rattle.std.proofs.Common.{◌≡◌, ◌∙◌, ℕ, List, IfSome, sym, ap, subst, map, string_bytes}
+use Rattle.tool_texts.specs.Commands.{IsCommand}
 use Rattle.tool_top.proofs.words.ArgList.command.Goals as goal
 
-pub returns-in-len1-clause-found : goal.returns-in-len1-clause-found
-returns-in-len1-clause-found c =
-    let name : c.as_str.result.now ≡ codes "replay" = search rules in
-    sym c.self.view_is ∙ ap (map (λ s. string_bytes s)) (sym c.as_slice.ensures.value)
-    ∙ one (λ s. string_bytes s) c.as_slice.result.now c.name-item.result (omega arith) c.name-item.is
-    ∙ same_one _ _ (sym c.as_str.ensures.value ∙ name)
+pub returns-clause-found : goal.returns-clause-found
+returns-clause-found c =
+    subst (λ (words : List (List ℕ)). IfSome c.asked.result (λ command. IsCommand words command)) (ap (map (λ s. string_bytes s)) c.as_slice.ensures.value ∙ c.self.view_is) c.asked.ensures.found
 
-pub returns-in_ok-seed-in-len3-clause-found : goal.returns-in_ok-seed-in-len3-clause-found
-returns-in_ok-seed-in-len3-clause-found c =
-    let option : c.as_str-then-this-lt4.result.now ≡ codes "--seed" = search rules in
-    let seed = c.in_ok-seed-in-len3.ensures in
-    let words = three (λ s. string_bytes s) c.as_slice.result.now c.name-item-then-this-lt4.result c.option-item.result c.number-item.result (omega arith) c.name-item-then-this-lt4.is c.option-item.is c.number-item.is in
-    seeded_found _ _ c.as_str-in-len3-2.result.now c.as_str-in-len3.result.now c.in_ok-seed-in-len3.seed
-    (sym c.self.view_is ∙ ap (map (λ s. string_bytes s)) (sym c.as_slice.ensures.value) ∙ words
-    ∙ same_three _ _ _ _ _ _ (sym c.as_str-in-len3-2.ensures.value) (sym c.as_str-then-this-lt4.ensures.value ∙ option) (sym c.as_str-in-len3.ensures.value))
-    seed.0 seed.1 c.seeded.ensures.found
-
-pub returns-in_ok-seed-in-len3-clause-only : goal.returns-in_ok-seed-in-len3-clause-only
-returns-in_ok-seed-in-len3-clause-only c = λ command asks.
-    let seed = c.in_ok-seed-in-len3.ensures in
-    let words = three (λ s. string_bytes s) c.as_slice.result.now c.name-item-then-this-lt4.result c.option-item.result c.number-item.result (omega arith) c.name-item-then-this-lt4.is c.option-item.is c.number-item.is in
-    c.seeded.ensures.only command
-    (seeded_only command _ c.as_str-in-len3-2.result.now _ c.as_str-in-len3.result.now c.in_ok-seed-in-len3.seed
-    (sym c.self.view_is ∙ ap (map (λ s. string_bytes s)) (sym c.as_slice.ensures.value) ∙ words
-    ∙ same_three _ _ _ _ _ _ (sym c.as_str-in-len3-2.ensures.value) refl (sym c.as_str-in-len3.ensures.value))
-    seed.1 asks)
+pub returns-clause-only : goal.returns-clause-only
+returns-clause-only c command asks =
+    c.asked.ensures.only command (subst (λ (words : List (List ℕ)). IsCommand words command) (sym (ap (map (λ s. string_bytes s)) c.as_slice.ensures.value ∙ c.self.view_is)) asks)

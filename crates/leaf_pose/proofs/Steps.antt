@@ -1,0 +1,275 @@
+-- Cases that come to others, in step with those of the definition.
+use Rattle.std.proofs.Common.{◌≡◌, ℕ, ◌+◌, ◌<◌, ◌≤◌, ◌⊎◌, Bool, true, false, ◌&&◌, ◌||◌, List, [], ◌∷◌, ◌++◌, Option, Some, None, refl, sym, ap, ◌∙◌, subst, arith, inl, inr, append_assoc, All, drop, get_or, length, suc}
+use Rattle.std.specs.List.{list_all, list_any}
+use Rattle.std.specs.Prelude.{not}
+use Rattle.std.proofs.Math.Seq.{drop-cons}
+use Rattle.std.proofs.lemmas.Bool.{and_from, and_parts}
+use Rattle.std.proofs.lemmas.Bool.Decides.{nat_tests}
+use Rattle.std.proofs.lemmas.List.{append-nil, drop_all}
+use Rattle.std.proofs.lemmas.List.Folds.{list_any-append}
+use Rattle.rv_isa.specs.declared.instruction.Instr.{Instr}
+use Rattle.rv_isa.specs.declared.operation.Op.{Op}
+use Rattle.rv_isa.specs.Reading.{decoded}
+use Rattle.tpl_ast.specs.declared.template.Atom.{Atom}
+use Rattle.tpl_ast.specs.declared.template.Var.TheVariants as vars
+use Rattle.fd_prob.specs.declared.problem.Assignment.{Assignment}
+use Rattle.fd_prob.specs.declared.problem.Case.{Case as ACase}
+use Rattle.fd_prob.specs.declared.relation.Rel.{Rel}
+use Rattle.fd_prob.specs.declared.relation.Rel.TheVariants.{Rows}
+use Rattle.fd_prob.specs.declared.slot.Slot.TheVariants as slots
+use Rattle.fd_prob.specs.Fitting.{IsCase, fits_case}
+use Rattle.fd_prob.specs.Relations.{holds}
+use Rattle.rv_isa.specs.Numbers.{op_numbered, op_number}
+use Rattle.leaf_link.specs.Values.{Values}
+use Rattle.leaf_link.specs.Cases.{Case, Fits, FitsCase, Shape as AShape, Way as AWay, all_tests, atoms_hold, base_domain, case_at, case_if, domain, in_read, in_word, shape_of, sources_hold}
+use Rattle.leaf_link.specs.Answers.{values_in}
+use Rattle.leaf_pose.specs.declared.shape.Shape.{Shape}
+use Rattle.leaf_pose.specs.declared.shaped.Shaped.{Shaped}
+use Rattle.leaf_pose.specs.declared.stand.Stand.{Stand}
+use Rattle.leaf_pose.specs.declared.way.Way.{Way}
+use Rattle.leaf_pose.specs.Posed.{Adds, AreShaped, FitsMore, FitsSame, HasFitted, IsAllowedCase, IsPartOf, IsShaped, all_cases, allows, is_other, is_posable, is_posed_at, is_read_as, reads_as, stand_cases, stand_ways}
+use Rattle.leaf_pose.specs.Kinds.{kind_of}
+use Rattle.leaf_pose.specs.Relations.{way_at}
+use Rattle.leaf_pose.specs.Stands.{shape_at, turn_of}
+use Rattle.leaf_pose.specs.Ways.{AreWaysOf, IsWayOf, shape_with, way_case, way_cases}
+use Rattle.leaf_pose.proofs.Shapes.{pushed}
+use Rattle.leaf_link.proofs.Numbers.{same_op}
+use Rattle.leaf_pose.proofs.Single.{both_same, relations_of}
+
+-- WHAT FITS LISTS
+pub fits_left : (ds es : List Case) (x : Values) → Fits ds x → Fits (ds ++ es) x
+fits_left [] es x f = absurd f
+fits_left (d ∷ ds) es x (inl f) = inl f
+fits_left (d ∷ ds) es x (inr f) = inr (fits_left ds es x f)
+
+pub fits_right : (ds es : List Case) (x : Values) → Fits es x → Fits (ds ++ es) x
+fits_right [] es x f = f
+fits_right (d ∷ ds) es x f = inr (fits_right ds es x f)
+
+pub fits_either : (ds es : List Case) (x : Values) → Fits (ds ++ es) x → Fits ds x ⊎ Fits es x
+fits_either [] es x f = inr f
+fits_either (d ∷ ds) es x (inl f) = inl (inl f)
+fits_either (d ∷ ds) es x (inr f) = elim (fits_either ds es x f) [
+  | inl g ↦ inl (inr g)
+  | inr g ↦ inr g
+]
+
+or_parts : (a b : Bool) → (a || b) ≡ true → (a ≡ true) ⊎ (b ≡ true)
+or_parts true b h = inl refl
+or_parts false b h = inr h
+
+or_right : (a b : Bool) → b ≡ true → (a || b) ≡ true
+or_right true b h = refl
+or_right false b h = h
+
+-- two lists one after another
+pub both_lists : (cs new : List ACase) (ds es : List Case) → FitsSame cs ds → FitsSame new es → FitsSame (cs ++ new) (ds ++ es)
+both_lists cs new ds es h k x hx = (there, back)
+  where
+    there : list_any (fits_case x) (cs ++ new) ≡ true → Fits (ds ++ es) (values_in x)
+    there a = elim (or_parts (list_any (fits_case x) cs) (list_any (fits_case x) new) (sym (list_any-append (fits_case x) cs new) ∙ a)) [
+      | inl y ↦ fits_left ds es (values_in x) ((h x hx).0 y)
+      | inr y ↦ fits_right ds es (values_in x) ((k x hx).0 y)
+    ]
+
+    back : Fits (ds ++ es) (values_in x) → list_any (fits_case x) (cs ++ new) ≡ true
+    back f = list_any-append (fits_case x) cs new ∙ elim (fits_either ds es (values_in x) f) [
+      | inl y ↦ ap (λ (b : Bool). b || list_any (fits_case x) new) ((h x hx).1 y)
+      | inr y ↦ or_right (list_any (fits_case x) cs) (list_any (fits_case x) new) ((k x hx).1 y)
+    ]
+
+-- one more case
+pub one_more : (old new : List ACase) (c : ACase) (ds : List Case) → new ≡ old ++ c ∷ [] → FitsSame (c ∷ []) ds → FitsMore old new ds
+one_more old new c ds e h es k = subst (λ (l : List ACase). FitsSame l (es ++ ds)) (sym e) (both_lists old (c ∷ []) es ds k h)
+
+-- nothing more
+pub no_more : (old : List ACase) (ds : List Case) → FitsSame [] ds → FitsMore old old ds
+no_more old ds h es k = subst (λ (l : List ACase). FitsSame l (es ++ ds)) (append-nil old) (both_lists old [] es ds k h)
+
+pub then_more : (a b c : List ACase) (ds es : List Case) → FitsMore a b ds → FitsMore b c es → FitsMore a c (ds ++ es)
+then_more a b c ds es h k gs j = subst (λ (l : List Case). FitsSame c l) (append_assoc gs ds es) (k (gs ++ ds) (h gs j))
+
+pub none_yet : FitsSame [] []
+none_yet x hx = ((λ h. absurd (cc h)), λ f. absurd f)
+
+-- the same assignments fit other cases of the definition
+pub same_more : (old new : List ACase) (ds es : List Case) → ((x : Values) → Fits ds x → Fits es x) → ((x : Values) → Fits es x → Fits ds x) → FitsMore old new ds → FitsMore old new es
+same_more old new ds es there back h gs k x hx =
+    (λ y. over ds es there gs (values_in x) ((h gs k x hx).0 y), λ f. (h gs k x hx).1 (over es ds back gs (values_in x) f))
+  where
+    over : (ps qs : List Case) → ((y : Values) → Fits ps y → Fits qs y) → (bs : List Case) (z : Values) → Fits (bs ++ ps) z → Fits (bs ++ qs) z
+    over ps qs go bs z f = elim (fits_either bs ps z f) [
+      | inl g ↦ fits_left bs qs z g
+      | inr g ↦ fits_right bs qs z (go z g)
+    ]
+
+-- WHAT COMES TO CASES
+pub nothing_added : (s : Stand) (leaf : List Atom) (old : Shaped) (ds : List Case) → FitsSame [] ds → Adds s leaf old old ds
+nothing_added s leaf old ds h = record {
+  shape = λ all. all;
+  shaped = λ all. all;
+  allowed = λ all. all;
+  fits = no_more old.cases ds h;
+  rest = [];
+  behind = sym (append-nil old.cases);
+}
+
+pub then_adds : (s : Stand) (leaf : List Atom) (a b c : Shaped) (ds es : List Case) → Adds s leaf a b ds → Adds s leaf b c es → Adds s leaf a c (ds ++ es)
+then_adds s leaf a b c ds es h k = record {
+  shape = λ all. k.shape (h.shape all);
+  shaped = λ all. k.shaped (h.shaped all);
+  allowed = λ all. k.allowed (h.allowed all);
+  fits = then_more a.cases b.cases c.cases ds es h.fits k.fits;
+  rest = h.rest ++ k.rest;
+  behind = k.behind ∙ ap (λ (l : List ACase). l ++ k.rest) h.behind ∙ append_assoc a.cases h.rest k.rest;
+}
+
+pub same_adds : (s : Stand) (leaf : List Atom) (a b : Shaped) (ds es : List Case) → ((x : Values) → Fits ds x → Fits es x) → ((x : Values) → Fits es x → Fits ds x) → Adds s leaf a b ds → Adds s leaf a b es
+same_adds s leaf a b ds es there back h = record {
+  shape = h.shape;
+  shaped = h.shaped;
+  allowed = h.allowed;
+  fits = same_more a.cases b.cases ds es there back h.fits;
+  rest = h.rest;
+  behind = h.behind;
+}
+
+more_shaped : (s : Stand) (leaf : List Atom) (shapes : List Shape) (cs : List ACase) (shape : Shape) (c : ACase) → IsShaped s leaf shape c → AreShaped s leaf shapes cs → AreShaped s leaf (shapes ++ shape ∷ []) (cs ++ c ∷ [])
+more_shaped s leaf [] [] shape c h a = (h, record {})
+more_shaped s leaf (y ∷ shapes) (d ∷ cs) shape c h a = (a.0, more_shaped s leaf shapes cs shape c h a.1)
+more_shaped s leaf [] (d ∷ cs) shape c h a = absurd a
+more_shaped s leaf (y ∷ shapes) [] shape c h a = absurd a
+
+pub one_added : (s : Stand) (leaf : List Atom) (old new : Shaped) (c : ACase) (shape : Shape) (ds : List Case) → new.cases ≡ old.cases ++ c ∷ [] → new.shapes ≡ old.shapes ++ shape ∷ []
+    → IsCase c → IsShaped s leaf shape c → IsAllowedCase s leaf c → FitsSame (c ∷ []) ds → Adds s leaf old new ds
+one_added s leaf old new c shape ds e r is shaped allowed fits = record {
+  shape = pushed IsCase old.cases new.cases c e is;
+  shaped = λ all. subst (λ (l : List Shape). AreShaped s leaf l new.cases) (sym r) (subst (λ (l : List ACase). AreShaped s leaf (old.shapes ++ shape ∷ []) l) (sym e) (more_shaped s leaf old.shapes old.cases shape c shaped all));
+  allowed = pushed (IsAllowedCase s leaf) old.cases new.cases c e allowed;
+  fits = one_more old.cases new.cases c ds e fits;
+  rest = c ∷ [];
+  behind = e;
+}
+
+-- A CASE OF A WAY
+abbrev shape_at_with : Op → ℕ → Bool → AShape
+shape_at_with op outcome reaches = record { op = op; outcome = outcome; reaches = reaches }
+
+or_none : (a : Bool) → (a || false) ≡ true → a ≡ true
+or_none true h = refl
+or_none false h = h
+
+fits_one : (x : Assignment) (c : ACase) → fits_case x c ≡ true → list_any (fits_case x) (c ∷ []) ≡ true
+fits_one x c h = ap (λ (b : Bool). b || false) h
+
+part_fits : (s : Stand) (leaf : List Atom) (op : Op) (way : Way) (x : Values) (h : IsPartOf s op way) → FitsCase (case_at (turn_of s) 0 leaf op (way_at s op way)) x → FitsCase (case_at (turn_of s) 0 leaf op h.whole) x
+part_fits s leaf op way x h f =
+    let t = turn_of s in
+    let sh : AShape = shape_of op (way_at s op way) in
+    let e : shape_of op h.whole ≡ sh = shapes_same op h.whole.outcome (way_at s op way).outcome h.whole.reaches false h.outcome h.reaches in
+    let parts = and_parts (sources_hold t sh x) (atoms_hold t leaf sh x && (way_at s op way).holds x) f.holds in
+    let more = and_parts (atoms_hold t leaf sh x) ((way_at s op way).holds x) parts.1 in
+    record {
+      op = f.op;
+      each = λ slot. both_same _ _ _ _ (ap (λ (a : AShape). base_domain t 0 leaf a slot (x slot)) e) (h.also slot (x slot)) ∙ f.each slot;
+      holds = and_from _ _ (ap (λ (a : AShape). sources_hold t a x) e ∙ parts.0) (and_from _ _ (ap (λ (a : AShape). atoms_hold t leaf a x) e ∙ more.0) (h.holds x more.1));
+    }
+  where
+    shapes_same : (o : Op) (m n : ℕ) (b d : Bool) → m ≡ n → b ≡ d → shape_at_with o m b ≡ shape_at_with o n d
+    shapes_same o m n b d p q = ap (λ (k : ℕ). shape_at_with o k b) p ∙ ap (λ (k : Bool). shape_at_with o n k) q
+
+pub way_shaped : (s : Stand) (leaf : List Atom) (op : Op) (way : Way) (c : ACase) → is_other (kind_of op) ≡ false → IsPartOf s op way → is_posed_at s leaf (shape_at (shape_with op way.end)) ≡ true
+    → FitsSame (c ∷ []) (case_at (turn_of s) 0 leaf op (way_at s op way) ∷ []) → IsShaped s leaf (shape_with op way.end) c
+way_shaped s leaf op way c built h posed same x hx k = go ((same x hx).0 (fits_one x c k))
+  where
+    go : Fits (case_at (turn_of s) 0 leaf op (way_at s op way) ∷ []) (values_in x) → HasFitted s leaf (shape_with op way.end) (values_in x)
+    go (inl f) = record { built = built; whole = h.whole; is = h.is; outcome = h.outcome; reaches = h.reaches; posed = posed; fits = part_fits s leaf op way (values_in x) h f }
+    go (inr f) = absurd f
+
+pub allowed_case : (s : Stand) (leaf : List Atom) (op : Op) (c : ACase) → c.op ≡ op_number op → allows s leaf op ≡ true → IsAllowedCase s leaf c
+allowed_case s leaf op c e h other k = ap (λ (o : Op). allows s leaf o) (same_op other op (k ∙ e)) ∙ h
+
+pub posed_fits : (s : Stand) (leaf : List Atom) (op : Op) (way : Way) (c : ACase) → is_posed_at s leaf (shape_at (shape_with op way.end)) ≡ true
+    → FitsSame (c ∷ []) (case_at (turn_of s) 0 leaf op (way_at s op way) ∷ []) → FitsSame (c ∷ []) (way_case s leaf op way)
+posed_fits s leaf op way c p h = subst (λ (b : Bool). FitsSame (c ∷ []) (case_if b (case_at (turn_of s) 0 leaf op (way_at s op way)) [])) (sym p) h
+
+pub unposed_fits : (s : Stand) (leaf : List Atom) (op : Op) (way : Way) → is_posed_at s leaf (shape_at (shape_with op way.end)) ≡ false → FitsSame [] (way_case s leaf op way)
+unposed_fits s leaf op way p = subst (λ (b : Bool). FitsSame [] (case_if b (case_at (turn_of s) 0 leaf op (way_at s op way)) [])) (sym p) none_yet
+
+-- ALL WAYS OF AN OPERATION
+pub next_way : (s : Stand) (leaf : List Atom) (op : Op) (ways : List Way) (i : ℕ) (d : Way) (a b end : Shaped) → i < length ways → Adds s leaf a b (way_case s leaf op (get_or ways i d))
+    → Adds s leaf b end (way_cases s leaf op (drop (i + 1) ways)) → Adds s leaf a end (way_cases s leaf op (drop i ways))
+next_way s leaf op ways i d a b end lt step rest =
+    let n : i + 1 ≡ suc i = omega arith in
+    let e : drop i ways ≡ get_or ways i d ∷ drop (i + 1) ways = drop-cons ways i d lt ∙ ap (λ (m : ℕ). get_or ways i d ∷ drop m ways) (sym n) in
+    subst (λ (l : List Way). Adds s leaf a end (way_cases s leaf op l)) (sym e) (then_adds s leaf a b end (way_case s leaf op (get_or ways i d)) (way_cases s leaf op (drop (i + 1) ways)) step rest)
+
+pub no_ways : (s : Stand) (leaf : List Atom) (op : Op) (ways : List Way) (i : ℕ) (a : Shaped) → length ways ≤ i → Adds s leaf a a (way_cases s leaf op (drop i ways))
+no_ways s leaf op ways i a le = subst (λ (l : List Way). Adds s leaf a a (way_cases s leaf op l)) (sym (drop_all i ways le)) (nothing_added s leaf a [] none_yet)
+
+pub way_here : (s : Stand) (op : Op) (ways : List Way) (i : ℕ) (d : Way) → i < length ways → AreWaysOf s op ways → IsWayOf s op (get_or ways i d)
+way_here s op [] i d lt h = absurd (omega (arith, lt))
+way_here s op (way ∷ ways) Rattle.std.proofs.Common.zero d lt h = h.0
+way_here s op (way ∷ ways) (suc i) d lt h = way_here s op ways i d (omega (arith, lt)) h.1
+
+-- ALL OPERATIONS
+pub next_operation : (s : Stand) (leaf : List Atom) (ops : List Op) (i : ℕ) (d : Op) (a b end : Shaped) → i < length ops → Adds s leaf a b (stand_cases s leaf (get_or ops i d) (stand_ways s (get_or ops i d)))
+    → Adds s leaf b end (all_cases s leaf (drop (i + 1) ops)) → Adds s leaf a end (all_cases s leaf (drop i ops))
+next_operation s leaf ops i d a b end lt step rest =
+    let n : i + 1 ≡ suc i = omega arith in
+    let e : drop i ops ≡ get_or ops i d ∷ drop (i + 1) ops = drop-cons ops i d lt ∙ ap (λ (m : ℕ). get_or ops i d ∷ drop m ops) (sym n) in
+    subst (λ (l : List Op). Adds s leaf a end (all_cases s leaf l)) (sym e) (then_adds s leaf a b end (stand_cases s leaf (get_or ops i d) (stand_ways s (get_or ops i d))) (all_cases s leaf (drop (i + 1) ops)) step rest)
+
+pub no_operations : (s : Stand) (leaf : List Atom) (ops : List Op) (i : ℕ) (a : Shaped) → length ops ≤ i → Adds s leaf a a (all_cases s leaf (drop i ops))
+no_operations s leaf ops i a le = subst (λ (l : List Op). Adds s leaf a a (all_cases s leaf l)) (sym (drop_all i ops le)) (nothing_added s leaf a [] none_yet)
+
+-- A CASE THAT NOTHING FITS
+pub nothing_fits : (c : ACase) → c.rels ≡ Rows [] ∷ [] → (x : Assignment) → fits_case x c ≡ true → ⊥
+nothing_fits c e x h = let r : list_all (holds (op_numbered c.op) x) (Rows [] ∷ []) ≡ true = ap (λ (l : List Rel). list_all (holds (op_numbered c.op) x) l) (sym e) ∙ relations_of x c h in absurd (cc r)
+
+pub none_fits : (c : ACase) → ((x : Assignment) → fits_case x c ≡ true → ⊥) → FitsSame (c ∷ []) []
+none_fits c n x hx = (λ h. n x (or_none (fits_case x c) h), λ f. absurd f)
+
+-- AN OPERATION THAT IS NOT ALLOWED
+read_as : (o : Option Instr) (op : Op) → in_read o slots.Op (op_number op) ≡ true → is_read_as o op ≡ true
+read_as None op h = absurd (cc h)
+read_as (Some i) op h = grind (arith, nat_tests)
+
+pub in_word_reads : (o : Option ℕ) (op : Op) → in_word o op slots.Op (op_number op) ≡ true → reads_as o op ≡ true
+in_word_reads None op h = refl
+in_word_reads (Some w) op h = read_as (decoded w) op h
+
+pub allowed_of : (s : Stand) (leaf : List Atom) (op : Op) (way : AWay) (x : Values) → FitsCase (case_at (turn_of s) 0 leaf op way) x → allows s leaf op ≡ true
+allowed_of s leaf op way x f =
+    let d : domain (turn_of s) 0 leaf op way slots.Op (op_number op) ≡ true = subst (λ (v : ℕ). domain (turn_of s) 0 leaf op way slots.Op v ≡ true) f.op (f.each slots.Op) in
+    let a = (and_parts (in_word s.word op slots.Op (op_number op) && all_tests (turn_of s) leaf vars.Op (op_number op)) (way.also slots.Op (op_number op)) d).0 in
+    let b = and_parts (in_word s.word op slots.Op (op_number op)) (all_tests (turn_of s) leaf vars.Op (op_number op)) a in
+    and_from _ _ (in_word_reads s.word op b.0) b.1
+
+either_fits : (b : Bool) (c : Case) (cs : List Case) (x : Values) → Fits (case_if b c cs) x → FitsCase c x ⊎ Fits cs x
+either_fits true c cs x f = f
+either_fits false c cs x f = inr f
+
+pub stand_allowed : (s : Stand) (leaf : List Atom) (op : Op) (ways : List AWay) (x : Values) → Fits (stand_cases s leaf op ways) x → allows s leaf op ≡ true
+stand_allowed s leaf op [] x f = absurd f
+stand_allowed s leaf op (way ∷ ways) x f = elim (either_fits (is_posed_at s leaf (shape_of op way)) (case_at (turn_of s) 0 leaf op way) (stand_cases s leaf op ways) x f) [
+  | inl g ↦ allowed_of s leaf op way x g
+  | inr g ↦ stand_allowed s leaf op ways x g
+]
+
+pub not_allowed : (s : Stand) (leaf : List Atom) (op : Op) (ways : List AWay) → allows s leaf op ≡ false → FitsSame [] (stand_cases s leaf op ways)
+not_allowed s leaf op ways n x hx = (λ h. absurd (cc h), λ f. let y = stand_allowed s leaf op ways (values_in x) f in absurd (cc))
+
+-- an operation that may be posed and is allowed is built
+pub built_where : (s : Stand) (leaf : List Atom) (op : Op) → is_posable s leaf op ≡ true → allows s leaf op ≡ true → is_other (kind_of op) ≡ false
+built_where s leaf op h a = of_bools (is_other (kind_of op)) (allows s leaf op) h a
+  where
+    of_bools : (b d : Bool) → (not b || not d) ≡ true → d ≡ true → b ≡ false
+    of_bools true d p q = absurd (cc (ap not q, p))
+    of_bools false d p q = refl
+
+-- a test that passes on a list passes at each place
+pub test_here : {A : Type 0} (test : A → Bool) (xs : List A) (i : ℕ) (d : A) → i < length xs → list_all test xs ≡ true → test (get_or xs i d) ≡ true
+test_here test [] i d lt h = absurd (omega (arith, lt))
+test_here test (x ∷ xs) Rattle.std.proofs.Common.zero d lt h = (and_parts (test x) (list_all test xs) h).0
+test_here test (x ∷ xs) (suc i) d lt h = test_here test xs i d (omega (arith, lt)) (and_parts (test x) (list_all test xs) h).1

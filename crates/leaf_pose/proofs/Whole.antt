@@ -1,0 +1,198 @@
+-- The problem of a leaf, whole.
+use Rattle.std.proofs.Common.{◌≡◌, ℕ, zero, suc, ◌<◌, ◌^◌, Bool, true, false, ◌&&◌, ◌||◌, ◌==◌, List, [], ◌∷◌, ◌++◌, Option, Some, None, refl, sym, ap, ◌∙◌, subst, inl, inr, arith, lit<, All, find, get_or, length}
+use Rattle.std.specs.Prelude.{nat_eq, nat_lt, slice_index_or}
+use Rattle.std.specs.List.{list_all}
+use Rattle.std.proofs.lemmas.Bool.{and_parts, cases_Bool}
+use Rattle.std.proofs.lemmas.Bool.Decides.{nat_tests}
+use Rattle.dom_set.specs.Elements.{is_in}
+use Rattle.rv_isa.specs.declared.instruction.Instr.{Instr}
+use Rattle.rv_isa.specs.declared.operation.Op.{Op}
+use Rattle.rv_isa.specs.declared.operation.Op.TheVariants as ops
+use Rattle.rv_isa.specs.declared.operation.TheConstants.{OPS}
+use Rattle.rv_isa.specs.Fields.{has_csr}
+use Rattle.rv_isa.specs.Reading.{decoded}
+use Rattle.rv_isa.specs.Table.{row_of}
+use Rattle.rv_script.specs.declared.place.Place.TheVariants.{Word}
+use Rattle.rv_script.specs.Folds.{Entry}
+use Rattle.rv_script.specs.Lists.{HasItem}
+use Rattle.sv_walk.specs.Translation.{is_translated}
+use Rattle.rv_hart.specs.Machine.{data_view}
+use Rattle.tpl_ast.specs.declared.template.Atom.{Atom}
+use Rattle.tpl_ast.specs.Leaves.{same_var}
+use Rattle.tpl_ast.specs.declared.template.Var.{Var}
+use Rattle.tpl_ast.specs.declared.template.Var.TheVariants as vars
+use Rattle.fd_prob.specs.declared.problem.Case.{Case as ACase}
+use Rattle.fd_prob.specs.declared.slot.Slot.{Slot}
+use Rattle.fd_prob.specs.declared.slot.Slot.TheVariants as slots
+use Rattle.fd_prob.specs.Fitting.{IsCase, domain_of}
+use Rattle.rv_isa.proofs.Numbers.{read, small}
+use Rattle.rv_isa.specs.Numbers.{op_numbered, op_number}
+use Rattle.fd_prob.specs.Slots.{slot_number}
+use Rattle.leaf_link.specs.Turns.{Turn, is_first_form, is_second_form}
+use Rattle.leaf_link.specs.Values.{has_address}
+use Rattle.leaf_link.specs.Cases.{all_tests, in_format, in_read, in_word, or_no}
+use Rattle.leaf_link.specs.Firsts.{IsDomain, IsFirst, IsFirstOf, first_domain, has_old, has_walk, in_first_format, in_first_word, is_allowed, is_modelled, is_return}
+use Rattle.leaf_pose.specs.declared.shape.Shape.{Shape}
+use Rattle.leaf_pose.specs.declared.shaped.Shaped.{Shaped}
+use Rattle.leaf_pose.specs.declared.stand.Stand.{Stand}
+use Rattle.leaf_pose.specs.Firsts.{AddsFirsts, AreFirstCases, IsFirstCase, first_at}
+use Rattle.leaf_pose.specs.Kinds.{kind_of}
+use Rattle.leaf_pose.specs.Posed.{Adds, AreShaped, FitsSame, IsAllowedCase, all_cases, allows, are_posable, is_other, is_posable, is_read_as, reads_as}
+use Rattle.leaf_pose.specs.Problems.{ArePivots, PosesLeaf}
+use Rattle.leaf_pose.specs.Stands.{IsStandOf, turn_of}
+use Rattle.leaf_pose.proofs.Leading.{FindsFirst, first_found, none_found}
+use Rattle.leaf_pose.proofs.Lists.{each_domain}
+use Rattle.leaf_pose.proofs.Rows.{built_address, built_csr, built_return}
+use Rattle.leaf_pose.proofs.Shapes.{nothing}
+use Rattle.leaf_pose.proofs.Single.{both_same, domain_in_case}
+use Rattle.leaf_pose.proofs.Steps.{none_yet}
+use Rattle.leaf_pose.proofs.Turning.{all_same, built_if, every_turn}
+
+-- DRAWS
+pub pivots_are : (draws : List ℕ) → ArePivots draws (get_or draws 2 0 ∷ get_or draws 3 0 ∷ get_or draws 4 0 ∷ get_or draws 5 0 ∷ get_or draws 6 0 ∷ get_or draws 7 0 ∷ get_or draws 8 0 ∷ get_or draws 9 0 ∷ get_or draws 10 0 ∷ get_or draws 11 0 ∷ get_or draws 12 0 ∷ get_or draws 13 0 ∷ get_or draws 14 0 ∷ get_or draws 15 0 ∷ [])
+pivots_are draws slots.Op = refl
+pivots_are draws slots.Rs1 = refl
+pivots_are draws slots.Rs2 = refl
+pivots_are draws slots.Imm = refl
+pivots_are draws slots.Rd = refl
+pivots_are draws slots.Csr = refl
+pivots_are draws slots.Ea = refl
+pivots_are draws slots.A = refl
+pivots_are draws slots.B = refl
+pivots_are draws slots.FirstPte = refl
+pivots_are draws slots.SecondPte = refl
+pivots_are draws slots.DataWord = refl
+pivots_are draws slots.OldCsr = refl
+pivots_are draws slots.Vector = refl
+
+-- THE DOMAINS OF FIRST CASES
+first_format_same : (op : Op) (slot : Slot) (v : ℕ) → has_csr (row_of op) ≡ false → in_first_format op slot v ≡ in_format op slot v
+first_format_same op slots.Csr v h = ap (λ (b : Bool). or_no b (is_modelled v) v) h ∙ sym (ap (λ (b : Bool). or_no b (nat_lt v (2 ^ 12)) v) h)
+first_format_same op slots.Op v h = refl
+first_format_same op _ v h = refl
+
+first_word_same : (o : Option ℕ) (op : Op) (slot : Slot) (v : ℕ) → has_csr (row_of op) ≡ false → in_first_word o op slot v ≡ in_word o op slot v
+first_word_same None op slot v h = first_format_same op slot v h
+first_word_same (Some w) op slot v h = refl
+
+first_field : (s : Stand) (t : Turn) (walk : List Entry) (pa : ℕ) → IsStandOf s t walk pa → (leaf : List Atom) (op : Op) (slot : Slot) (u : Var) (v : ℕ) → has_csr (row_of op) ≡ false → same_var vars.Pa u ≡ false
+    → (in_first_word (t.known (Word pa)) op slot v && all_tests t leaf u v) ≡ (in_word s.word op slot v && all_tests (turn_of s) leaf u v)
+first_field s t walk pa h leaf op slot u v c n =
+    both_same _ _ _ _ (first_word_same (t.known (Word pa)) op slot v c ∙ ap (λ (o : Option ℕ). in_word o op slot v) h.word) (all_same s t walk pa h leaf u v n)
+
+or_nothing : (b inside : Bool) (v : ℕ) → b ≡ false → or_no b inside v ≡ nat_eq v 0
+or_nothing b inside v h = ap (λ (c : Bool). or_no c inside v) h
+
+no_walk : (t : Turn) (op : Op) → has_address (row_of op) ≡ false → has_walk t op ≡ false
+no_walk t op h = ap (λ (b : Bool). b && is_translated (data_view t.fixed)) h
+
+no_old : (op : Op) → has_csr (row_of op) ≡ false → is_return op ≡ false → has_old op ≡ false
+no_old op h k = ap (λ (b : Bool). b || is_return op) h ∙ k
+
+first_same : (s : Stand) (t : Turn) (walk : List Entry) (pa : ℕ) → IsStandOf s t walk pa → (leaf : List Atom) (op : Op) → is_other (kind_of op) ≡ false → (slot : Slot) (v : ℕ) → first_domain t pa leaf op slot v ≡ first_at (turn_of s) leaf op slot v
+first_same s t walk pa h leaf op n slots.Op v = first_field s t walk pa h leaf op slots.Op vars.Op v (built_csr op n) refl
+first_same s t walk pa h leaf op n slots.Rs1 v = first_field s t walk pa h leaf op slots.Rs1 vars.Rs1 v (built_csr op n) refl
+first_same s t walk pa h leaf op n slots.Rs2 v = first_field s t walk pa h leaf op slots.Rs2 vars.Rs2 v (built_csr op n) refl
+first_same s t walk pa h leaf op n slots.Imm v = first_field s t walk pa h leaf op slots.Imm vars.Imm v (built_csr op n) refl
+first_same s t walk pa h leaf op n slots.Rd v = first_field s t walk pa h leaf op slots.Rd vars.Rd v (built_csr op n) refl
+first_same s t walk pa h leaf op n slots.Csr v = first_field s t walk pa h leaf op slots.Csr vars.Csr v (built_csr op n) refl
+first_same s t walk pa h leaf op n slots.Ea v = both_same _ _ _ _ (or_nothing (has_address (row_of op)) true v (built_address op n)) (all_same s t walk pa h leaf vars.Ea v refl)
+first_same s t walk pa h leaf op n slots.A v = both_same _ _ _ _ refl (all_same s t walk pa h leaf vars.A v refl)
+first_same s t walk pa h leaf op n slots.B v = both_same _ _ _ _ refl (all_same s t walk pa h leaf vars.B v refl)
+first_same s t walk pa h leaf op n slots.FirstPte v = or_nothing (has_walk t op) (is_first_form t v) v (no_walk t op (built_address op n))
+first_same s t walk pa h leaf op n slots.SecondPte v = or_nothing (has_walk t op) (is_second_form t v) v (no_walk t op (built_address op n))
+first_same s t walk pa h leaf op n slots.DataWord v = or_nothing (has_address (row_of op)) true v (built_address op n)
+first_same s t walk pa h leaf op n slots.OldCsr v = or_nothing (has_old op) true v (no_old op (built_csr op n) (built_return op n))
+first_same s t walk pa h leaf op n slots.Vector v = ap (λ (l : List ℕ). is_in l v) h.vectors
+
+-- an operation that is allowed is so at every turn
+eq_self : (n : ℕ) → nat_eq n n ≡ true
+eq_self n = grind (arith, nat_tests)
+
+read_same : (o : Option Instr) (op : Op) → in_read o slots.Op (op_number op) ≡ is_read_as o op
+read_same None op = refl
+read_same (Some i) op = refl
+
+first_reads : (o : Option ℕ) (op : Op) → in_first_word o op slots.Op (op_number op) ≡ reads_as o op
+first_reads None op = eq_self (op_number op)
+first_reads (Some w) op = read_same (decoded w) op
+
+allowed_same : (s : Stand) (t : Turn) (walk : List Entry) (pa : ℕ) → IsStandOf s t walk pa → (leaf : List Atom) (op : Op) → is_allowed t pa leaf op ≡ allows s leaf op
+allowed_same s t walk pa h leaf op =
+    both_same _ _ _ _ (ap (λ (o : Option ℕ). in_first_word o op slots.Op (op_number op)) h.word ∙ first_reads s.word op) (all_same s t walk pa h leaf vars.Op (op_number op) refl)
+
+number_small : (op : Op) → op_number op < 2 ^ 32
+unfolding op_number
+number_small ops.Lui = lit< tt
+number_small _ = lit< tt
+
+is_first : (s : Stand) (t : Turn) (walk : List Entry) (pa : ℕ) → IsStandOf s t walk pa → (leaf : List Atom) (op : Op) (c : ACase) → is_other (kind_of op) ≡ false → IsFirstCase s leaf op c → IsFirst t pa leaf op c
+is_first s t walk pa h leaf op c n first = record {
+  allowed = let d = of_slot slots.Op in d.same (op_number op) (number_small op);
+  domains = λ allowed slot pos. of_slot slot;
+}
+  where
+    of_slot : (slot : Slot) → IsDomain (domain_of c slot) (first_domain t pa leaf op slot)
+    of_slot slot =
+        let d = each_domain (λ r set. IsDomain set (first_at (turn_of s) leaf op r)) c.doms first.domains slot in
+        let e : domain_of c slot ≡ slice_index_or c.doms (slot_number slot) [] = domain_in_case c slot in
+        record {
+          members = d.members;
+          is_set = e ∙ d.is_set;
+          same = λ v small. ap (λ (l : List ℕ). is_in l v) e ∙ d.same v small ∙ sym (first_same s t walk pa h leaf op n slot v);
+        }
+
+-- every operation is in the list
+has_at : (xs : List Op) (n : ℕ) (d : Op) → n < length xs → HasItem xs (slice_index_or xs n d)
+has_at [] n d lt = absurd (omega (arith, lt))
+has_at (x ∷ xs) zero d lt = inl refl
+has_at (x ∷ xs) (suc n) d lt = inr (has_at xs n d (omega (arith, lt)))
+
+every_op : (op : Op) → HasItem OPS op
+unfolding op_numbered
+every_op op = subst (λ (o : Op). HasItem OPS o) (read op) (has_at OPS (op_number op) ops.Illegal (small op))
+
+-- THE PROBLEM
+start_gone : (old firsts rest new : List ACase) → old ≡ [] → new ≡ (old ++ firsts) ++ rest → new ≡ firsts ++ rest
+start_gone old firsts rest new n e = e ∙ ap (λ (l : List ACase). (l ++ firsts) ++ rest) n
+
+pub whole_shaped : (s : Stand) (leaf : List Atom) (start firsts end : Shaped) → start.cases ≡ [] → start.shapes ≡ [] → AddsFirsts s leaf OPS start firsts → Adds s leaf firsts end (all_cases s leaf OPS) → AreShaped s leaf end.shapes end.cases
+whole_shaped s leaf start firsts end n m h k =
+    k.shaped (h.adds.shaped (subst (λ (l : List ACase). AreShaped s leaf start.shapes l) (sym n) (subst (λ (l : List Shape). AreShaped s leaf l []) (sym m) (record {}))))
+
+firsts_found : (s : Stand) (t : Turn) (walk : List Entry) (pa : ℕ) → IsStandOf s t walk pa → (leaf : List Atom) (cs firsts rest : List ACase) → are_posable s leaf ≡ true → cs ≡ firsts ++ rest → AreFirstCases s leaf OPS firsts
+    → All (IsAllowedCase s leaf) cs → (op : Op) → IsFirstOf t pa leaf op (find (λ c. c.op == op_number op) cs)
+firsts_found s t walk pa h leaf cs firsts rest p e are all op = elim (cases_Bool (allows s leaf op)) [
+  | inl a ↦
+      let f : FindsFirst s leaf op cs = subst (λ (l : List ACase). FindsFirst s leaf op l) (sym e) (first_found s leaf OPS op firsts rest are (every_op op) a) in
+      let posable : is_posable s leaf op ≡ true = test_in (is_posable s leaf) OPS op (every_op op) p in
+      subst (λ (o : Option ACase). IsFirstOf t pa leaf op o) (sym f.found) (is_first s t walk pa h leaf op f.case_is (built_if s leaf op posable a) f.first)
+  | inr n ↦ subst (λ (o : Option ACase). IsFirstOf t pa leaf op o) (sym (none_found s leaf op cs all n)) (allowed_same s t walk pa h leaf op ∙ n)
+]
+  where
+    test_in : (test : Op → Bool) (list : List Op) (o : Op) → HasItem list o → list_all test list ≡ true → test o ≡ true
+    test_in test [] o i q = absurd i
+    test_in test (x ∷ xs) o i q = elim i [
+      | inl y ↦ subst (λ (r : Op). test r ≡ true) y (and_parts (test x) (list_all test xs) q).0
+      | inr j ↦ test_in test xs o j (and_parts (test x) (list_all test xs) q).1
+    ]
+
+pub whole_problem : (s : Stand) (leaf : List Atom) (draws pivots : List ℕ) (start firsts end : Shaped) → are_posable s leaf ≡ true → start.cases ≡ [] → ArePivots draws pivots → AddsFirsts s leaf OPS start firsts → Adds s leaf firsts end (all_cases s leaf OPS)
+    → PosesLeaf s leaf draws (record { cases = end.cases; pivots = pivots; pairs = s.pairs; fetch = false })
+whole_problem s leaf draws pivots start firsts end p n d h k t walk pa loads stores is =
+    let same : FitsSame end.cases (all_cases s leaf OPS) = k.fits [] (h.adds.fits [] (subst (λ (l : List ACase). FitsSame l []) (sym n) none_yet)) in
+    let here : end.cases ≡ h.firsts ++ k.rest = start_gone start.cases h.firsts k.rest end.cases n (k.behind ∙ ap (λ (l : List ACase). l ++ k.rest) h.is) in
+    record {
+      shape = k.shape (h.adds.shape (nothing IsCase start.cases n));
+      no_fetch = refl;
+      pairs = sym is.pairs;
+      draws_are = d;
+      firsts = firsts_found s t walk pa is leaf end.cases h.firsts k.rest p here h.are (k.allowed (h.adds.allowed (nothing (IsAllowedCase s leaf) start.cases n)));
+      cases = record { same = every_turn s t walk pa is leaf loads stores OPS end.cases p same };
+    }
+
+pub shaped_lengths : (s : Stand) (leaf : List Atom) (shapes : List Shape) (cs : List ACase) → AreShaped s leaf shapes cs → length shapes ≡ length cs
+shaped_lengths s leaf [] [] h = refl
+shaped_lengths s leaf (shape ∷ shapes) (c ∷ cs) h = ap suc (shaped_lengths s leaf shapes cs h.1)
+shaped_lengths s leaf (shape ∷ shapes) [] h = absurd h
+shaped_lengths s leaf [] (c ∷ cs) h = absurd h

@@ -1,0 +1,47 @@
+// Operations by how their steps go on after the sources.
+
+ghost use Rattle.std.specs.Prelude.{◌≡◌};
+ghost use Rattle.leaf_pose.specs.Kinds.{kind_of};
+
+use rv_isa::Op;
+
+/// How the steps of an operation go on after their sources.
+#[derive(Clone, Copy)]
+pub enum Kind {
+    /// It retires: a register or immediate operation, LUI, AUIPC or FENCE.
+    Plain,
+    Branch,
+    /// JAL.
+    Jump,
+    /// JALR.
+    JumpRegister,
+    /// ECALL.
+    Call,
+    /// EBREAK.
+    Break,
+    /// A word that is no instruction.
+    Illegal,
+    /// SFENCE.VMA.
+    AddressFence,
+    /// It is not built.
+    Other,
+}
+
+/// The kind of an operation.
+pub fn kind_of(op: Op) -> Kind
+    ensures { result ≡ kind_of op }
+{
+    match op {
+        Op::Jal => Kind::Jump,
+        Op::Jalr => Kind::JumpRegister,
+        Op::Beq | Op::Bne | Op::Blt | Op::Bge | Op::Bltu | Op::Bgeu => Kind::Branch,
+        Op::Lb | Op::Lh | Op::Lw | Op::Lbu | Op::Lhu | Op::Sb | Op::Sh | Op::Sw => Kind::Other,
+        Op::Ecall => Kind::Call,
+        Op::Ebreak => Kind::Break,
+        Op::Csrrw | Op::Csrrs | Op::Csrrc | Op::Csrrwi | Op::Csrrsi | Op::Csrrci => Kind::Other,
+        Op::Mret | Op::Sret => Kind::Other,
+        Op::SfenceVma => Kind::AddressFence,
+        Op::Illegal => Kind::Illegal,
+        _ => Kind::Plain,
+    }
+}

@@ -1,0 +1,115 @@
+// Leaves that any operation of those that are built may meet.
+
+use crate::reading::one;
+use dom_set::Set;
+use fd_solve::{Solved, solve};
+use leaf_pose::{Stand, are_between, fault_problem, fetch_problem, problem_of};
+use rv_csr::{Cause, Csrs, Priv};
+use rv_isa::{OPS, Op};
+use std::alloc::Global;
+use std::process::Abort;
+use std::test::Fail;
+use tpl_ast::{Atom, Var};
+
+/// A hart in M of which nothing but x0 is known.
+fn stand_with(vectors: &Set) -> Stand<'_> {
+    let mut registers = [None; 32];
+    registers[0] = Some(0);
+    Stand {
+        pc: 0x8000_0000,
+        privilege: Priv::M,
+        csrs: Csrs::new(0, 0, 0, 0),
+        registers,
+        word: None,
+        fetches: true,
+        pairs: 1,
+        vectors,
+        names: &[],
+    }
+}
+
+/// Whether some instruction of an operation can be started. Operations that are not built can't be posed.
+fn fits(rt: &impl Abort, alloc: Global, stand: &Stand, op: Op) -> Result<bool, Fail> {
+    let mut leaf = Vec::new(alloc);
+    leaf.push(Atom::In(Var::Op, one(alloc, u32::from(op as u8))?))?;
+    assert!(rt; are_between(&leaf));
+    if !stand.are_posable(&leaf) {
+        return Ok(false);
+    }
+    let posed = problem_of(alloc, stand, &leaf, &[0; 16])?;
+    Ok(matches!(solve(alloc, &posed.problem, u64::MAX)?, Solved::Found(_)))
+}
+
+#[test]
+fn operations_that_fit(rt: HostRuntime) -> Result<(), Fail> {
+    let alloc = rt.alloc();
+    let vectors = one(alloc, 0x8000_0200)?;
+    let stand = stand_with(&vectors);
+    let mut count = 0u64;
+    for op in OPS {
+        if fits(&rt, alloc, &stand, op)? {
+            count = count.wrapping_add(1);
+        }
+    }
+    // all but 8 loads and stores, 6 CSR instructions, MRET and SRET
+    assert_eq!(&rt; count, 42);
+    Ok(())
+}
+
+#[test]
+fn cases_of_a_bare_leaf(rt: HostRuntime) -> Result<(), Fail> {
+    let alloc = rt.alloc();
+    let vectors = one(alloc, 0x8000_0200)?;
+    let stand = stand_with(&vectors);
+    let mut leaf = Vec::new(alloc);
+    for (from, to) in [(10, 17), (48, 55)] {
+        let others = Set::from_ranges(alloc, &[(from, to)], 1)?;
+        leaf.push(Atom::NotIn(Var::Op, others))?;
+    }
+    assert!(&rt; are_between(&leaf));
+    assert!(&rt; stand.are_posable(&leaf));
+    let posed = problem_of(alloc, &stand, &leaf, &[0; 16])?;
+    // a first case for each of 42 operations, a case for each of 34 that end in one way, two for each of the jumps and
+    // three for each of the branches
+    assert_eq!(&rt; posed.problem.cases.len(), 42 + 34 + 2 * 2 + 3 * 6);
+    Ok(())
+}
+
+/// Whether an answer has these values for the vector and 0 for all other variables.
+fn starts_vector_alone(solved: Solved, vector: u32) -> bool {
+    match solved {
+        Solved::Found(x) => x.values == [0, 0, 0, 0, 0, 0, 0, 0, 0, 0, 0, 0, 0, vector],
+        _ => false,
+    }
+}
+
+#[test]
+fn fetches_without_translation(rt: HostRuntime) -> Result<(), Fail> {
+    let alloc = rt.alloc();
+    let none = Set::new(alloc);
+    let vectors = one(alloc, 0x8000_0200)?;
+    let stand = stand_with(&vectors);
+    let fetch = fetch_problem(alloc, &stand, &none, &none, &[0; 16])?;
+    assert!(&rt; starts_vector_alone(solve(alloc, &fetch, 1)?, 0));
+    let fault = fault_problem(
+        alloc,
+        &stand,
+        &none,
+        &none,
+        &[0; 16],
+        Cause::FetchAccess,
+        true,
+    )?;
+    assert!(&rt; starts_vector_alone(solve(alloc, &fault, 1)?, 0x8000_0200));
+    let other = fault_problem(
+        alloc,
+        &stand,
+        &none,
+        &none,
+        &[0; 16],
+        Cause::FetchAccess,
+        false,
+    )?;
+    assert!(&rt; matches!(solve(alloc, &other, 1)?, Solved::NoneFits));
+    Ok(())
+}

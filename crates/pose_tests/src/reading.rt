@@ -1,0 +1,132 @@
+// What stands in the rows of worked leaves. A row that can't be read ends the test.
+
+use dom_set::{OutOfMemory, Set};
+use leaf_pose::Name;
+use rv_isa::{OPS, name_of};
+use std::alloc::Global;
+use std::process::Abort;
+use tpl_ast::{Atom, Var};
+
+/// A number in hexadecimal.
+pub fn number(rt: &impl Abort, text: &str) -> u32 {
+    u32::from_str_radix(text, 16).expect(rt, text)
+}
+
+/// A number in decimal.
+pub fn count(rt: &impl Abort, text: &str) -> u64 {
+    u64::from_str_radix(text.trim(), 10).expect(rt, text)
+}
+
+pub fn one(alloc: Global, value: u32) -> Result<Set, OutOfMemory> {
+    Set::from_ranges(alloc, &[(value, value)], 1)
+}
+
+/// The number of the operation of a name.
+fn operation(rt: &impl Abort, name: &str) -> u32 {
+    let mut found = None;
+    for op in OPS {
+        if name_of(op) == name.as_bytes() {
+            found = Some(op as u8);
+        }
+    }
+    u32::from(found.expect(rt, name))
+}
+
+fn variable(rt: &impl Abort, name: &str) -> Var {
+    match name {
+        "op" => Var::Op,
+        "rs1" => Var::Rs1,
+        "rs2" => Var::Rs2,
+        "rd" => Var::Rd,
+        "imm" => Var::Imm,
+        "a" => Var::A,
+        "b" => Var::B,
+        "target" => Var::Target,
+        "outcome" => Var::Outcome,
+        _ => panic!(rt; "no variable: {}", name),
+    }
+}
+
+/// A value: the name of an operation or a number.
+fn value(rt: &impl Abort, var: Var, text: &str) -> u32 {
+    match var {
+        Var::Op => operation(rt, text),
+        _ => number(rt, text),
+    }
+}
+
+/// An atom: `imm=7` and `imm!7` for in and not in, `target@0` for the name with this place, `a~b` and `a^b` for the
+/// same and for different values, `taken` and `untaken`.
+pub fn atom(rt: &impl Abort, alloc: Global, text: &str) -> Result<Atom, OutOfMemory> {
+    if text == "taken" {
+        return Ok(Atom::Taken);
+    }
+    if text == "untaken" {
+        return Ok(Atom::NotTaken);
+    }
+    if let Some((name, other)) = text.split_once('~') {
+        return Ok(Atom::Same(variable(rt, name), variable(rt, other)));
+    }
+    if let Some((name, other)) = text.split_once('^') {
+        return Ok(Atom::Differ(variable(rt, name), variable(rt, other)));
+    }
+    valued(rt, alloc, text)
+}
+
+fn valued(rt: &impl Abort, alloc: Global, text: &str) -> Result<Atom, OutOfMemory> {
+    if let Some((name, place)) = text.split_once('@') {
+        return Ok(Atom::Is(variable(rt, name), number(rt, place)));
+    }
+    if let Some((name, unwanted)) = text.split_once('!') {
+        let var = variable(rt, name);
+        return Ok(Atom::NotIn(var, one(alloc, value(rt, var, unwanted))?));
+    }
+    let (name, wanted) = text.split_once('=').expect(rt, text);
+    let var = variable(rt, name);
+    Ok(Atom::In(var, one(alloc, value(rt, var, wanted))?))
+}
+
+/// Atoms, one after another, or `-` for none.
+pub fn atoms(rt: &impl Abort, alloc: Global, text: &str) -> Result<Vec<Atom>, OutOfMemory> {
+    let mut leaf = Vec::new(alloc);
+    if text.trim() == "-" {
+        return Ok(leaf);
+    }
+    for word in text.split_whitespace() {
+        leaf.push(atom(rt, alloc, word)?)?;
+    }
+    Ok(leaf)
+}
+
+/// The vectors of a row: the words `vector=80000200`.
+pub fn vectors(rt: &impl Abort, alloc: Global, known: &str) -> Result<Set, OutOfMemory> {
+    let mut set = Set::new(alloc);
+    for word in known.split_whitespace() {
+        if let Some(vector) = word.strip_prefix("vector=") {
+            set = one(alloc, number(rt, vector))?;
+        }
+    }
+    Ok(set)
+}
+
+/// The names of a row: `name=80000000` for one with this value, and `open=5` for one that is not bound, with the set of
+/// this value alone.
+pub fn names(rt: &impl Abort, alloc: Global, known: &str) -> Result<Vec<Name>, OutOfMemory> {
+    let mut list = Vec::new(alloc);
+    for word in known.split_whitespace() {
+        if let Some(bound) = word.strip_prefix("name=") {
+            let value = number(rt, bound);
+            list.push(Name {
+                value: Some(value),
+                set: one(alloc, value)?,
+            })?;
+        }
+        if let Some(open) = word.strip_prefix("open=") {
+            list.push(Name {
+                value: None,
+                set: one(alloc, number(rt, open))?,
+            })?;
+        }
+    }
+    Ok(list)
+}
