@@ -16,3 +16,4 @@ pub mod Ends
 pub mod Pages
 pub mod Walks
 pub mod Lasts
+pub mod Spans

@@ -1,5 +1,5 @@
 -- Ranges of numbers of which those count that match a pattern, and lists of such pieces.
-use Rattle.std.specs.Prelude.{◌≡◌, ℕ, ◌+◌, ◌-◌, ◌/◌, ◌%◌, ◌^◌, ◌<◌, ◌≤◌, Bool, true, false, ◌&&◌, nat_le, min, max, List, [], ◌∷◌, length, drop, get_or, Option, Some, None, MatchOption}
+use Rattle.std.specs.Prelude.{◌≡◌, ℕ, ◌+◌, ◌-◌, ◌/◌, ◌%◌, ◌^◌, ◌<◌, ◌≤◌, Bool, true, false, ◌&&◌, bit_and, nat_le, min, max, List, [], ◌∷◌, length, drop, get_or, Option, Some, None, MatchOption}
 use Rattle.std.specs.List.{list_any}
 use Rattle.dom_set.specs.Counting.{one}
 use Rattle.dom_set.specs.Patterns.{matches}
@@ -36,6 +36,13 @@ IsApart ps = (x : ℕ) → times ps x ≤ 1
 -- a number of the page of 4,096 with this number passes the test
 abbrev pub HasPage : (ℕ → Bool) → ℕ → Type 0
 HasPage test q = (y : ℕ) × (test y ≡ true) × (y / 4096 ≡ q)
+
+-- of the numbers from a lowest to a highest one those pass the test that have the bits of both under some mask
+pub record IsPart (test : ℕ → Bool) (span : ℕ × ℕ) : Type 0 where
+  pub ordered : span.0 ≤ span.1
+  pub mask : ℕ
+  pub same : bit_and span.0 mask ≡ bit_and span.1 mask
+  pub held : (x : ℕ) → span.0 ≤ x → x ≤ span.1 → bit_and x mask ≡ bit_and span.0 mask → test x ≡ true
 
 -- the first number from the given one up that passes the test, if any does
 abbrev pub IsFirstFrom : (ℕ → Bool) → ℕ → Option ℕ → Type 0

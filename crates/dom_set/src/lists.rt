@@ -1,9 +1,9 @@
 // Lists of pieces.
-ghost use Rattle.std.specs.Prelude.{◌≡◌, ℕ, ◌+◌, ◌-◌, ◌*◌, ◌%◌, ◌^◌, ◌<◌, ◌≤◌, ◌↔◌, ◌&&◌, not, true, false, bit_and, IfSome, IsTrue, nat_lt, nat_le, if◌then◌else◌, IfOk, OnOk};
+ghost use Rattle.std.specs.Prelude.{◌≡◌, ℕ, ◌+◌, ◌-◌, ◌*◌, ◌%◌, ◌^◌, ◌<◌, ◌≤◌, ◌↔◌, ◌&&◌, not, true, false, bit_and, All, IfSome, IsTrue, nat_lt, nat_le, if◌then◌else◌, IfOk, OnOk};
 ghost use Rattle.dom_set.specs.Counting.{one, total};
-ghost use Rattle.dom_set.specs.Elements.{is_matching};
+ghost use Rattle.dom_set.specs.Elements.{is_matching, is_within};
 ghost use Rattle.dom_set.specs.Patterns.{matches};
-ghost use Rattle.dom_set.specs.Pieces.{in_span, in_piece, is_held, times, holds, Ascends, HasPage, IsApart, IsFirstFrom, IsLast, IsPassed, greater, lesser};
+ghost use Rattle.dom_set.specs.Pieces.{in_span, in_piece, is_held, times, holds, Ascends, HasPage, IsApart, IsFirstFrom, IsLast, IsPart, IsPassed, greater, lesser};
 
 use crate::error::OutOfMemory;
 use crate::piece::Piece;
@@ -92,6 +92,20 @@ pub fn last(pieces: &[Piece]) -> Option<u32>
         furthest = greater(furthest, p.last());
     }
     furthest
+}
+
+/// The lowest and the highest number of each piece that has one, in the order of the pieces.
+pub fn spans(alloc: Global, pieces: &[Piece]) -> Result<Vec<(u32, u32)>, OutOfMemory>
+    ensures covered { IfOk result (λ spans. (x : ℕ) → holds pieces.now x ≡ true → is_within spans.items x ≡ true) }
+    ensures parts { IfOk result (λ spans. All (IsPart (holds pieces.now)) spans.items) }
+{
+    let mut spans = Vec::new(alloc);
+    for p in pieces {
+        if let Some(span) = p.span() {
+            spans.push(span)?;
+        }
+    }
+    Ok(spans)
 }
 
 /// A page from the given one on, so that each page before it, from the given one on, has one of the numbers.

@@ -15,10 +15,10 @@ pub struct Piece {
 }
 
 impl Piece {
-    ghost use Rattle.std.specs.Prelude.{◌≡◌, ℕ, ◌+◌, ◌-◌, ◌^◌, ◌<◌, ◌≤◌, ◌&&◌, ◌==◌, true, not, nat_lt, nat_le, bit_and, IfSome};
+    ghost use Rattle.std.specs.Prelude.{◌≡◌, ℕ, ◌+◌, ◌-◌, ◌^◌, ◌<◌, ◌≤◌, ◌&&◌, ◌==◌, true, false, not, nat_lt, nat_le, bit_and, IfSome, IsNone};
     ghost use Rattle.dom_set.specs.Counting.{one, total};
     ghost use Rattle.dom_set.specs.Patterns.{matches, matches_below, IsStep};
-    ghost use Rattle.dom_set.specs.Pieces.{in_span, in_piece, is_held, HasPage, HoldsSome, IsFirstFrom, IsLast};
+    ghost use Rattle.dom_set.specs.Pieces.{in_span, in_piece, is_held, HasPage, HoldsSome, IsFirstFrom, IsLast, IsPart};
 
     /// The numbers whose bits under the mask are these, if it has them all. Where the highest bits are among
     /// them, the ends tell these, and the pattern those below the highest bit that the mask lacks.
@@ -110,6 +110,17 @@ impl Piece {
     {
         let last = self.pattern.last_to(self.high)?;
         if self.low <= last { Some(last) } else { None }
+    }
+
+    /// Its lowest and its highest number.
+    pub fn span(self) -> Option<(u32, u32)>
+        ensures none { IsNone result → (x : ℕ) → in_piece self x ≡ false }
+        ensures covered { IfSome result (λ s. (x : ℕ) → in_piece self x ≡ true → (s.0 ≤ x) × (x ≤ s.1)) }
+        ensures part { IfSome result (IsPart (in_piece self)) }
+    {
+        let low = self.first_from(0)?;
+        let high = self.last()?;
+        Some((low, high))
     }
 
     /// A page from the given one on, so that each page before it, from the given one on, has one of the numbers.

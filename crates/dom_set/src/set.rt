@@ -2,7 +2,7 @@
 ghost use Rattle.std.specs.Prelude.{◌≡◌, ℕ, ◌+◌, ◌-◌, ◌^◌, ◌%◌, ◌<◌, ◌≤◌, ◌↔◌, ◌==◌, ◌&&◌, ◌||◌, true, [], length, filter, not, nat_lt, nat_le, Some, slice_get, ◌≢◌, ◌∷◌, MatchOption, IfOk, IfSome, IsTrue, IsNone, bit_and, All, Contains};
 ghost use Rattle.std.specs.List.Sorted.{IsStrictlyIncreasing};
 ghost use Rattle.std.specs.Int.{IsPowerOfTwo};
-ghost use Rattle.dom_set.specs.Pieces.{HasPage};
+ghost use Rattle.dom_set.specs.Pieces.{HasPage, IsPart};
 ghost use Rattle.dom_set.specs.Elements.{elements_of, is_in, is_within, is_matching, is_signed_lt, first_cyclic};
 
 use crate::error::OutOfMemory;
@@ -166,6 +166,16 @@ impl Set {
         ensures { IfSome result (λ bits. (x : ℕ) → IsTrue (is_in self.now x) → bit_and x mask ≡ bits) }
     {
         lists::bits_under(&self.pieces, mask)
+    }
+
+    /// Ranges that hold all elements, each from one element to another: between these the elements are those numbers
+    /// that have the bits of both under a mask.
+    pub fn spans(&self, alloc: Global) -> Result<Vec<(u32, u32)>, OutOfMemory>
+        ensures covered { IfOk result (λ spans. (x : ℕ) → IsTrue (is_in self.now x) → IsTrue (is_within spans.items x)) }
+        ensures parts { IfOk result (λ spans. All (IsPart (is_in self.now)) spans.items) }
+    {
+        let spans = lists::spans(alloc, &self.pieces)?;
+        Ok(spans)
     }
 
     /// A page of 4,096 numbers from the given one on, so that each page before it, from the given one on, has an

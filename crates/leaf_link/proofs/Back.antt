@@ -116,7 +116,7 @@ address_small true a imm v e = subst (λ (n : ℕ). n < 2 ^ 32) (sym e) (omega a
 address_small false a imm v e = subst (λ (n : ℕ). n < 2 ^ 32) (sym e) (omega arith)
 
 -- THE WORD THAT IS READ
-good_reads : (t : Turn) (walk : List Entry) (pa : ℕ) (leaf : List Atom) (x : Values) → IsFetched t walk pa → Good t leaf x → decoded (value_or (code_at t pa) (word_of (instr_in x))) ≡ Some (instr_in x)
+pub good_reads : (t : Turn) (walk : List Entry) (pa : ℕ) (leaf : List Atom) (x : Values) → IsFetched t walk pa → Good t leaf x → decoded (value_or (code_at t pa) (word_of (instr_in x))) ≡ Some (instr_in x)
 unfolding fetched_at
 good_reads t walk pa leaf x f g =
     let tell : Teller = by_answers t.known (given_by x) in

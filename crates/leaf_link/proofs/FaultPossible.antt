@@ -1,11 +1,10 @@
 -- The witnesses whose data access meets a page fault have candidates.
-use Rattle.std.proofs.Common.{◌≡◌, ℕ, ◌+◌, ◌/◌, ◌%◌, ◌^◌, ◌<◌, ◌&&◌, ◌||◌, Bool, true, false, eqb, not, if◌then◌else◌, List, [], ◌∷◌, Option, Some, None, refl, sym, ap, ◌∙◌, subst, inl, inr, arith}
+use Rattle.std.proofs.Common.{◌≡◌, ℕ, ◌/◌, ◌%◌, ◌^◌, ◌<◌, ◌&&◌, Bool, true, false, eqb, not, if◌then◌else◌, List, Option, Some, None, refl, sym, ap, ◌∙◌, subst, inl, inr, arith}
 use Rattle.std.proofs.lemmas.Bool.{and_from, and_parts, eq-eqb, eqb-true}
 use Rattle.rv_isa.specs.declared.instruction.Instr.{Instr}
 use Rattle.rv_isa.specs.declared.operation.Op.TheVariants.{Lw, Sw}
 use Rattle.rv_isa.specs.Numbers.{op_numbered, op_number}
 use Rattle.rv_isa.specs.Reading.{decoded}
-use Rattle.rv_script.specs.Bytes.{word_address}
 use Rattle.rv_script.specs.Lists.{HasItem}
 use Rattle.rv_script.specs.declared.place.Place.TheVariants.{Word}
 use Rattle.rv_script.specs.Script.{Label, Label.DataRoot, Label.DataSecond, place_of, told as told_of}
@@ -19,7 +18,7 @@ use Rattle.addr_rows.specs.Walks.{EntryRow, end_at, entry_answers}
 use Rattle.rv_hart.specs.Machine.{at_address, fetched_at, instruction, load_at, load_row, script, store_at, store_row}
 use Rattle.rv_hart.specs.Privileged.{trap}
 use Rattle.fd_prob.specs.declared.slot.Slot.TheVariants as slots
-use Rattle.leaf_link.specs.Turns.{in_frames, is_second_form, may_start}
+use Rattle.leaf_link.specs.Turns.{is_second_form, may_start}
 use Rattle.leaf_link.specs.Values.{Values, new_places}
 use Rattle.leaf_link.specs.KindLaws.{IsPosed}
 use Rattle.leaf_link.specs.Reaching.{AreRows, Walks}

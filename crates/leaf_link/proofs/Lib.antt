@@ -46,3 +46,4 @@ mod BiasPossible
 mod Finding
 mod Existing
 mod FetchPossible
+mod Placing

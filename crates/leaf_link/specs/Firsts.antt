@@ -7,7 +7,7 @@ use Rattle.rv_isa.specs.declared.operation.Op.TheVariants.{Mret, Sret}
 use Rattle.rv_isa.specs.declared.operation.TheConstants.{OPS}
 use Rattle.rv_isa.specs.declared.table.Row.{Row}
 use Rattle.rv_isa.specs.declared.table.Row.TheVariants.{U, J, R, I, Shift, S, B, Csr as CsrRow, CsrImmediate, FenceSets, AddressFence, Fixed as Whole, DefinedIllegal}
-use Rattle.rv_isa.specs.Fields.{has_csr, has_imm, has_rs1, has_rs2, reads_rs1, reads_rs2}
+use Rattle.rv_isa.specs.Fields.{has_csr, has_rs1, has_rs2, reads_rs1, reads_rs2}
 use Rattle.rv_isa.specs.Reading.{decoded}
 use Rattle.rv_isa.specs.Table.{row_of}
 use Rattle.rv_csr.specs.Table.{address_of, registers}

@@ -29,3 +29,4 @@ pub mod Agreements
 pub mod Bounds
 pub mod BiasWitness
 pub mod FetchWitness
+pub mod Placing

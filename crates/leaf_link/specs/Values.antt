@@ -2,7 +2,6 @@
 use Rattle.std.specs.Prelude.{ℕ, ◌+◌, ◌%◌, ◌^◌, Bool, true, false, ◌||◌, if◌then◌else◌, List, Option, Some, None}
 use Rattle.std.specs.Option.{unwrap_or}
 use Rattle.rv_isa.specs.declared.instruction.Instr.{Instr}
-use Rattle.rv_isa.specs.declared.operation.Op.{Op}
 use Rattle.rv_isa.specs.declared.table.Row.{Row}
 use Rattle.rv_isa.specs.declared.table.Row.TheVariants.{Csr as CsrRow, CsrImmediate, R, I, Shift, S, B, U, J, FenceSets, AddressFence, Fixed as Whole, DefinedIllegal}
 use Rattle.rv_isa.specs.Encoding.{word_of}

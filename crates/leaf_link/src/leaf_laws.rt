@@ -3,6 +3,7 @@ ghost use Rattle.leaf_link.specs.Agreements.{LeafAnswersAgree, LeafAnswersExist,
 ghost use Rattle.leaf_link.specs.AllWays.{LeafAnswersAreExact, LeafProblemsAreExact};
 ghost use Rattle.leaf_link.specs.Bounds.{SpaceIsBounded};
 ghost use Rattle.leaf_link.specs.Domains.{CandidatesAreInDomains, CandidatesAreWords, OldDomainsAreLet, OldValuesAreInDomains};
+ghost use Rattle.leaf_link.specs.Placing.{StepsStayOrTrap, ValuesAreByPlaces, ValuesAreInstructions};
 ghost use Rattle.leaf_link.specs.Firsts.{FirstsExist, FirstsHoldNothing, PivotsAreExact, SpaceIsExact, TurnAnswersAreExact};
 ghost use Rattle.leaf_link.specs.Problems.{AnswersAreExact, ProblemIsExact};
 ghost use Rattle.leaf_link.specs.Started.{OrderIsKept};
@@ -68,4 +69,13 @@ pub fn candidates_are_in_domains()
     ensures words { CandidatesAreWords }
     ensures old_values { OldValuesAreInDomains }
     ensures old_domains { OldDomainsAreLet }
+{}
+
+/// Does nothing. Its contract says of an instruction that is no load, store, CSR instruction or return from a trap that
+/// the place alone tells which of the candidate's values a new place has, and that its step goes on or traps; and of
+/// each candidate that its values are those of its instruction.
+pub fn values_are_by_places()
+    ensures places { ValuesAreByPlaces }
+    ensures instructions { ValuesAreInstructions }
+    ensures control { StepsStayOrTrap }
 {}

@@ -20,6 +20,7 @@ pub use fetch_laws::{
 pub use leaf_laws::{
     candidates_are_in_domains, firsts_exist, leaf_problems_are_exact, order_is_kept,
     problems_are_exact, spaces_are_exact, turn_answers_are_exact, turns_have_one_answer,
+    values_are_by_places,
 };
 pub use operation_laws::{
     accesses_are_exact, operations_are_exact, ways_are_built, ways_are_exact,

@@ -148,7 +148,7 @@ has_at [] n d lt = absurd (omega (arith, lt))
 has_at (x ∷ xs) zero d lt = inl refl
 has_at (x ∷ xs) (suc n) d lt = inr (has_at xs n d (omega (arith, lt)))
 
-every_op : (op : Op) → HasItem OPS op
+pub every_op : (op : Op) → HasItem OPS op
 unfolding op_numbered
 every_op op = subst (λ (o : Op). HasItem OPS o) (read op) (has_at OPS (op_number op) ops.Illegal (small op))
 

@@ -28,7 +28,7 @@ value_named (Some name) = name.value
 
 abbrev pub set_named : Option Name → List ℕ
 set_named None = []
-set_named (Some name) = name.set
+set_named (Some name) = name.set.now
 
 -- what is known of a register
 abbrev pub held : Option (Option ℕ) → Option ℕ

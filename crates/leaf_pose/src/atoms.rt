@@ -54,7 +54,7 @@ impl Stand<'_> {
         ensures { IfOk result (IsSetOf (λ v. is_in set v && is_in ((turn_of self.now).sets name) v)) }
     {
         match self.names.get(name as usize) {
-            Some(name) => meet(alloc, &set, &name.set),
+            Some(name) => meet(alloc, &set, name.set),
             None => Ok(Set::new(alloc)),
         }
     }

@@ -1,7 +1,8 @@
 // Operations by how their steps go on after the sources.
 
-ghost use Rattle.std.specs.Prelude.{◌≡◌};
+ghost use Rattle.std.specs.Prelude.{◌≡◌, not};
 ghost use Rattle.leaf_pose.specs.Kinds.{kind_of};
+ghost use Rattle.leaf_pose.specs.Posed.{is_other};
 
 use rv_isa::Op;
 
@@ -19,7 +20,7 @@ pub enum Kind {
     Call,
     /// EBREAK.
     Break,
-    /// A word that is no instruction.
+    /// ILLEGAL: the words 0 and 2^32 - 1, which raise an illegal instruction.
     Illegal,
     /// SFENCE.VMA.
     AddressFence,
@@ -43,5 +44,22 @@ pub fn kind_of(op: Op) -> Kind
         Op::SfenceVma => Kind::AddressFence,
         Op::Illegal => Kind::Illegal,
         _ => Kind::Plain,
+    }
+}
+
+/// Whether leaves with the operation are posed.
+pub fn is_posed(op: Op) -> bool
+    ensures { result ≡ not (is_other (kind_of op)) }
+{
+    match kind_of(op) {
+        Kind::Other => false,
+        Kind::Plain
+        | Kind::Branch
+        | Kind::Jump
+        | Kind::JumpRegister
+        | Kind::Call
+        | Kind::Break
+        | Kind::Illegal
+        | Kind::AddressFence => true,
     }
 }

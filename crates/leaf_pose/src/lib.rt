@@ -23,6 +23,7 @@ pub use atoms::are_between;
 pub use dom_set::OutOfMemory;
 pub use extras::extra_of;
 pub use fetches::{fault_problem, fetch_problem};
+pub use kind::is_posed;
 pub use laws::leaves_are_between;
 pub use problem::{Posed, problem_of};
 pub use shape::{End, Shape};

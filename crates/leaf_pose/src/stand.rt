@@ -5,9 +5,9 @@ use rv_csr::{Csrs, Priv};
 
 /// A name of the template: its value, where it is bound, and its set.
 #[derive(Drop)]
-pub struct Name {
+pub struct Name<'t> {
     pub value: Option<u32>,
-    pub set: Set,
+    pub set: &'t Set,
 }
 
 /// Where a hart stands, and what a template lets its next step start.
@@ -27,5 +27,5 @@ pub struct Stand<'t> {
     /// The addresses that vectors may be started with.
     pub vectors: &'t Set,
     /// The names, by their places in the template.
-    pub names: &'t [Name],
+    pub names: &'t [Name<'t>],
 }

@@ -109,23 +109,38 @@ pub fn vectors(rt: &impl Abort, alloc: Global, known: &str) -> Result<Set, OutOf
     Ok(set)
 }
 
-/// The names of a row: `name=80000000` for one with this value, and `open=5` for one that is not bound, with the set of
-/// this value alone.
-pub fn names(rt: &impl Abort, alloc: Global, known: &str) -> Result<Vec<Name>, OutOfMemory> {
+/// The sets of a row's names: that of the value alone, for `name=80000000` and for `open=5`.
+pub fn name_sets(rt: &impl Abort, alloc: Global, known: &str) -> Result<Vec<Set>, OutOfMemory> {
+    let mut sets = Vec::new(alloc);
+    for word in known.split_whitespace() {
+        if let Some(value) = word.strip_prefix("name=") {
+            sets.push(one(alloc, number(rt, value))?)?;
+        }
+        if let Some(value) = word.strip_prefix("open=") {
+            sets.push(one(alloc, number(rt, value))?)?;
+        }
+    }
+    Ok(sets)
+}
+
+/// The names of a row with their sets: `name=80000000` for one with this value, and `open=5` for one that is not bound.
+pub fn names<'t>(
+    rt: &impl Abort,
+    alloc: Global,
+    known: &str,
+    sets: &'t [Set],
+) -> Result<Vec<Name<'t>>, OutOfMemory> {
     let mut list = Vec::new(alloc);
     for word in known.split_whitespace() {
+        let place = list.len();
         if let Some(bound) = word.strip_prefix("name=") {
-            let value = number(rt, bound);
-            list.push(Name {
-                value: Some(value),
-                set: one(alloc, value)?,
-            })?;
+            let value = Some(number(rt, bound));
+            let set = sets.get(place).expect(rt, bound);
+            list.push(Name { value, set })?;
         }
         if let Some(open) = word.strip_prefix("open=") {
-            list.push(Name {
-                value: None,
-                set: one(alloc, number(rt, open))?,
-            })?;
+            let set = sets.get(place).expect(rt, open);
+            list.push(Name { value: None, set })?;
         }
     }
     Ok(list)

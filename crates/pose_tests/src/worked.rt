@@ -1,7 +1,7 @@
 // Worked leaves, posed and solved.
 ghost use Rattle.std.specs.Prelude.{◌≡◌, All, IfOk, length};
 
-use crate::reading::{atoms, count, names, number, vectors};
+use crate::reading::{atoms, count, name_sets, names, number, vectors};
 use dom_set::Set;
 use fd_prob::{Assignment, Extra, space};
 use fd_solve::{LeafAnswer, Solved, solve_leaf};
@@ -222,7 +222,8 @@ fn is_right(rt: &impl Abort, alloc: Global, line: &str) -> Result<bool, Fail> {
     let hart = row.part(rt);
     let known = row.part(rt);
     let vectors = vectors(rt, alloc, known)?;
-    let names = names(rt, alloc, known)?;
+    let sets = name_sets(rt, alloc, known)?;
+    let names = names(rt, alloc, known, &sets)?;
     let stand = stand_of(rt, hart, known, &vectors, &names);
     let answer = answer(rt, alloc, &stand, &mut row)?;
     let right = is_solved(rt, answer.solved, row.part(rt));

@@ -110,7 +110,7 @@ pub good : (c : Cert) (s : System) → IsSound c → AgreesWith c s → Good (se
 good c s v a = record { race_free = v.race_free; origin = λ n some. has_filled s.memory (word_of c) a.words n some }
 
 -- start words are words at aligned addresses
-start_word : (ram : List Region) (from : ℕ) (ws : List (ℕ × ℕ)) → AreStartWords ram from ws → (a v : ℕ) → found ws a ≡ Some v → (a % 4 ≡ 0) × (v < 2 ^ 32)
+pub start_word : (ram : List Region) (from : ℕ) (ws : List (ℕ × ℕ)) → AreStartWords ram from ws → (a v : ℕ) → found ws a ≡ Some v → (a % 4 ≡ 0) × (v < 2 ^ 32)
 start_word ram from [] is a v e = absurd cc
 start_word ram from (w ∷ ws) is a v e = elim (cases_Bool (eqb w.0 a)) [
   | inl here ↦

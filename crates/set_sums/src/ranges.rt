@@ -8,7 +8,7 @@ use dom_set::{OutOfMemory, Set, set_laws};
 use std::alloc::Global;
 
 /// How many words there are.
-const WORDS: u64 = 1 << 32;
+pub const WORDS: u64 = 1 << 32;
 
 /// The first word of the upper half.
 pub const HALF: u32 = 1 << 31;
@@ -73,6 +73,9 @@ fn push_ends(ranges: &mut Vec<Span>, set: &Set) -> Result<(), OutOfMemory>
 /// How many elements a set may have so that each is a range of its own.
 const FEW: u64 = 32;
 
+/// How many pairs of ranges of two sets are looked at, at most.
+const MANY: usize = 8192;
+
 /// Each element is a range.
 fn elements(alloc: Global, set: &Set) -> Result<Vec<Span>, OutOfMemory>
     ensures { IfOk result (λ parts. AreCovered set.now parts.items) }
@@ -97,16 +100,43 @@ fn halves(alloc: Global, set: &Set) -> Result<Vec<Span>, OutOfMemory>
     Ok(parts)
 }
 
-/// Ranges around the elements: one for each where they are few and that is wanted, and else two at most.
-fn parts(alloc: Global, set: &Set, fine: bool) -> Result<Vec<Span>, OutOfMemory>
+/// Ranges around the elements: one for each where they are few, and else the spans of the set, or two at most where
+/// these are too many.
+fn parts(alloc: Global, set: &Set) -> Result<Vec<Span>, OutOfMemory>
     ensures { IfOk result (λ parts. AreCovered set.now parts.items) }
 {
-    if fine && set.size() <= FEW {
+    if set.size() <= FEW {
         let parts = elements(alloc, set)?;
+        return Ok(parts);
+    }
+    let parts = set.spans(alloc)?;
+    if parts.len() <= MANY / 2 {
         return Ok(parts);
     }
     let parts = halves(alloc, set)?;
     Ok(parts)
+}
+
+/// Ranges around the elements of both sets. Where there would be too many pairs of them, the set that has fewer is
+/// given two at most.
+fn both_parts(
+    alloc: Global,
+    first: &Set,
+    second: &Set,
+) -> Result<(Vec<Span>, Vec<Span>), OutOfMemory>
+    ensures { IfOk result (λ both. AreCovered first.now both.0.items × AreCovered second.now both.1.items) }
+{
+    let firsts = parts(alloc, first)?;
+    let seconds = parts(alloc, second)?;
+    if firsts.len().saturating_mul(seconds.len()) <= MANY {
+        return Ok((firsts, seconds));
+    }
+    if firsts.len() < seconds.len() {
+        let firsts = halves(alloc, first)?;
+        return Ok((firsts, seconds));
+    }
+    let seconds = halves(alloc, second)?;
+    Ok((firsts, seconds))
 }
 
 /// Adds the numbers from the lowest to the highest, modulo 2^32.
@@ -171,13 +201,11 @@ fn negated(alloc: Global, ranges: &[Span]) -> Result<Vec<Span>, OutOfMemory>
     Ok(negated)
 }
 
-/// The sums of elements of two sets, by their ranges, which are finer in the smaller one.
+/// The sums of elements of two sets, by their ranges.
 fn sums_around(alloc: Global, first: &Set, second: &Set) -> Result<Set, OutOfMemory>
     ensures { IfOk result (HasSums first.now second.now) }
 {
-    let fine = first.size() <= second.size();
-    let firsts = parts(alloc, first, fine)?;
-    let others = parts(alloc, second, !fine)?;
+    let (firsts, others) = both_parts(alloc, first, second)?;
     let ranges = range_sums(alloc, &firsts, &others)?;
     let sums = words_of(alloc, &ranges)?;
     Ok(sums)
@@ -204,15 +232,12 @@ pub fn sums(alloc: Global, first: &Set, second: &Set) -> Result<Set, OutOfMemory
     Ok(sums)
 }
 
-/// The words that give an element of the first set when one of the second is added, by their ranges, which are
-/// finer in the smaller set.
+/// The words that give an element of the first set when one of the second is added, by their ranges.
 fn differences_around(alloc: Global, first: &Set, second: &Set) -> Result<Set, OutOfMemory>
     requires { All (λ w. w < 2 ^ 32) second.now }
     ensures { IfOk result (HasDifferences first.now second.now) }
 {
-    let fine = first.size() <= second.size();
-    let firsts = parts(alloc, first, fine)?;
-    let seconds = parts(alloc, second, !fine)?;
+    let (firsts, seconds) = both_parts(alloc, first, second)?;
     let others = negated(alloc, &seconds)?;
     let ranges = range_sums(alloc, &firsts, &others)?;
     let differences = words_of(alloc, &ranges)?;
@@ -267,7 +292,7 @@ fn halved_ranges(alloc: Global, ranges: &[Span]) -> Result<Vec<Span>, OutOfMemor
 pub fn halved(alloc: Global, set: &Set) -> Result<Set, OutOfMemory>
     ensures { IfOk result (HasHalves set.now) }
 {
-    let ranges = parts(alloc, set, true)?;
+    let ranges = parts(alloc, set)?;
     let halved = halved_ranges(alloc, &ranges)?;
     let words = words_of(alloc, &halved)?;
     Ok(words)

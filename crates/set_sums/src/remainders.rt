@@ -4,7 +4,7 @@ ghost use Rattle.dom_set.specs.Elements.{is_in, is_matching};
 ghost use Rattle.set_sums.specs.Spans.{HasDifferences};
 ghost use Rattle.set_sums.specs.Remainders.{AreClasses, AreClassesOf, AreSameClasses, HasClassSums, HasRemainders, HasRemaindersBelow, IsStepMask};
 
-use crate::ranges::meet;
+use crate::ranges::{WORDS, meet};
 use dom_set::{OutOfMemory, Set, set_laws};
 use std::alloc::Global;
 
@@ -107,6 +107,11 @@ pub fn class_sums(alloc: Global, first: &Set, second: &Set, times: u32) -> Resul
     let others = remainders(alloc, second)?;
     let classes = classes_of(alloc, &firsts, &others, times)?;
     let set = Set::from_patterns(alloc, &classes)?;
+    // All four classes are all words, which are one range.
+    if set.size() == WORDS {
+        let words = Set::all(alloc)?;
+        return Ok(words);
+    }
     Ok(set)
 }
 

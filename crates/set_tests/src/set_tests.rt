@@ -398,6 +398,16 @@ fn bits_that_all_elements_have_are_told(rt: HostRuntime) {
     assert_eq!(rt; Set::new(alloc).bits_under(0xf), None);
 }
 
+#[test]
+fn spans_go_from_one_element_to_another(rt: HostRuntime) {
+    let alloc = rt.alloc();
+    let set = set_of(&rt, alloc, 4, &pairs_of(&rt, alloc, "5:9 14:1b"));
+    let spans = set.spans(alloc).expect(&rt, "memory");
+    assert!(rt; spans.as_slice() == [(8, 8), (0x14, 0x18)].as_slice());
+    let none = Set::new(alloc).spans(alloc).expect(&rt, "memory");
+    assert!(rt; none.is_empty());
+}
+
 fn assert_place(rt: &impl Abort, alloc: Global, all: &Set, x: u32) {
     let place = u64::from(x);
     assert!(rt; place < all.size());

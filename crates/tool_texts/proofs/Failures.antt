@@ -1,47 +1,19 @@
 -- A certificate has the same first failure with another template that says the same.
-use Rattle.std.proofs.Common.{◌≡◌, ℕ, ◌+◌, ◌++◌, inl, inr, if◌then◌else◌, List, [], ◌∷◌, map, drop, Option, Some, None, refl, sym, ap, ◌∙◌, subst}
-use Rattle.tpl_ast.specs.declared.template.HartDecl.{HartDecl}
-use Rattle.tpl_ast.specs.declared.template.HartState.{HartState}
+use Rattle.std.proofs.Common.{◌≡◌, ℕ, inl, inr, if◌then◌else◌, List, Some, None, sym, ap, subst}
 use Rattle.tpl_ast.specs.declared.template.Region.{Region}
 use Rattle.tpl_ast.specs.declared.template.Template.{Template}
-use Rattle.tpl_ast.specs.Expansion.{Layout, layout_of}
 use Rattle.tpl_ast.specs.Laws.{LinesTellLayouts}
-use Rattle.tpl_ast.specs.Parsing.{HartLines, Said, hart_lines, said_by}
+use Rattle.tpl_ast.specs.Parsing.{Said, said_by}
 use Rattle.tpl_admit.specs.declared.admission.Unmet.{Unmet}
 use Rattle.tpl_admit.specs.declared.certificate.Cert.{Cert}
 use Rattle.tpl_admit.specs.Admission.{trace_in}
-use Rattle.tpl_admit.specs.Admitting.{failures_from, failures_of, hart_failures, of_hart}
+use Rattle.tpl_admit.specs.Admitting.{failures_of}
 use Rattle.tpl_admit.specs.Failures.{AllAreRight, AllEndAsTold, EndsAsTold, HartGoesWrong, HartIsRight, IsFirstFailure}
 use Rattle.tpl_admit.specs.Laws.{with_template}
 use Rattle.tpl_admit.specs.Solo.{solo_run, knows_after}
 use Rattle.tpl_admit.specs.Starts.{final_of, fixed_in, found, is_given, start_of}
 use Rattle.tpl_admit.specs.Unmet.{IsLeast}
-
--- ---- what the template admits
-
-same_first : (h h' : HartDecl) (hs hs' : List HartDecl) → map hart_lines (h ∷ hs) ≡ map hart_lines (h' ∷ hs') → hart_lines h ≡ hart_lines h'
-same_first h h' hs hs' same = ap (first_or (hart_lines h)) same where
-  first_or : HartLines → List HartLines → HartLines
-  first_or d [] = d
-  first_or d (x ∷ xs) = x
-
-same_rest : (h h' : HartDecl) (hs hs' : List HartDecl) → map hart_lines (h ∷ hs) ≡ map hart_lines (h' ∷ hs') → map hart_lines hs ≡ map hart_lines hs'
-same_rest h h' hs hs' same = ap (drop 1) same
-
-failures_same : LinesTellLayouts → (c : Cert) (t u : Template) → t.words ≡ u.words → (k : ℕ) (hs hs' : List HartDecl) → map hart_lines hs ≡ map hart_lines hs' → (o : Option (List ℕ))
-    → failures_from (trace_in (with_template c t)) k hs o ≡ failures_from (trace_in (with_template c u)) k hs' o
-failures_same tell c t u words k hs hs' same None = refl
-failures_same tell c t u words k [] [] same (Some choices) = refl
-failures_same tell c t u words k (h ∷ hs) (h' ∷ hs') same (Some choices) =
-    let first : hart_lines h ≡ hart_lines h' = same_first h h' hs hs' same in
-    let start : h.start ≡ h'.start = ap (λ (l : HartLines). l.start) first in
-    let laid : layout_of h.body.items ≡ layout_of h'.body.items = tell h.body.items h'.body.items (ap (λ (l : HartLines). l.body) first) in
-    ap (λ (x : Layout). map (of_hart k) (hart_failures (trace_in (with_template c t)) k h (x choices).pieces) ++ failures_from (trace_in (with_template c t)) (k + 1) hs (x choices).left) laid
-    ∙ ap (λ (s : HartState). map (of_hart k) (hart_failures (trace_in (with_template c t)) k (record { start = s; body = h.body }) (layout_of h'.body.items choices).pieces) ++ failures_from (trace_in (with_template c t)) (k + 1) hs (layout_of h'.body.items choices).left) start
-    ∙ ap (λ (ws : List (ℕ × ℕ)). map (of_hart k) (hart_failures (record (trace_in (with_template c t)) { template = record t { words = ws } }) k (record { start = h'.start; body = h.body }) (layout_of h'.body.items choices).pieces) ++ failures_from (trace_in (with_template c t)) (k + 1) hs (layout_of h'.body.items choices).left) words
-    ∙ ap (λ (fs : List Unmet). map (of_hart k) (hart_failures (trace_in (with_template c u)) k h' (layout_of h'.body.items choices).pieces) ++ fs) (failures_same tell c t u words (k + 1) hs hs' (same_rest h h' hs hs' same) (layout_of h'.body.items choices).left)
-failures_same tell c t u words k [] (h' ∷ hs') same (Some choices) = absurd (cc same)
-failures_same tell c t u words k (h ∷ hs) [] same (Some choices) = absurd (cc same)
+use Rattle.tpl_admit.proofs.Said.{failures_same}
 
 -- ---- the machine
 

@@ -1,4 +1,3 @@
-pub mod Forms
 pub mod Failures
 pub mod Told
 pub mod Tests

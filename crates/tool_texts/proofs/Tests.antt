@@ -6,13 +6,13 @@ use Rattle.tpl_ast.specs.Laws.{LongTextsAreRefused, TemplatesKeepLimits}
 use Rattle.tpl_ast.specs.Parsing.{Parses, Said, parses, said_by}
 use Rattle.tpl_form.specs.declared.form.Form.{Form}
 use Rattle.tpl_form.specs.Form.{IsFormOf}
+use Rattle.tpl_form.proofs.Unique.{one_form}
 use Rattle.tpl_admit.specs.declared.certificate.Cert.{Cert}
 use Rattle.elf_image.specs.File.{file_bytes}
 use Rattle.gen_engine.specs.Plan.{planned}
 use Rattle.trace_text.specs.Faults.{fault_text}
 use Rattle.trace_text.specs.Report.{report_text}
 use Rattle.tool_texts.specs.Tests.{IsBuilt, IsTemplateLine, IsTest}
-use Rattle.tool_texts.proofs.Forms.{one_form}
 use Rattle.tool_texts.proofs.Told.{file_same, report_same}
 
 same_ok : (x y : Said) → ◌≡◌ {A = Result Said Fault} (Ok x) (Ok y) → x ≡ y

@@ -4,5 +4,5 @@ pub mod Layouts
 mod Limits
 pub mod Memory
 mod Order
-mod Said
+pub mod Said
 pub mod Systems

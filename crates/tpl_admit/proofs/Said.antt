@@ -29,7 +29,8 @@ same_first h h' hs hs' same = ap (first_or (hart_lines h)) same where
 same_rest : (h h' : HartDecl) (hs hs' : List HartDecl) → map hart_lines (h ∷ hs) ≡ map hart_lines (h' ∷ hs') → map hart_lines hs ≡ map hart_lines hs'
 same_rest h h' hs hs' same = ap (drop 1) same
 
-failures_same : LinesTellLayouts → (c : Cert) (t u : Template) → t.words ≡ u.words → (k : ℕ) (hs hs' : List HartDecl) → map hart_lines hs ≡ map hart_lines hs' → (o : Option (List ℕ))
+-- what says the same fails alike
+pub failures_same : LinesTellLayouts → (c : Cert) (t u : Template) → t.words ≡ u.words → (k : ℕ) (hs hs' : List HartDecl) → map hart_lines hs ≡ map hart_lines hs' → (o : Option (List ℕ))
     → failures_from (trace_in (with_template c t)) k hs o ≡ failures_from (trace_in (with_template c u)) k hs' o
 failures_same tell c t u words k hs hs' same None = refl
 failures_same tell c t u words k [] [] same (Some choices) = refl

@@ -16,4 +16,5 @@ pub use certificate::Cert;
 pub use dropped::{Dropped, Why};
 pub use judging::Trace;
 pub use laws::said_law;
+pub use moment::Moment;
 pub use tpl_ast::HartState;

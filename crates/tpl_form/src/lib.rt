@@ -5,6 +5,8 @@
 mod allowed;
 mod form;
 mod forming;
+mod laws;
 
 pub use form::{Form, Leaf};
 pub use forming::form_of;
+pub use laws::form_law;

@@ -1,2 +1,5 @@
 pub mod Places
 pub mod Steps
+pub mod Lacking
+pub mod CsrQuestions
+pub mod Ahead

@@ -137,7 +137,7 @@ no_clash t leaf i log change feet did k number foot footprint meets clash is = e
 
 -- ---- registers that a place can be
 
-register_known : (k n v : ℕ) (w : Whole) → IsFit (hart_of k w) → known_at k w (Reg n) ≡ Some v → n < 32
+pub register_known : (k n v : ℕ) (w : Whole) → IsFit (hart_of k w) → known_at k w (Reg n) ≡ Some v → n < 32
 register_known k n v w fit known = elim (cases_lt n 32) [
   | inl small ↦ small
   | inr past ↦

@@ -1,0 +1,100 @@
+-- What is found for a leaf is of an instruction that asks for little.
+use Rattle.std.proofs.Common.{◌≡◌, ℕ, Bool, true, false, not, ◌||◌, ◌++◌, List, [], ◌∷◌, Option, Some, None, refl, sym, ◌∙◌, subst, inl, inr}
+use Rattle.std.specs.List.{list_all}
+use Rattle.std.proofs.lemmas.Bool.{and_from, and_parts}
+use Rattle.rv_isa.specs.declared.instruction.Instr.{Instr}
+use Rattle.rv_isa.specs.declared.operation.Op.{Op}
+use Rattle.rv_isa.specs.declared.operation.Op.TheVariants as ops
+use Rattle.rv_isa.specs.declared.operation.TheConstants.{OPS}
+use Rattle.rv_isa.specs.Numbers.{op_number}
+use Rattle.rv_isa.specs.Reading.{decoded}
+use Rattle.rv_isa.specs.Table.{row_of}
+use Rattle.rv_script.specs.Lists.{HasItem}
+use Rattle.sv_walk.specs.declared.entry.Kind.TheVariants.{Load as ForLoad, Store as ForStore}
+use Rattle.fd_prob.specs.declared.slot.Slot.TheVariants as slots
+use Rattle.tpl_ast.specs.declared.template.Atom.{Atom}
+use Rattle.tpl_ast.specs.declared.template.Var.TheVariants as vars
+use Rattle.leaf_link.specs.Turns.{Turn}
+use Rattle.leaf_link.specs.Cases.{all_tests, code_at, in_read}
+use Rattle.leaf_link.specs.Domains.{CandidatesAreInDomains}
+use Rattle.leaf_link.specs.Firsts.{in_first_word}
+use Rattle.leaf_link.specs.Placing.{asks_little}
+use Rattle.leaf_pose.specs.Kinds.{kind_of}
+use Rattle.leaf_pose.specs.Posed.{allows, is_other, is_posable, is_read_as, reads_as}
+use Rattle.leaf_pose.specs.Stands.{turn_of}
+use Rattle.leaf_pose.proofs.Turning.{all_same}
+use Rattle.leaf_pose.proofs.Whole.{every_op}
+use Rattle.turn_laws.specs.Given.{turn_at}
+use Rattle.leaf_turn.specs.Finding.{AnswersAreFound}
+use Rattle.leaf_turn.specs.Untranslated.{rows_without}
+use Rattle.leaf_turn.proofs.Untranslated.{rows_are_there}
+
+-- an operation that is posed asks for little
+posed_little : (op : Op) → is_other (kind_of op) ≡ false → asks_little (row_of op) ≡ true
+posed_little ops.Lb h = absurd (cc)
+posed_little ops.Lh h = absurd (cc)
+posed_little ops.Lw h = absurd (cc)
+posed_little ops.Lbu h = absurd (cc)
+posed_little ops.Lhu h = absurd (cc)
+posed_little ops.Sb h = absurd (cc)
+posed_little ops.Sh h = absurd (cc)
+posed_little ops.Sw h = absurd (cc)
+posed_little ops.Csrrw h = absurd (cc)
+posed_little ops.Csrrs h = absurd (cc)
+posed_little ops.Csrrc h = absurd (cc)
+posed_little ops.Csrrwi h = absurd (cc)
+posed_little ops.Csrrsi h = absurd (cc)
+posed_little ops.Csrrci h = absurd (cc)
+posed_little ops.Mret h = absurd (cc)
+posed_little ops.Sret h = absurd (cc)
+posed_little _ h = refl
+
+read_as : (o : Option Instr) (op : Op) → in_read o slots.Op (op_number op) ≡ true → is_read_as o op ≡ true
+read_as None op h = absurd (cc h)
+read_as (Some i) op h = h
+
+first_read : (o : Option ℕ) (op : Op) → in_first_word o op slots.Op (op_number op) ≡ true → reads_as o op ≡ true
+first_read None op h = refl
+first_read (Some w) op h = read_as (decoded w) op h
+
+fewer_tests : (t : Turn) (leaf kept : List Atom) (v : ℕ) → all_tests t (leaf ++ kept) vars.Op v ≡ true → all_tests t leaf vars.Op v ≡ true
+fewer_tests t [] kept v h = refl
+fewer_tests t (atom ∷ leaf) kept v h = let p = and_parts _ _ h in and_from _ _ p.0 (fewer_tests t leaf kept v p.1)
+
+every : (test : Op → Bool) (xs : List Op) → list_all test xs ≡ true → (op : Op) → HasItem xs op → test op ≡ true
+every test [] h op i = absurd i
+every test (x ∷ xs) h op i =
+    let p = and_parts (test x) (list_all test xs) h in
+    elim i [ inl same ↦ subst (λ (o : Op). test o ≡ true) same p.0 | inr later ↦ every test xs p.1 op later ]
+
+not_other : (other allowed : Bool) → (not other || not allowed) ≡ true → allowed ≡ true → other ≡ false
+not_other false allowed h k = refl
+not_other true true h k = absurd (cc)
+not_other true false h k = absurd (cc)
+
+pub answers_are_found : CandidatesAreInDomains → AnswersAreFound
+answers_are_found domains st k w s feet leaf kept draws nodes x vectors footprint plain stands posable posed answer =
+    let turn : Turn = turn_at s feet k w in
+    let least = answer.1 in
+    let c = least.is in
+    let op : Op = c.instr.op in
+    let dom = domains turn [] st.pc (leaf ++ kept) (λ ea. true) (rows_without turn ForLoad) (rows_without turn ForStore) posed (λ ea less test. refl)
+    (rows_are_there turn ForLoad plain) (rows_are_there turn ForStore plain) _ c slots.Op refl in
+    let p = and_parts (in_first_word (code_at turn st.pc) op slots.Op (op_number op)) (all_tests turn (leaf ++ kept) vars.Op (op_number op)) dom in
+    let reads : reads_as st.word op ≡ true = first_read st.word op (subst (λ (o : Option ℕ). in_first_word o op slots.Op (op_number op) ≡ true) stands.word p.0) in
+    let tests : all_tests (turn_of st) leaf vars.Op (op_number op) ≡ true = sym (all_same st turn [] st.pc stands leaf vars.Op (op_number op) refl) ∙ fewer_tests turn leaf kept (op_number op) p.1 in
+    let allowed : allows st leaf op ≡ true = and_from _ _ reads tests in
+    let other : is_other (kind_of op) ≡ false = not_other (is_other (kind_of op)) (allows st leaf op) (every (is_posable st leaf) OPS posable op (every_op op)) allowed in
+    record {
+      setting = s;
+      feet = feet;
+      leaf = leaf ++ kept;
+      walk = [];
+      pa = st.pc;
+      vectors = vectors;
+      footprint = footprint;
+      fetched = posed.fetched;
+      candidate = c;
+      values = least.are_values;
+      little = posed_little op other;
+    }

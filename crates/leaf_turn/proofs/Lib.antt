@@ -1,0 +1,13 @@
+pub mod Untranslated
+pub mod Freedom
+pub mod Giving
+pub mod Keeping
+pub mod Grounding
+pub mod Operations
+pub mod Retiring
+pub mod Adding
+pub mod Finding
+pub mod Knowing
+pub mod Plainness
+pub mod Wholly
+pub mod Building

@@ -1,0 +1,25 @@
+use Rattle.part_state.specs.State.{here}
+use Rattle.leaf_link.specs.Answers.{values_in}
+use Rattle.leaf_turn.proofs.Giving.{ready, still, taken_by}
+use Rattle.leaf_turn.proofs.Keeping.{kept_more}
+use Rattle.leaf_turn.proofs.taking.give_and_step.Goals as goal
+
+pub advance-requires-clause-ready : goal.advance-requires-clause-ready
+advance-requires-clause-ready c = (ready c.args.hart (values_in c.args.x.now) (here c.args.part.now) (here c.give.new.part) c.candidates_are_steps.ensures c.is_test.ensures c.requires.hart c.requires.found c.in_ok-give.ensures.given).ready
+
+pub advance-requires-clause-clear : goal.advance-requires-clause-clear
+advance-requires-clause-clear c = (ready c.args.hart (values_in c.args.x.now) (here c.args.part.now) (here c.give.new.part) c.candidates_are_steps.ensures c.is_test.ensures c.requires.hart c.requires.found c.in_ok-give.ensures.given).clear
+
+pub returns-clause-taken : goal.returns-clause-taken
+returns-clause-taken c =
+    taken_by c.args.hart (values_in c.args.x.now) c.in_ok-advance.field-0 (here c.args.part.now) (here c.give.new.part) (here c.advance.new.self) c.candidates_are_steps.ensures c.given_places_are_known.ensures.fixed c.is_test.ensures
+    c.requires.hart c.requires.found c.in_ok-give.ensures.given c.in_ok-advance.ensures.now c.in_ok-advance.ensures.record
+
+pub returns-clause-kept : goal.returns-clause-kept
+returns-clause-kept c = kept_more c.args.part.now c.give.new.part c.advance.new.self c.in_ok-give.ensures.kept c.in_ok-advance.ensures.earlier
+
+pub returns-clause-still : goal.returns-clause-still
+returns-clause-still c =
+    still c.args.hart (values_in c.args.x.now) c.in_ok-advance.field-0 (here c.args.part.now) (here c.advance.new.self) c.given_places_are_known.ensures.others
+    (taken_by c.args.hart (values_in c.args.x.now) c.in_ok-advance.field-0 (here c.args.part.now) (here c.give.new.part) (here c.advance.new.self) c.candidates_are_steps.ensures c.given_places_are_known.ensures.fixed c.is_test.ensures
+    c.requires.hart c.requires.found c.in_ok-give.ensures.given c.in_ok-advance.ensures.now c.in_ok-advance.ensures.record)

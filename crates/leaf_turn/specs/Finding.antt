@@ -1,0 +1,28 @@
+-- That what is found for a leaf can be taken.
+use Rattle.std.specs.Prelude.{◌≡◌, ℕ, ◌++◌, true, false, List, []}
+use Rattle.sv_walk.specs.Translation.{is_translated}
+use Rattle.foot_map.specs.declared.touch.Touch.{Touch}
+use Rattle.foot_map.specs.Races.{IsFootprint}
+use Rattle.rv_hart.specs.Machine.{data_view}
+use Rattle.fd_prob.specs.declared.problem.Assignment.{Assignment}
+use Rattle.fd_solve.specs.declared.answers.Solved.TheVariants as answers
+use Rattle.tpl_ast.specs.declared.template.Atom.{Atom}
+use Rattle.tpl_admit.specs.Races.{footprints_of}
+use Rattle.part_machine.specs.Whole.{Whole, records_of}
+use Rattle.leaf_link.specs.Answers.{values_in}
+use Rattle.leaf_link.specs.Firsts.{IsTurnAnswer}
+use Rattle.leaf_link.specs.KindLaws.{IsPosed}
+use Rattle.leaf_pose.specs.declared.stand.Stand.{Stand}
+use Rattle.leaf_pose.specs.Posed.{are_posable}
+use Rattle.leaf_pose.specs.Stands.{IsStandOf}
+use Rattle.turn_laws.specs.Ahead.{AreVectors}
+use Rattle.turn_laws.specs.Given.{Setting, turn_at}
+use Rattle.leaf_turn.specs.Answers.{IsFound}
+
+-- what is found for a leaf's atoms and the biases that are kept, where the atoms bar each operation that isn't posed
+abbrev pub AnswersAreFound : Type 0
+AnswersAreFound =
+    (st : Stand) (k : ℕ) (w : Whole) (s : Setting) (feet : List Touch) (leaf kept : List Atom) (draws : List ℕ) (nodes : ℕ) (x : Assignment)
+    → AreVectors s.vectors → IsFootprint feet (footprints_of (λ j. records_of j w)) → is_translated (data_view (turn_at s feet k w).fixed) ≡ false
+    → IsStandOf st (turn_at s feet k w) [] st.pc → are_posable st leaf ≡ true → IsPosed (turn_at s feet k w) [] st.pc (leaf ++ kept)
+    → IsTurnAnswer (turn_at s feet k w) st.pc (leaf ++ kept) draws nodes (answers.Found x) → IsFound k w (values_in x)

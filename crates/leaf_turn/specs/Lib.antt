@@ -1,0 +1,7 @@
+pub mod Grounds
+pub mod Answers
+pub mod Untranslated
+pub mod Wishes
+pub mod Asking
+pub mod Finding
+pub mod Built

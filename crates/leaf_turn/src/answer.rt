@@ -1,0 +1,119 @@
+// The answer of a leaf.
+ghost use Rattle.std.specs.Prelude.{◌≡◌, ◌<◌, ◌^◌, true, false, ℕ, List, length, map, All, IfOk};
+ghost use Rattle.std.specs.List.{AllByRecursion};
+ghost use Rattle.rv_mem.specs.Seen.{is_there};
+ghost use Rattle.foot_map.specs.declared.touch.Touch.{Touch as ATouch};
+ghost use Rattle.foot_map.specs.Races.{IsFootprint};
+ghost use Rattle.tpl_ast.specs.Leaves.{IsPlain, atoms_of};
+ghost use Rattle.tpl_admit.specs.Races.{footprints_of};
+ghost use Rattle.part_machine.specs.Whole.{hart_of, records_of};
+ghost use Rattle.part_state.specs.State.{here};
+ghost use Rattle.turn_laws.specs.Given.{Setting, turn_at};
+ghost use Rattle.leaf_turn.specs.Grounds.{IsSettingOf, IsUntranslated};
+ghost use Rattle.leaf_turn.specs.Built.{are_built};
+ghost use Rattle.leaf_turn.specs.Wishes.{biases_of, mandatory_of};
+ghost use Rattle.fd_prob.specs.declared.problem.Assignment.{Assignment as AnAssignment};
+ghost use Rattle.fd_solve.specs.declared.answers.Solved.TheVariants.{Found};
+ghost use Rattle.leaf_link.specs.Answers.{values_in};
+ghost use Rattle.turn_laws.specs.Ahead.{AreVectors};
+ghost use Rattle.leaf_turn.specs.Answers.{IsFound};
+ghost use Rattle.rv_script.specs.Folds.{Entry};
+ghost use Rattle.sv_walk.specs.Translation.{is_in_ram, is_translated};
+ghost use Rattle.rv_hart.specs.Machine.{data_view};
+ghost use Rattle.fd_prob.specs.declared.problem.Extra.{Extra as AnExtra};
+ghost use Rattle.leaf_link.specs.Turns.{Turn};
+ghost use Rattle.leaf_link.specs.Extras.{AllPlain, IsTurnLeafAnswer};
+ghost use Rattle.leaf_link.specs.KindLaws.{IsPosed};
+ghost use Rattle.leaf_pose.specs.Posed.{are_posable};
+ghost use Rattle.leaf_pose.specs.Relations.{are_between};
+ghost use Rattle.leaf_pose.specs.Stands.{IsStandOf};
+ghost use Rattle.tpl_ast.specs.declared.template.Atom.{Atom as AnAtom};
+ghost use Rattle.leaf_pose.specs.Posed.{AreShaped};
+ghost use Rattle.leaf_turn.specs.Asking.{AreExtrasOf, AreOfCases};
+
+use crate::OutOfMemory;
+use crate::built::built_leaves_are_posable;
+use crate::known::known_is_words;
+use crate::laws::{answers_are_found, rows_are_there};
+use crate::stand::{names_of, stand_of};
+use crate::wishes::{biases_of, mandatory_of};
+use fd_prob::Extra;
+use fd_solve::{LeafAnswer, solve_leaf};
+use leaf_pose::{Posed, Stand, extra_of, leaves_are_between, problem_of};
+use part_state::Part;
+use std::alloc::Global;
+use tpl_ast::{Atom, Template, Wish};
+
+/// What each bias adds to the problem of a leaf that was posed on the same stand.
+fn extras_of(
+    alloc: Global,
+    stand: &Stand,
+    biases: &[Vec<Atom>],
+    posed: &Posed,
+) -> Result<Vec<Extra>, OutOfMemory>
+    requires between { All (λ b. are_between b.items ≡ true) biases.now }
+    ensures extras { IfOk result (λ extras. (leaf : List AnAtom) → AreShaped stand.now leaf posed.now.shapes posed.now.problem.cases → AreExtrasOf stand.now leaf (map (λ b. b.items) biases.now) posed.now.problem extras.items) }
+    ensures places { IfOk result (λ extras. AreOfCases posed.now.shapes extras.items) }
+{
+    let mut extras = Vec::new(alloc);
+    for bias in biases {
+        extras.push(extra_of(alloc, stand, bias, posed)?)?;
+    }
+    Ok(extras)
+}
+
+/// The answer of a leaf where a hart stands whose addresses are not translated: which biases are kept, and the first of
+/// what meets them and the atoms, in the order of the draws, or that nothing does, or that the budget of `nodes` is
+/// spent.
+pub fn answer_of(
+    alloc: Global,
+    stand: &Stand,
+    atoms: &[Atom],
+    biases: &[Vec<Atom>],
+    draws: &[u32; 16],
+    nodes: u64,
+) -> Result<LeafAnswer, OutOfMemory>
+    requires between { are_between atoms.now ≡ true }
+    requires biases { All (λ b. are_between b.items ≡ true) biases.now }
+    requires posable { are_posable stand.now atoms.now ≡ true }
+    ensures { IfOk result (λ answer. (t : Turn) (walk : List Entry) (pa : ℕ) → IsStandOf stand.now t walk pa → is_translated (data_view t.fixed) ≡ false → IsPosed t walk pa atoms.now → AllPlain (map (λ b. b.items) biases.now) → IsTurnLeafAnswer t pa atoms.now (map (λ b. b.items) biases.now) draws.now nodes answer) }
+{
+    rows_are_there();
+    let posed = problem_of(alloc, stand, atoms, draws)?;
+    let extras = extras_of(alloc, stand, biases, &posed)?;
+    Ok(solve_leaf(alloc, &posed.problem, &extras, nodes)?)
+}
+
+/// The answer of a `do` leaf where a hart of a test stands, in RAM and without translation, with the leaf's biases. The
+/// leaf's atoms bar each operation that is not posed. The first two draws are for the entries of its fetch, the
+/// others for the variables in their order. Dropped biases are told by their positions among the leaf's biases, from 0.
+pub fn leaf_answer(
+    alloc: Global,
+    part: &Part,
+    hart: u8,
+    t: &Template,
+    wishes: &[Wish],
+    draws: &[u32; 16],
+    nodes: u64,
+) -> Result<LeafAnswer, OutOfMemory>
+    requires hart { hart < length part.now.now.harts }
+    requires names { length part.now.now.names ≡ length t.now.names }
+    requires few { length t.now.names < 2 ^ 32 }
+    requires untranslated { IsUntranslated hart (here part.now) }
+    requires there { is_in_ram (λ n. is_there ((here part.now).memory n)) (hart_of hart (here part.now)).pc ≡ true }
+    requires plain { AllByRecursion IsPlain (atoms_of wishes.now) }
+    requires built { are_built wishes.now ≡ true }
+    requires vectors { AreVectors t.now.vectors }
+    ensures answer { IfOk result (λ answer. (s : Setting) (feet : List ATouch) → IsSettingOf t.now s → IsFootprint feet (footprints_of (λ k. records_of k (here part.now))) → IsTurnLeafAnswer (turn_at s feet hart (here part.now)) (hart_of hart (here part.now)).pc (mandatory_of wishes.now) (biases_of wishes.now) draws.now nodes answer) }
+    ensures found { IfOk result (λ answer. (x : AnAssignment) → answer.solved ≡ Found x → IsFound hart (here part.now) (values_in x)) }
+{
+    leaves_are_between();
+    answers_are_found();
+    built_leaves_are_posable();
+    known_is_words(part, hart);
+    let atoms = mandatory_of(alloc, wishes)?;
+    let biases = biases_of(alloc, wishes)?;
+    let names = names_of(alloc, part, t)?;
+    let stand = stand_of(part, hart, t, &names);
+    answer_of(alloc, &stand, &atoms, &biases, draws, nodes)
+}

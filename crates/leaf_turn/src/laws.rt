@@ -1,0 +1,23 @@
+// Laws of turns without translation.
+ghost use Rattle.leaf_turn.specs.Finding.{AnswersAreFound};
+ghost use Rattle.leaf_turn.specs.Untranslated.{FetchRowsAreThere, LeafAnswersWithoutRows, RowsAreThere};
+
+use leaf_link::{biases_are_kept, candidates_are_in_domains};
+
+/// Does nothing. Its contract says that where no address is translated there are rows for data accesses and for the
+/// fetch, so that a leaf's answer is the answer of its turn, whatever rows are there.
+pub fn rows_are_there()
+    ensures rows { RowsAreThere }
+    ensures fetches { FetchRowsAreThere }
+    ensures answers { LeafAnswersWithoutRows }
+{
+    biases_are_kept();
+}
+
+/// Does nothing. Its contract says that what is found for a leaf, with the biases that are kept, is the values of a
+/// candidate that can be taken, where the leaf's atoms bar each operation that is not posed.
+pub fn answers_are_found()
+    ensures { AnswersAreFound }
+{
+    candidates_are_in_domains();
+}

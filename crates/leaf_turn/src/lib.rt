@@ -1,0 +1,22 @@
+//! A leaf's turn on a test in the making: what is known where its hart stands, the answer of the leaf, and the step of
+//! an answer, with the places that it starts. Addresses are not translated here, and instructions are those that ask
+//! for nothing behind their source registers but the vector of a trap.
+#![tactic(auto)]
+
+mod answer;
+mod built;
+mod error;
+mod known;
+mod laws;
+mod stand;
+mod taking;
+mod wishes;
+
+pub use answer::{answer_of, leaf_answer};
+pub use built::{are_built, built_leaves_are_posable};
+pub use error::OutOfMemory;
+pub use known::known_is_words;
+pub use laws::{answers_are_found, rows_are_there};
+pub use stand::{names_of, stand_of};
+pub use taking::take;
+pub use wishes::{biases_of, mandatory_of};

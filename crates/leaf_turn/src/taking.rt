@@ -1,0 +1,107 @@
+// The step of an answer.
+ghost use Rattle.std.specs.Prelude.{◌≡◌, ◌<◌, length, OnOk, OnErr, IfOk};
+ghost use Rattle.rv_script.specs.declared.place.Place.{Place as APlace};
+ghost use Rattle.part_state.specs.State.{here};
+ghost use Rattle.leaf_link.specs.Answers.{values_in};
+ghost use Rattle.leaf_link.specs.Placing.{IsInstruction, value_at};
+ghost use Rattle.leaf_link.specs.Values.{instr_in};
+ghost use Rattle.leaf_turn.specs.Answers.{AreGiven, AreKept, IsFound, IsStill, IsTakenBy};
+
+use crate::OutOfMemory;
+use fd_prob::{Assignment, Slot};
+use leaf_link::values_are_by_places;
+use part_state::{Part, Probe};
+use rv_hart::Record;
+use rv_isa::{Instr, OPS, codec_laws, encode};
+use rv_script::Place;
+use turn_laws::{candidates_are_steps, given_places_are_known, places_are_next};
+
+/// The instruction of an answer.
+fn instruction(x: &Assignment) -> Instr
+    requires { IsInstruction (values_in x.now) }
+    ensures { result ≡ instr_in (values_in x.now) }
+{
+    Instr {
+        op: OPS[x.value(Slot::Op) as usize],
+        rd: x.value(Slot::Rd) as u8,
+        rs1: x.value(Slot::Rs1) as u8,
+        rs2: x.value(Slot::Rs2) as u8,
+        imm: x.value(Slot::Imm),
+        csr: x.value(Slot::Csr) as u16,
+    }
+}
+
+/// The value with which an answer starts a place: the fetched word, the value of a source register, or the vector.
+fn value_at(x: &Assignment, place: Place) -> u32
+    requires { IsInstruction (values_in x.now) }
+    ensures { result ≡ value_at (values_in x.now) place }
+{
+    match place {
+        Place::Word(_) => encode(&instruction(x)),
+        Place::Reg(n) => {
+            if u32::from(n) == x.value(Slot::Rs1) {
+                x.value(Slot::A)
+            } else {
+                x.value(Slot::B)
+            }
+        }
+        Place::Csr(_) => x.value(Slot::Vector),
+    }
+}
+
+/// Gives the hart what an answer starts, place by place, as its next step asks for it.
+fn give(part: &mut Part, hart: u8, x: &Assignment) -> Result<(), OutOfMemory>
+    requires hart { hart < length part.old.now.harts }
+    requires found { IsFound hart (here part.old) (values_in x.now) }
+    ensures given { OnOk result (AreGiven hart (values_in x.now) (here part.old) (here part.new)) }
+    ensures kept { AreKept part.old part.new }
+{
+    values_are_by_places();
+    places_are_next();
+    given_places_are_known();
+    part.is_test();
+    // A step asks ten questions at most.
+    let mut left = 10u8;
+    loop {
+        match part.probe(hart) {
+            Probe::Missing(place) => {
+                part.start_place(hart, place, value_at(x, place))?;
+                left -= 1;
+            }
+            Probe::Ready(_) | Probe::Outside | Probe::Clash(_) => return Ok(()),
+        }
+    }
+}
+
+fn give_and_step(part: &mut Part, hart: u8, x: &Assignment) -> Result<Record, OutOfMemory>
+    requires hart { hart < length part.old.now.harts }
+    requires found { IsFound hart (here part.old) (values_in x.now) }
+    ensures taken { IfOk result (λ r. IsTakenBy hart (values_in x.now) r (here part.old) (here part.new)) }
+    ensures still { OnOk result (IsStill (here part.old) (here part.new)) }
+    ensures kept { AreKept part.old part.new }
+{
+    candidates_are_steps();
+    given_places_are_known();
+    part.is_test();
+    give(part, hart, x)?;
+    Ok(part.advance(hart)?)
+}
+
+/// Starts the places of an answer and takes its step. A refusal changes nothing.
+pub fn take(part: &mut Part, hart: u8, x: &Assignment) -> Result<Record, OutOfMemory>
+    requires hart { hart < length part.old.now.harts }
+    requires found { IsFound hart (here part.old) (values_in x.now) }
+    ensures taken { IfOk result (λ r. IsTakenBy hart (values_in x.now) r (here part.old) (here part.new)) }
+    ensures still { OnOk result (IsStill (here part.old) (here part.new)) }
+    ensures kept { OnOk result (AreKept part.old part.new) }
+    ensures refused { OnErr result (part.new ≡ part.old) }
+{
+    let mark = part.mark();
+    match give_and_step(part, hart, x) {
+        Ok(record) => Ok(record),
+        Err(error) => {
+            part.rollback(mark);
+            Err(error)
+        }
+    }
+}
