@@ -1,5 +1,5 @@
 -- Numbers that match a pattern, by the halves of the numbers and of the pattern.
-use Rattle.std.proofs.Common.{◌≡◌, ℕ, zero, suc, ◌+◌, ◌*◌, ◌/◌, ◌%◌, ◌<◌, ◌≤◌, inl, inr, Bool, true, false, eqb, min, bit_and, refl, sym, ap, ◌∙◌, arith}
+use Rattle.std.proofs.Common.{◌≡◌, ℕ, zero, suc, ◌+◌, ◌-◌, ◌*◌, ◌/◌, ◌%◌, ◌<◌, ◌≤◌, inl, inr, Bool, true, false, eqb, min, bit_and, refl, sym, ap, ◌∙◌, arith}
 use Rattle.std.proofs.lemmas.Bool.{cases_eq, eq-eqb, ne_eqb}
 use Rattle.std.proofs.lemmas.Bool.Decides.{nat_tests}
 use Rattle.std.proofs.lemmas.Nat.{and_le_l, and_le_r}
@@ -85,6 +85,52 @@ first_odd p h from n half fixed odd next = record {
   ];
 }
 
+-- ---- the numbers between two
+
+-- two patterns that say the same of the numbers' halves, and of their lowest bits
+pub record IsWithHalf (p h q r : Pattern) : Type 0 where
+  pub first : IsHalf p h
+  pub second : IsHalf q r
+  pub mask : q.mask % 2 ≡ p.mask % 2
+  pub bits : q.bits % 2 ≡ p.bits % 2
+
+same_by_halves : (p h q r : Pattern) → IsWithHalf p h q r → (x : ℕ) → matches r (x / 2) ≡ matches h (x / 2) → matches q x ≡ matches p x
+same_by_halves p h q r are x same = elim (cases_eq (p.mask % 2) 0) [
+  | inl free ↦ half_free q r are.second (are.mask ∙ free) x ∙ same ∙ sym (half_free p h are.first free x)
+  | inr other ↦
+      let fixed : p.mask % 2 ≡ 1 = omega (arith, other) in
+      elim (cases_eq (x % 2) (p.bits % 2)) [
+        | inl low ↦ half_fixed q r are.second (are.mask ∙ fixed) x (low ∙ sym are.bits) ∙ same ∙ sym (half_fixed p h are.first fixed x low)
+        | inr high ↦ half_other q (are.mask ∙ fixed) x (λ e. high (e ∙ are.bits)) ∙ sym (half_other p fixed x high)
+      ]
+]
+
+-- a number that matches has a half that does
+pub low_half : (p h : Pattern) (x : ℕ) → IsHalf p h → matches p x ≡ true → matches h (x / 2) ≡ true
+low_half p h x half is = elim (cases_eq (p.mask % 2) 0) [
+  | inl free ↦ sym (half_free p h half free x) ∙ is
+  | inr other ↦
+      let fixed : p.mask % 2 ≡ 1 = omega (arith, other) in
+      elim (cases_eq (x % 2) (p.bits % 2)) [
+        | inl low ↦ sym (half_fixed p h half fixed x low) ∙ is
+        | inr high ↦ absurd (differ (sym (half_other p fixed x high) ∙ is))
+      ]
+]
+  where
+    differ : false ≡ true → ⊥
+    differ e = cc
+
+-- a pattern is within its mask where its half is
+pub within_pair : (m b m' b' : ℕ) → bit_and b' m' ≡ b' → bit_and b m ≡ b → bit_and (2 * b' + b % 2) (2 * m' + m % 2) ≡ 2 * b' + b % 2
+within_pair m b m' b' half own =
+    let first : (2 * b' + b % 2) / 2 ≡ b' = omega arith in
+    let second : (2 * m' + m % 2) / 2 ≡ m' = omega arith in
+    let low : min (b % 2) (m % 2) ≡ b % 2 = omega (arith, own, and_step b m, and_le_l (b / 2) (m / 2)) in
+    omega (arith, and_step (2 * b' + b % 2) (2 * m' + m % 2), low, half, ap (λ (n : ℕ). bit_and n ((2 * m' + m % 2) / 2)) first, ap (bit_and b') second)
+
+pub same_between : (p h q r : Pattern) (low high : ℕ) → IsWithHalf p h q r → ((x : ℕ) → low / 2 ≤ x → x ≤ high / 2 → matches r x ≡ matches h x) → (x : ℕ) → low ≤ x → x ≤ high → matches q x ≡ matches p x
+same_between p h q r low high are same x from to = same_by_halves p h q r are x (same (x / 2) (omega (arith, from)) (omega (arith, to)))
+
 -- ---- how many match
 
 abbrev count : Pattern → ℕ → ℕ
@@ -164,3 +210,26 @@ pub count_odd : (p h : Pattern) (x : ℕ) → IsHalf p h → p.mask % 2 ≡ 1 �
 count_odd p h x half fixed low =
     let none : matches p (2 * (x / 2)) ≡ false = half_other p fixed (2 * (x / 2)) (λ e. omega arith) in
     add_last p x 0 (λ o. sym (ap one none)) (λ e. refl) ∙ omega (arith, pairs_fixed p h half fixed (x / 2))
+
+-- ---- bit 0 cleared
+
+pub even_and : (x m : ℕ) → bit_and x (m - m % 2) ≡ bit_and (x - x % 2) m
+even_and x m =
+    let of_mask : (m - m % 2) / 2 ≡ m / 2 = omega arith in
+    let of_number : (x - x % 2) / 2 ≡ x / 2 = omega arith in
+    omega (
+      arith,
+      and_step x (m - m % 2),
+      and_step (x - x % 2) m,
+      ap (bit_and (x / 2)) of_mask,
+      ap (λ (n : ℕ). bit_and n (m / 2)) of_number,
+    )
+
+pub even_within : (b m : ℕ) → bit_and b m ≡ b → (b % 2 ≡ 1 → ⊥) → bit_and b (m - m % 2) ≡ b
+even_within b m within other =
+    let even : b - b % 2 ≡ b = omega (arith, other) in
+    even_and b m ∙ ap (λ (n : ℕ). bit_and n m) even ∙ within
+
+-- a pattern that has bit 0 set matches no even number
+pub odd_none : (p : Pattern) (x : ℕ) → p.bits % 2 ≡ 1 → false ≡ matches p (x - x % 2)
+odd_none p x odd = sym (half_other p (omega (arith, lowest p, odd)) (x - x % 2) (λ e. omega (arith, e, odd)))

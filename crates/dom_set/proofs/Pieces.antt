@@ -1,7 +1,7 @@
 -- What pieces hold.
 use Rattle.std.proofs.Common.{◌≡◌, ℕ, zero, suc, ◌+◌, ◌-◌, ◌%◌, ◌^◌, ◌<◌, ◌≤◌, ◌⊎◌, inl, inr, Bool, true, false, ◌&&◌, not, eqb, ltb, leb, min, max, refl, sym, ap, ◌∙◌, arith}
 use Rattle.std.specs.Int.Bits.{bit_and, and_self}
-use Rattle.std.proofs.lemmas.Bool.{cases_lt, eqb-true, eq-eqb, leb-true, le-leb, lt-leb, ltb-true, and_parts, and_from, false_from_ne_true, false≢true}
+use Rattle.std.proofs.lemmas.Bool.{cases_lt, eqb-true, eq-eqb, leb-true, le-leb, lt-leb, lt-ltb, ltb-true, and_parts, and_from, false_from_ne_true, false≢true}
 use Rattle.std.proofs.lemmas.Bool.Decides.{nat_tests}
 use Rattle.std.proofs.lemmas.Nat.{and_assoc, and_mask}
 use Rattle.dom_set.specs.Counting.{one, total}
@@ -47,6 +47,22 @@ pub clip_some : (low high from end low' end' x : ℕ) (b : Bool) → low' ≡ ma
     ((leb low' x && leb x (end' - 1)) && b) ≡ (((leb low x && leb x high) && b) && (leb from x && ltb x end))
 clip_some low high from end low' end' x true at to lt = grind (arith, nat_tests)
 clip_some low high from end low' end' x false at to lt = grind (arith, nat_tests)
+
+-- none is below the lowest one, and all are below what is above the highest one
+pub none_below : (m : ℕ → Bool) (low high end x : ℕ) → end ≤ low → (test m low high x && ltb x end) ≡ false
+none_below m low high end x le = false_from_ne_true _ (λ h.
+    let parts = and_parts (test m low high x) (ltb x end) h in
+    let p = passes m low high x parts.0 in
+    let below : x < end = ltb-true _ _ parts.1 in
+    absurd (omega (arith, p.above, below, le)))
+
+pub all_below : (m : ℕ → Bool) (low high end x : ℕ) → high < end → (test m low high x && ltb x end) ≡ test m low high x
+all_below m low high end x past = same_tests _ _
+    (λ h. (and_parts (test m low high x) (ltb x end) h).0)
+    (λ h.
+    let p = passes m low high x h in
+    let below : x < end = omega (arith, p.below, past) in
+    and_from _ _ h (lt-ltb _ _ below))
 
 pub none_before : (m : ℕ → Bool) (low high from next x : ℕ) → NoneWithin m (max from low) next → from ≤ x → x < next → test m low high x ≡ false
 none_before m low high from next x none le lt = false_from_ne_true _ (λ h.
@@ -228,3 +244,26 @@ halves_are false a b c h = refl
 pub all_words : (b : Bool) (x : ℕ) → x < 2 ^ 32 → (b && (leb 0 x && ltb x (2 ^ 32))) ≡ b
 all_words true x lt = grind (arith, nat_tests)
 all_words false x lt = refl
+
+-- ---- bit 0 cleared
+
+from_even : (low x : ℕ) → leb (low + low % 2) x ≡ leb low (x - x % 2)
+from_even low x = same_tests _ _
+    (λ h. let from : low + low % 2 ≤ x = leb-true _ _ h in le-leb _ _ (omega (arith, from)))
+    (λ h. let from : low ≤ x - x % 2 = leb-true _ _ h in le-leb _ _ (omega (arith, from)))
+
+to_odd : (high x : ℕ) → leb x (high - high % 2 + 1) ≡ leb (x - x % 2) high
+to_odd high x = same_tests _ _
+    (λ h. let to : x ≤ high - high % 2 + 1 = leb-true _ _ h in le-leb _ _ (omega (arith, to)))
+    (λ h. let to : x - x % 2 ≤ high = leb-true _ _ h in le-leb _ _ (omega (arith, to)))
+
+pub odd_is : (low high x : ℕ) (m n : Bool) → m ≡ n → ((leb (low + low % 2) x && leb x (high - high % 2 + 1)) && m) ≡ ((leb low (x - x % 2) && leb (x - x % 2) high) && n)
+odd_is low high x m n same = λ i. (from_even low x i && to_odd high x i) && same i
+
+pub odd_crossed : (low high x : ℕ) (n : Bool) → high - high % 2 + 1 < low + low % 2 → false ≡ ((leb low (x - x % 2) && leb (x - x % 2) high) && n)
+odd_crossed low high x n crossed = sym (false_from_ne_true _ (λ h.
+    let p = passes (λ _. n) low high (x - x % 2) h in omega (arith, p.above, p.below, crossed)))
+
+pub and_none : (s b : Bool) → false ≡ b → false ≡ (s && b)
+and_none true b none = none
+and_none false b none = refl

@@ -135,6 +135,12 @@ shift_is ps out d h = elements_same (holds out) (λ y. is_in (elements_of (holds
     holds_is out y ∙ ap (ltb 0) (h y lt) ∙ sym (holds_is ps ((y + (2 ^ 32 - d)) % 2 ^ 32))
     ∙ sym (is_in-elements (holds ps) ((y + (2 ^ 32 - d)) % 2 ^ 32) (omega arith)))
 
+pub odd_is : (ps out : List Piece) → ((x : ℕ) → x < 2 ^ 32 → times out x ≡ times ps (x - x % 2)) →
+    elements_of (holds out) ≡ elements_of (λ x. is_in (elements_of (holds ps)) (x - x % 2))
+odd_is ps out h = elements_same (holds out) (λ x. is_in (elements_of (holds ps)) (x - x % 2)) (λ x lt.
+    holds_is out x ∙ ap (ltb 0) (h x lt) ∙ sym (holds_is ps (x - x % 2))
+    ∙ sym (is_in-elements (holds ps) (x - x % 2) (omega (arith, lt))))
+
 -- ---- clipped
 
 clip_held : (b : Bool) (n : ℕ) → ltb 0 (cond b n 0) ≡ (ltb 0 n && b)

@@ -3,10 +3,12 @@ use Rattle.std.proofs.Common.{◌≡◌, ℕ, ◌+◌, ◌<◌, ◌≤◌, Bool,
 use Rattle.std.proofs.lemmas.Bool.{cases_lt, eqb-true, eq-eqb, le-leb, and_from, false≢true}
 use Rattle.std.proofs.lemmas.List.Elements.{All-append}
 use Rattle.std.proofs.lemmas.List.Folds.{list_any-append, list_any_at, list_any_more}
+use Rattle.dom_set.specs.declared.pattern.Pattern.{Pattern}
 use Rattle.dom_set.specs.declared.piece.Piece.{Piece}
 use Rattle.dom_set.specs.Elements.{elements_of, is_in, is_within}
 use Rattle.dom_set.specs.Patterns.{matches}
 use Rattle.dom_set.specs.Pieces.{in_piece, holds, IsFirstFrom, IsLast, IsPart}
+use Rattle.dom_set.proofs.Low.{same_tests}
 use Rattle.dom_set.proofs.Pieces.{passes, test_from}
 use Rattle.dom_set.proofs.Sets.{Contains-elements, held_word, is_in-elements, is_in_tests}
 
@@ -33,6 +35,20 @@ piece_part p low high le first last =
       same = eqb-true _ _ a.matched ∙ sym (eqb-true _ _ b.matched);
       held = λ x from to is. test_from (matches p.pattern) p.low p.high x (record { above = omega (arith, a.above, from); below = omega (arith, b.below, to); matched = eq-eqb _ _ (is ∙ eqb-true _ _ a.matched) });
     }
+
+-- a piece from its first number to its last one, by a pattern that says the same between these
+pub tightened : (p : Piece) (q : Pattern) (low high : ℕ) → IsFirstFrom (in_piece p) 0 (Some low) → IsLast (in_piece p) (Some high) → ((x : ℕ) → low ≤ x → x ≤ high → matches q x ≡ matches p.pattern x) → (x : ℕ) → ((leb low x && leb x high) && matches q x) ≡ in_piece p x
+unfolding in_piece
+tightened p q low high first last same x = same_tests _ _
+    (λ h.
+    let here = passes (matches q) low high x h in
+    let a = passes (matches p.pattern) p.low p.high low first.0 in
+    let b = passes (matches p.pattern) p.low p.high high last.0 in
+    test_from (matches p.pattern) p.low p.high x (record { above = omega (arith, a.above, here.above); below = omega (arith, b.below, here.below); matched = sym (same x here.above here.below) ∙ here.matched }))
+    (λ h.
+    let ends = between (in_piece p) low high x first last h in
+    let here = passes (matches p.pattern) p.low p.high x h in
+    test_from (matches q) low high x (record { above = ends.0; below = ends.1; matched = same x ends.0 ends.1 ∙ here.matched }))
 
 -- a part of what passes one test is one of what passes another that the first implies
 pub wider_part : (t u : ℕ → Bool) (span : ℕ × ℕ) → ((x : ℕ) → t x ≡ true → u x ≡ true) → IsPart t span → IsPart u span

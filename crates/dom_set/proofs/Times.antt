@@ -1,7 +1,8 @@
 -- How many pieces of a list hold a number.
-use Rattle.std.proofs.Common.{◌≡◌, ℕ, ◌+◌, ◌*◌, ◌<◌, ◌≤◌, ◌^◌, inl, inr, Bool, true, false, cond, ◌&&◌, ◌||◌, ltb, List, [], ◌∷◌, ◌++◌, length, get_or, drop, Option, refl, sym, ap, ◌∙◌, arith, zero-add}
+use Rattle.std.proofs.Common.{◌≡◌, ℕ, ◌+◌, ◌*◌, ◌<◌, ◌≤◌, ◌^◌, inl, inr, Bool, true, false, cond, ◌&&◌, ◌||◌, ltb, List, [], ◌∷◌, ◌++◌, length, get_or, take, drop, Option, refl, sym, ap, ◌∙◌, arith, zero-add}
 use Rattle.std.proofs.lemmas.Bool.{cases_lt, lt-ltb, false_from_ne_true}
-use Rattle.std.proofs.lemmas.List.{drop_more, drop_all}
+use Rattle.std.proofs.lemmas.List.{drop_more, drop_all, take-append-drop}
+use Rattle.std.proofs.lemmas.List.Folds.{list_any-append}
 use Rattle.dom_set.specs.declared.piece.Piece.{Piece}
 use Rattle.dom_set.specs.Counting.{one, total}
 use Rattle.dom_set.specs.Pieces.{in_piece, is_held, holds, times, IsApart}
@@ -30,11 +31,6 @@ times_done ps i x le = ap (λ (qs : List Piece). times qs x) (drop_all i ps le)
 pub none_less : (b : Bool) (n : ℕ) → n ≡ 0 → cond b 0 n ≡ 0
 none_less true n none = refl
 none_less false n none = none
-
--- a piece, and of the list what it leaves
-pub times_with : (b : Bool) (n : ℕ) → cond b 0 n + one b ≡ cond b 1 n
-times_with true n = refl
-times_with false n = omega arith
 
 -- ---- sums over a list, a piece at a time
 
@@ -109,20 +105,6 @@ pub holds_is : (ps : List Piece) (x : ℕ) → holds ps x ≡ ltb 0 (times ps x)
 holds_is [] x = refl
 holds_is (p ∷ ps) x = step_holds (in_piece p x) (holds ps x) (times ps x) (holds_is ps x)
 
-pub with_held : (b : Bool) (n : ℕ) → ltb 0 (cond b 1 n) ≡ (ltb 0 n || b)
-with_held true n = all (ltb 0 n) where
-  all : (a : Bool) → true ≡ (a || true)
-  all true = refl
-  all false = refl
-with_held false n = none (ltb 0 n) where
-  none : (a : Bool) → a ≡ (a || false)
-  none true = refl
-  none false = refl
-
-pub with_apart : (b : Bool) (n : ℕ) → n ≤ 1 → cond b 1 n ≤ 1
-with_apart true n le = omega arith
-with_apart false n le = le
-
 positive_one : (b : Bool) → ltb 0 (one b) ≡ b
 positive_one true = refl
 positive_one false = refl
@@ -169,3 +151,45 @@ either_once ps n x = either_is n (times ps x) (holds ps x) (holds_is ps x)
 pub either_apart : (h : Bool) (m n : ℕ) → m ≤ 1 → n ≤ 1 → cond h m n ≤ 1
 either_apart true m n lm ln = lm
 either_apart false m n lm ln = ln
+
+-- ---- the numbers of a list, each once
+
+pub united_few : (ps : List Piece) (x : ℕ) → length ps < 2 → times ps x ≡ one (holds ps x)
+united_few [] x few = refl
+united_few (p ∷ []) x few = single (in_piece p x) where
+  single : (b : Bool) → one b + 0 ≡ one (b || false)
+  single true = refl
+  single false = refl
+united_few (p ∷ q ∷ ps) x few = absurd (omega (arith, few))
+
+either_one : (a b : Bool) → cond a (one a) (one b) ≡ one (a || b)
+either_one true b = refl
+either_one false b = refl
+
+pub united_halves : (ps front back first second : List Piece) (n x : ℕ) → front ≡ take n ps → back ≡ drop n ps →
+    times first x ≡ one (holds front x) → times second x ≡ one (holds back x) →
+    cond (holds first x) (times first x) (times second x) ≡ one (holds ps x)
+united_halves ps front back first second n x is_front is_back one_first one_second =
+    (λ i. cond (holds_once first x (holds front x) one_first i) (one_first i) (one_second i))
+    ∙ either_one (holds front x) (holds back x)
+    ∙ ap one ((λ i. holds (is_front i) x || holds (is_back i) x)
+    ∙ sym (list_any-append (λ p. in_piece p x) (take n ps) (drop n ps))
+    ∙ ap (λ (qs : List Piece). holds qs x) (take-append-drop n ps))
+
+pub one_most : (b : Bool) (n : ℕ) → n ≡ one b → n ≤ 1
+one_most b n is = omega (arith, is, one_le b)
+
+pub one_more_held : (ps next : List Piece) (b h : Bool) (x : ℕ) → times next x ≡ times ps x + one b → holds ps x ≡ h → holds next x ≡ (h || b)
+one_more_held ps next b h x more is = holds_is next x ∙ ap (ltb 0) more ∙ added (times ps x) b ∙ ap (λ (a : Bool). a || b) (sym (holds_is ps x) ∙ is) where
+  added : (n : ℕ) (b : Bool) → ltb 0 (n + one b) ≡ (ltb 0 n || b)
+  added n true = lt-ltb 0 (n + 1) (omega arith) ∙ sym (or_true (ltb 0 n)) where
+    or_true : (a : Bool) → (a || true) ≡ true
+    or_true true = refl
+    or_true false = refl
+  added n false = ap (ltb 0) (zero_right n) ∙ sym (or_false (ltb 0 n)) where
+    zero_right : (n : ℕ) → n + 0 ≡ n
+    zero_right n = omega arith
+
+    or_false : (a : Bool) → (a || false) ≡ a
+    or_false true = refl
+    or_false false = refl

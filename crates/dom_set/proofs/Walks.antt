@@ -1,6 +1,6 @@
 -- Walks along two lists of pieces, of which the second is left behind where it ends before the first goes on.
-use Rattle.std.proofs.Common.{◌≡◌, ℕ, zero, suc, ◌+◌, ◌-◌, ◌*◌, ◌<◌, ◌≤◌, Bool, true, false, cond, ltb, ◌||◌, List, [], ◌∷◌, length, get_or, drop, inl, inr, refl, sym, ap, ◌∙◌, arith}
-use Rattle.std.proofs.lemmas.Bool.{cases_lt}
+use Rattle.std.proofs.Common.{◌≡◌, ℕ, zero, suc, ◌+◌, ◌-◌, ◌*◌, ◌<◌, ◌≤◌, Bool, true, false, cond, ltb, leb, ◌&&◌, ◌||◌, not, List, [], ◌∷◌, length, get_or, drop, filter, inl, inr, refl, sym, ap, ◌∙◌, arith}
+use Rattle.std.proofs.lemmas.Bool.{cases_lt, lt-ltb, leb-false, false≢true}
 use Rattle.std.proofs.lemmas.List.{get_or_default}
 use Rattle.std.proofs.lemmas.List.Recursion.{is_sum_by}
 use Rattle.std.proofs.lemmas.List.Sorted.{sum_by-IsPermutation}
@@ -8,7 +8,7 @@ use Rattle.std.specs.List.Sorted.{IsPermutation}
 use Rattle.dom_set.specs.declared.piece.Piece.{Piece}
 use Rattle.dom_set.specs.Counting.{one}
 use Rattle.dom_set.specs.Patterns.{matches}
-use Rattle.dom_set.specs.Pieces.{in_piece, holds, times, Ascends, IsPassed}
+use Rattle.dom_set.specs.Pieces.{in_piece, holds, times, Ascends, AreAlive}
 use Rattle.dom_set.proofs.Merging.{below_first, up_to_last}
 use Rattle.dom_set.proofs.Pages.{past_end}
 use Rattle.dom_set.proofs.Pieces.{passes}
@@ -77,22 +77,38 @@ all_rest : (ps : List Piece) (x : ℕ) → times (drop 0 ps) x ≡ times ps x
 all_rest [] x = refl
 all_rest (p ∷ ps) x = refl
 
-pub from_start : (ps : List Piece) (from : ℕ) → IsPassed ps 0 from
-from_start ps from x le = all_rest ps x
+pub from_start : (ps alive : List Piece) (from : ℕ) → alive ≡ [] → AreAlive ps 0 alive from
+from_start ps alive from none x le = omega (arith, ap (λ (qs : List Piece). times qs x) none, all_rest ps x)
 
-pub one_passed : (ps : List Piece) (place from : ℕ) (p : Piece) → place < length ps → p ≡ get_or ps place p → p.high < from → IsPassed ps place from → IsPassed ps (place + 1) from
-one_passed ps place from p lt is past passed x le =
-    let none : in_piece p x ≡ false = ended p x (omega (arith, past, le)) in
-    omega (arith, ap one none, times_rest ps place p x lt is, passed x le)
+one_kept : (b : Bool) (q : Piece) (rest qs : List Piece) (x : ℕ) → (b ≡ false → in_piece q x ≡ false) → times rest x ≡ times qs x →
+    times (cond b (q ∷ rest) rest) x ≡ one (in_piece q x) + times qs x
+one_kept true q rest qs x out same = omega (arith, same)
+one_kept false q rest qs x out same = omega (arith, same, ap one (out refl))
+
+-- pieces that end before a number are not missed from there on
+pub reaching : (from : ℕ) (ps : List Piece) (x : ℕ) → from ≤ x → times (filter (λ p. leb from p.high) ps) x ≡ times ps x
+reaching from [] x le = refl
+reaching from (p ∷ ps) x le = one_kept (leb from p.high) p (filter (λ q. leb from q.high) ps) ps x
+    (λ h. ended p x (omega (arith, le, leb-false from p.high h)))
+    (reaching from ps x le)
+
+pub alive_reaching : (ps : List Piece) (place old from : ℕ) (alive next : List Piece) → old ≤ from → next ≡ filter (λ p. leb from p.high) alive →
+    AreAlive ps place alive old → AreAlive ps place next from
+alive_reaching ps place old from alive next later is before x le =
+    omega (arith, ap (λ (qs : List Piece). times qs x) is, reaching from alive x le, before x (omega (arith, later, le)))
+
+pub not_reaching : (p : Piece) (from x : ℕ) → p.high < from → from ≤ x → one (in_piece p x) ≡ 0
+not_reaching p from x past le = ap one (ended p x (omega (arith, past, le)))
 
 cases_in : (b : Bool) (P : Bool → Type 0) → (b ≡ true → P true) → (b ≡ false → P false) → P b
 cases_in true P held _ = held refl
 cases_in false P _ out = out refl
 
--- what is before the place shares nothing with the piece
-pub shared_past : (p : Piece) (ps : List Piece) (place x : ℕ) → IsPassed ps place p.low → one (in_piece p x) * times (drop place ps) x ≡ one (in_piece p x) * times ps x
-shared_past p ps place x passed = cases_in (in_piece p x) (λ b. one b * times (drop place ps) x ≡ one b * times ps x)
-    (λ held. ap (λ (n : ℕ). 1 * n) (passed x (from_first p x held)))
+-- the piece shares with the list what it shares with those that are kept and those from the place on
+pub shared_alive : (p : Piece) (ps alive : List Piece) (place x : ℕ) → AreAlive ps place alive p.low →
+    one (in_piece p x) * times (drop 0 alive) x + one (in_piece p x) * times (drop place ps) x ≡ one (in_piece p x) * times ps x
+shared_alive p ps alive place x are = cases_in (in_piece p x) (λ b. one b * times (drop 0 alive) x + one b * times (drop place ps) x ≡ one b * times ps x)
+    (λ held. omega (arith, all_rest alive x, are x (from_first p x held)))
     (λ none. omega arith)
 
 -- what begins behind the piece shares nothing with it
@@ -103,11 +119,6 @@ shared_none p ps i q x up lt behind = cases_in (in_piece p x) (λ b. one b * tim
 
 -- ---- what a list leaves of a piece
 
--- of the piece, what is left now and is not in the rest of the list is left by the whole
-pub record IsLeft (p : Piece) (ps rest left : List Piece) (x : ℕ) : Type 0 where
-  pub kept : cond (holds rest x) 0 (times left x) ≡ cond (holds ps x) 0 (one (in_piece p x))
-  pub within : times left x ≤ one (in_piece p x)
-
 cond_none : (b : Bool) → ◌≡◌ {A = ℕ} (cond b 0 0) 0
 cond_none true = refl
 cond_none false = refl
@@ -116,45 +127,87 @@ cond_or : (a b : Bool) (n : ℕ) → cond b 0 (cond a 0 n) ≡ cond (a || b) 0 n
 cond_or true b n = cond_none b
 cond_or false b n = refl
 
-cond_less : (a : Bool) (n m : ℕ) → n ≤ m → cond a 0 n ≤ m
-cond_less true n m le = omega arith
-cond_less false n m le = le
-
 holds_as : (ps qs : List Piece) (x : ℕ) → times ps x ≡ times qs x → holds ps x ≡ holds qs x
 holds_as ps qs x same = holds_is ps x ∙ ap (ltb 0) same ∙ sym (holds_is qs x)
 
 -- nothing was taken off yet
-pub left_first : (p : Piece) (ps left : List Piece) (place x : ℕ) → IsPassed ps place p.low → left ≡ p ∷ [] → IsLeft p ps (drop place ps) left x
-left_first p ps left place x passed is =
+pub left_first : (p : Piece) (ps left : List Piece) (x : ℕ) → left ≡ p ∷ [] → cond (holds (drop 0 ps) x) 0 (times left x) ≡ cond (holds ps x) 0 (one (in_piece p x))
+left_first p ps left x is =
     let all : times left x ≡ one (in_piece p x) = ap (λ (qs : List Piece). times qs x) is ∙ omega arith in
-    record {
-      kept = ap (λ (n : ℕ). cond (holds (drop place ps) x) 0 n) all
-          ∙ cases_in (in_piece p x) (λ b. cond (holds (drop place ps) x) 0 (one b) ≡ cond (holds ps x) 0 (one b))
-          (λ held. ap (λ (b : Bool). cond b 0 1) (holds_as (drop place ps) ps x (passed x (from_first p x held))))
-          (λ none. cond_none (holds (drop place ps) x) ∙ sym (cond_none (holds ps x)));
-      within = omega (arith, all);
-    }
+    ap (cond (holds (drop 0 ps) x) 0) all ∙ ap (λ (b : Bool). cond b 0 (one (in_piece p x))) (holds_as (drop 0 ps) ps x (all_rest ps x))
+
+pub left_done : (ps : List Piece) (i n x : ℕ) → length ps ≤ i → cond (holds (drop i ps) x) 0 n ≡ n
+left_done ps i n x past = ap (λ (b : Bool). cond b 0 n) (holds_as (drop i ps) [] x (times_done ps i x past))
 
 -- one more piece was taken off
-pub left_next : (p : Piece) (ps left next : List Piece) (i : ℕ) (q : Piece) (x : ℕ) → i < length ps → q ≡ get_or ps i q → times next x ≡ cond (in_piece q x) 0 (times left x) → IsLeft p ps (drop i ps) left x → IsLeft p ps (drop (i + 1) ps) next x
-left_next p ps left next i q x lt is taken before = record {
-  kept = ap (λ (n : ℕ). cond (holds (drop (i + 1) ps) x) 0 n) taken
-      ∙ cond_or (in_piece q x) (holds (drop (i + 1) ps) x) (times left x)
-      ∙ ap (λ (qs : List Piece). cond (holds qs x) 0 (times left x)) (sym (rest_is ps i q lt is))
-      ∙ before.kept;
-  within = omega (arith, taken, cond_less (in_piece q x) (times left x) (one (in_piece p x)) before.within);
-}
+pub left_next : (qs : List Piece) (i : ℕ) (q : Piece) (m n x : ℕ) → i < length qs → q ≡ get_or qs i q → n ≡ cond (in_piece q x) 0 m →
+    cond (holds (drop (i + 1) qs) x) 0 n ≡ cond (holds (drop i qs) x) 0 m
+left_next qs i q m n x lt is taken = ap (cond (holds (drop (i + 1) qs) x) 0) taken
+    ∙ cond_or (in_piece q x) (holds (drop (i + 1) qs) x) m
+    ∙ ap (λ (rs : List Piece). cond (holds rs x) 0 m) (sym (rest_is qs i q lt is))
+
+held_either : (a b c : Bool) (m n k : ℕ) → a ≡ ltb 0 m → b ≡ ltb 0 n → c ≡ ltb 0 k → m + n ≡ k → (a || b) ≡ c
+held_either a b c m n k is_a is_b is_c all = elim (cases_lt 0 m) [
+  | inl some ↦ (let held : a ≡ true = is_a ∙ lt-ltb 0 m some in let whole : c ≡ true = is_c ∙ lt-ltb 0 k (omega (arith, all, some)) in ap (λ (d : Bool). d || b) held ∙ sym whole)
+  | inr none ↦ (let empty : m ≡ 0 = omega (arith, none) in let same : n ≡ k = omega (arith, all, empty) in ap (λ (d : Bool). d || b) (is_a ∙ ap (ltb 0) empty) ∙ is_b ∙ ap (ltb 0) same ∙ sym is_c)
+]
+
+-- those that are kept and those from the place on leave what the list does
+pub left_alive : (p : Piece) (ps alive : List Piece) (place n x : ℕ) → AreAlive ps place alive p.low → n ≡ cond (holds alive x) 0 (one (in_piece p x)) →
+    cond (holds (drop place ps) x) 0 n ≡ cond (holds ps x) 0 (one (in_piece p x))
+left_alive p ps alive place n x are is = ap (cond (holds (drop place ps) x) 0) is ∙ cases_in (in_piece p x)
+    (λ b. cond (holds (drop place ps) x) 0 (cond (holds alive x) 0 (one b)) ≡ cond (holds ps x) 0 (one b))
+    (λ held. cond_or (holds alive x) (holds (drop place ps) x) 1
+    ∙ ap (λ (b : Bool). cond b 0 1) (held_either (holds alive x) (holds (drop place ps) x) (holds ps x) (times alive x) (times (drop place ps) x) (times ps x) (holds_is alive x) (holds_is (drop place ps) x) (holds_is ps x) (are x (from_first p x held))))
+    (λ out. ap (cond (holds (drop place ps) x) 0) (cond_none (holds alive x)) ∙ cond_none (holds (drop place ps) x) ∙ sym (cond_none (holds ps x)))
+
+-- one more piece was taken off, after those that end before it were put out
+pub left_behind : (qs : List Piece) (i : ℕ) (q : Piece) (out next m n x : ℕ) → i < length qs → q ≡ get_or qs i q →
+    next + n ≡ out + cond (in_piece q x) 0 m → (holds (drop (i + 1) qs) x ≡ true → next ≡ out) →
+    next + cond (holds (drop (i + 1) qs) x) 0 n ≡ out + cond (holds (drop i qs) x) 0 m
+left_behind qs i q out next m n x lt is all same =
+    behind (in_piece q x) (holds (drop (i + 1) qs) x) out next m n all same
+    ∙ ap (λ (rs : List Piece). out + cond (holds rs x) 0 m) (sym (rest_is qs i q lt is)) where
+      behind : (b h : Bool) (out next m n : ℕ) → next + n ≡ out + cond b 0 m → (h ≡ true → next ≡ out) → next + cond h 0 n ≡ out + cond (b || h) 0 m
+      behind true true out next m n all same = omega (arith, same refl)
+      behind true false out next m n all same = all
+      behind false true out next m n all same = omega (arith, same refl)
+      behind false false out next m n all same = all
+
+-- where what follows has a number, the piece at the place begins no higher
+pub begun : (qs : List Piece) (i : ℕ) (q : Piece) (x : ℕ) → Ascends qs → i < length qs → q ≡ get_or qs i q → holds (drop (i + 1) qs) x ≡ true → q.low ≤ x
+begun qs i q x up lt is held = elim (cases_lt x q.low) [
+  | inr from ↦ from
+  | inl below ↦ (
+      let none : times (drop i qs) x ≡ 0 = up i q lt x (omega (arith, below, ap (λ (p : Piece). p.low) is)) in
+      let less : times (drop (i + 1) qs) x ≡ 0 = omega (arith, none, times_rest qs i q x lt is) in
+      absurd (false≢true (sym (holds_as (drop (i + 1) qs) [] x less) ∙ held))
+      )
+]
 
 -- the rest takes nothing off
-pub left_all : (p : Piece) (ps rest left : List Piece) (x : ℕ) → IsLeft p ps rest left x → one (in_piece p x) * times rest x ≡ 0 → times left x ≡ cond (holds ps x) 0 (one (in_piece p x))
-left_all p ps rest left x is none = cases_in (in_piece p x) (λ b. b ≡ in_piece p x → times left x ≡ cond (holds ps x) 0 (one (in_piece p x)))
-    (λ held _.
+pub left_apart : (p : Piece) (rest : List Piece) (n x : ℕ) → n ≤ one (in_piece p x) → one (in_piece p x) * times rest x ≡ 0 → cond (holds rest x) 0 n ≡ n
+left_apart p rest n x within none = cases_in (in_piece p x) (λ b. b ≡ in_piece p x → cond (holds rest x) 0 n ≡ n)
+    (λ held is.
     let nothing : times rest x ≡ 0 = omega (arith, none, ap (λ (b : Bool). one b * times rest x) held) in
-    ap (λ (b : Bool). cond b 0 (times left x)) (sym (holds_as rest [] x nothing)) ∙ is.kept)
-    (λ out _.
-    let empty : times left x ≡ 0 = omega (arith, is.within, ap one out) in
-    empty ∙ sym (ap (λ (b : Bool). cond (holds ps x) 0 (one b)) out ∙ cond_none (holds ps x)))
+    ap (λ (b : Bool). cond b 0 n) (holds_as rest [] x nothing))
+    (λ out is.
+    let empty : n ≡ 0 = omega (arith, within, ap one out) in
+    ap (cond (holds rest x) 0) empty ∙ cond_none (holds rest x) ∙ sym empty)
     refl
+
+-- a piece that ends before another loses nothing by it
+pub ends_before : (p q : Piece) (x : ℕ) → p.high < q.low → one (in_piece p x && not (in_piece q x)) ≡ one (in_piece p x)
+ends_before p q x lt = cases_in (in_piece q x) (λ b. one (in_piece p x && not b) ≡ one (in_piece p x))
+    (λ held. ap (λ (b : Bool). one (b && false)) (ended p x (omega (arith, lt, from_first q x held))) ∙ sym (not_reaching p q.low x lt (from_first q x held)))
+    (λ out. kept (in_piece p x)) where
+      kept : (b : Bool) → one (b && true) ≡ one b
+      kept true = refl
+      kept false = refl
+
+pub left_within : (a b : Bool) (n : ℕ) → n ≡ cond a 0 (one b) → n ≤ one b
+left_within true b n is = omega (arith, is)
+left_within false b n is = omega (arith, is)
 
 pub rest_none : (p : Piece) (ps : List Piece) (i x : ℕ) → length ps ≤ i → one (in_piece p x) * times (drop i ps) x ≡ 0
 rest_none p ps i x past = ap (λ (n : ℕ). one (in_piece p x) * n) (times_done ps i x past) ∙ omega arith

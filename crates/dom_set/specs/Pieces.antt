@@ -64,9 +64,9 @@ IsLast test o = MatchOption o ((x : ℕ) → test x ≡ false) (λ v. (test v �
 abbrev pub Ascends : List Piece → Type 0
 Ascends ps = (k : ℕ) (d : Piece) → k < length ps → (x : ℕ) → x < (get_or ps k d).low → times (drop k ps) x ≡ 0
 
--- the pieces before the place hold no number from the given one on
-abbrev pub IsPassed : List Piece → ℕ → ℕ → Type 0
-IsPassed ps place from = (x : ℕ) → from ≤ x → times (drop place ps) x ≡ times ps x
+-- from the number on those that are kept hold each as often as the pieces before the place
+abbrev pub AreAlive : List Piece → ℕ → List Piece → ℕ → Type 0
+AreAlive ps place alive from = (x : ℕ) → from ≤ x → times alive x + times (drop place ps) x ≡ times ps x
 
 -- the greater of two numbers that may be missing
 abbrev pub greater : Option ℕ → Option ℕ → Option ℕ

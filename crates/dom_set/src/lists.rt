@@ -1,9 +1,9 @@
 // Lists of pieces.
-ghost use Rattle.std.specs.Prelude.{◌≡◌, ℕ, ◌+◌, ◌-◌, ◌*◌, ◌%◌, ◌^◌, ◌<◌, ◌≤◌, ◌↔◌, ◌&&◌, not, true, false, bit_and, All, IfSome, IsTrue, nat_lt, nat_le, if◌then◌else◌, IfOk, OnOk};
+ghost use Rattle.std.specs.Prelude.{◌≡◌, ℕ, ◌+◌, ◌-◌, ◌*◌, ◌%◌, ◌^◌, ◌<◌, ◌≤◌, ◌↔◌, ◌&&◌, not, true, false, bit_and, All, List, length, drop, IfSome, IsTrue, nat_lt, nat_le, if◌then◌else◌, IfOk, OnOk};
 ghost use Rattle.dom_set.specs.Counting.{one, total};
 ghost use Rattle.dom_set.specs.Elements.{is_matching, is_within};
 ghost use Rattle.dom_set.specs.Patterns.{matches};
-ghost use Rattle.dom_set.specs.Pieces.{in_span, in_piece, is_held, times, holds, Ascends, HasPage, IsApart, IsFirstFrom, IsLast, IsPart, IsPassed, greater, lesser};
+ghost use Rattle.dom_set.specs.Pieces.{in_span, in_piece, is_held, times, holds, Ascends, HasPage, IsApart, IsFirstFrom, IsLast, IsPart, AreAlive, greater, lesser};
 
 use crate::error::OutOfMemory;
 use crate::piece::Piece;
@@ -179,20 +179,72 @@ fn ascend(pieces: &[Piece]) -> bool
     true
 }
 
-/// A place before which no piece reaches from a number on. The pieces before the given place do not reach from
-/// the old number on.
-fn next_place(pieces: &[Piece], place: usize, old: u32, from: u32) -> usize
-    requires { IsPassed pieces.now place old }
-    ensures { IsPassed pieces.now result from }
+/// Puts the pieces in the order of their first numbers.
+fn put_in_order(pieces: &mut Vec<Piece>)
+    ensures { (x : ℕ) → times pieces.new.items x ≡ times pieces.old.items x }
 {
-    let mut next = if old <= from { place } else { 0 };
-    while next < pieces.len() && pieces[next].high < from {
-        next += 1;
+    if !ascend(pieces) {
+        pieces.sort_unstable_by_key(|p| p.low);
     }
-    next
 }
 
-/// Appends what the piece and those of the list have in common. Those before the place do not reach it.
+/// Where a walk through a list goes on: at its place, with those of the pieces before it that reach from the number
+/// on, or from the start where the number lies before the old one.
+fn resumed(alive: &mut Vec<Piece>, place: usize, old: u32, from: u32) -> usize
+    ensures { (ps : List Piece) → AreAlive ps place alive.old.items old → AreAlive ps result alive.new.items from }
+{
+    if old <= from {
+        alive.retain(|p| from <= p.high);
+        place
+    } else {
+        alive.clear();
+        0
+    }
+}
+
+/// Appends the piece, if it reaches from the number on.
+fn push_alive(alive: &mut Vec<Piece>, p: Piece, from: u32) -> Result<(), OutOfMemory>
+    ensures { OnOk result ((x : ℕ) → from ≤ x →
+        times alive.new.items x ≡ times alive.old.items x + one (in_piece p x)) }
+{
+    if from <= p.high {
+        alive.push(p)?;
+    }
+    Ok(())
+}
+
+/// Whether a walk through the list goes on from the place: where the piece there ends before the number, or the next
+/// one does not begin behind it.
+fn is_passed(pieces: &[Piece], place: usize, from: u32) -> bool
+    ensures { IsTrue result → place < length pieces.now }
+{
+    if place >= pieces.len() {
+        return false;
+    }
+    pieces[place].high < from || (place < pieces.len() - 1 && pieces[place + 1].low <= from)
+}
+
+/// The place of a walk through a list at a number, and those of the pieces before it that reach from the number on.
+/// Where the list ascends, one is kept only if the next one begins no later than it ends.
+fn next_place(
+    alive: &mut Vec<Piece>,
+    pieces: &[Piece],
+    place: usize,
+    old: u32,
+    from: u32,
+) -> Result<usize, OutOfMemory>
+    requires { AreAlive pieces.now place alive.old.items old }
+    ensures { IfOk result (λ next. AreAlive pieces.now next alive.new.items from) }
+{
+    let mut next = resumed(alive, place, old, from);
+    while is_passed(pieces, next, from) {
+        push_alive(alive, pieces[next], from)?;
+        next += 1;
+    }
+    Ok(next)
+}
+
+/// Appends what the piece and those of the list from a place on have in common.
 fn push_common(
     out: &mut Vec<Piece>,
     p: Piece,
@@ -200,10 +252,9 @@ fn push_common(
     place: usize,
     ascending: bool,
 ) -> Result<(), OutOfMemory>
-    requires passed { IsPassed others.now place p.low }
-    requires ascending { IsTrue ascending → Ascends others.now }
+    requires { IsTrue ascending → Ascends others.now }
     ensures { OnOk result ((x : ℕ) → times out.new.items x ≡
-        times out.old.items x + one (in_piece p x) * times others.now x) }
+        times out.old.items x + one (in_piece p x) * times (drop place others.now) x) }
 {
     for i in place..others.len() {
         if ascending && p.high < others[i].low {
@@ -221,13 +272,16 @@ pub fn common(alloc: Global, pieces: &[Piece], others: &[Piece]) -> Result<Vec<P
 {
     let mut out = Vec::new(alloc);
     let ascending = ascend(others);
+    let mut alive = Vec::new(alloc);
     let mut place = 0;
     let mut low = 0;
     for p in pieces {
-        place = next_place(others, place, low, p.low);
+        place = next_place(&mut alive, others, place, low, p.low)?;
         low = p.low;
+        push_common(&mut out, *p, &alive, 0, false)?;
         push_common(&mut out, *p, others, place, ascending)?;
     }
+    put_in_order(&mut out);
     Ok(out)
 }
 
@@ -312,28 +366,62 @@ fn without(alloc: Global, pieces: &[Piece], q: Piece) -> Result<Vec<Piece>, OutO
     Ok(out)
 }
 
-/// What the list leaves of the piece. Those before the place do not reach it.
-fn left_of(
-    alloc: Global,
-    p: Piece,
-    others: &[Piece],
-    place: usize,
-    ascending: bool,
-) -> Result<Vec<Piece>, OutOfMemory>
-    requires passed { IsPassed others.now place p.low }
-    requires ascending { IsTrue ascending → Ascends others.now }
+/// What the list leaves of the piece.
+fn left_of(alloc: Global, p: Piece, others: &[Piece]) -> Result<Vec<Piece>, OutOfMemory>
     ensures { IfOk result (λ v. (x : ℕ) →
         times v.items x ≡ (if holds others.now x then 0 else one (in_piece p x))) }
 {
     let mut left = Vec::new(alloc);
     left.push(p)?;
-    for i in place..others.len() {
-        if ascending && p.high < others[i].low {
-            return Ok(left);
-        }
-        left = without(alloc, &left, others[i])?;
+    for q in others {
+        left = without(alloc, &left, *q)?;
     }
     Ok(left)
+}
+
+/// Appends what the second piece leaves of the first: to what is done, if the first ends before the second begins and
+/// those that follow the second ascend, or else to the rest.
+fn push_part(
+    done: &mut Vec<Piece>,
+    rest: &mut Vec<Piece>,
+    p: Piece,
+    q: Piece,
+    ascending: bool,
+) -> Result<(), OutOfMemory>
+    ensures all { OnOk result ((x : ℕ) → times done.new.items x + times rest.new.items x ≡
+        times done.old.items x + times rest.old.items x + one (in_piece p x && not (in_piece q x))) }
+    ensures before { OnOk result ((x : ℕ) → (IsTrue ascending → q.low ≤ x) →
+        times done.new.items x ≡ times done.old.items x) }
+    ensures within { OnOk result ((x : ℕ) →
+        times rest.new.items x ≤ times rest.old.items x + one (in_piece p x)) }
+{
+    if ascending && p.high < q.low {
+        push_piece(done, Some(p))?;
+        return Ok(());
+    }
+    push_less(rest, p, q)
+}
+
+/// What the piece leaves of the list, but for those that end before it begins, if those that follow it ascend: these
+/// are done, and appended to the first list.
+fn left_behind(
+    done: &mut Vec<Piece>,
+    alloc: Global,
+    pieces: &[Piece],
+    q: Piece,
+    ascending: bool,
+) -> Result<Vec<Piece>, OutOfMemory>
+    ensures all { IfOk result (λ v. (x : ℕ) → times done.new.items x + times v.items x ≡
+        times done.old.items x + (if in_piece q x then 0 else times pieces.now x)) }
+    ensures before { OnOk result ((x : ℕ) → (IsTrue ascending → q.low ≤ x) →
+        times done.new.items x ≡ times done.old.items x) }
+    ensures within { IfOk result (λ v. (x : ℕ) → times v.items x ≤ times pieces.now x) }
+{
+    let mut rest = Vec::new(alloc);
+    for p in pieces {
+        push_part(done, &mut rest, *p, q, ascending)?;
+    }
+    Ok(rest)
 }
 
 /// Appends the pieces.
@@ -347,6 +435,33 @@ fn push_all(out: &mut Vec<Piece>, pieces: &[Piece]) -> Result<(), OutOfMemory>
     Ok(())
 }
 
+/// Appends what the pieces of the list from a place on leave of a first list, which is a part of the piece.
+fn push_left(
+    out: &mut Vec<Piece>,
+    alloc: Global,
+    first: Vec<Piece>,
+    p: Piece,
+    others: &[Piece],
+    place: usize,
+    ascending: bool,
+) -> Result<(), OutOfMemory>
+    requires ascending { IsTrue ascending → Ascends others.now }
+    requires within { (x : ℕ) → times first.items x ≤ one (in_piece p x) }
+    ensures { OnOk result ((x : ℕ) → times out.new.items x ≡
+        times out.old.items x + (if holds (drop place others.now) x then 0 else times first.items x)) }
+{
+    let mut left = first;
+    for i in place..others.len() {
+        if ascending && p.high < others[i].low {
+            push_all(out, &left)?;
+            return Ok(());
+        }
+        left = left_behind(out, alloc, &left, others[i], ascending)?;
+    }
+    push_all(out, &left)?;
+    Ok(())
+}
+
 /// What the second list leaves of the first.
 pub fn minus(alloc: Global, pieces: &[Piece], others: &[Piece]) -> Result<Vec<Piece>, OutOfMemory>
     ensures { IfOk result (λ v. (x : ℕ) →
@@ -354,14 +469,16 @@ pub fn minus(alloc: Global, pieces: &[Piece], others: &[Piece]) -> Result<Vec<Pi
 {
     let mut out = Vec::new(alloc);
     let ascending = ascend(others);
+    let mut alive = Vec::new(alloc);
     let mut place = 0;
     let mut low = 0;
     for p in pieces {
-        place = next_place(others, place, low, p.low);
+        place = next_place(&mut alive, others, place, low, p.low)?;
         low = p.low;
-        let left = left_of(alloc, *p, others, place, ascending)?;
-        push_all(&mut out, &left)?;
+        let left = left_of(alloc, *p, &alive)?;
+        push_left(&mut out, alloc, left, *p, others, place, ascending)?;
     }
+    put_in_order(&mut out);
     Ok(out)
 }
 
@@ -392,6 +509,37 @@ fn push_shifted(
     }
 }
 
+/// So many numbers, from each multiple on, tell all bits of the piece's mask apart.
+fn block_of(p: Piece) -> u64
+    ensures { 0 < result }
+{
+    (u64::from(p.pattern.mask) + 1).next_power_of_two()
+}
+
+/// Whether the piece reaches into fewer blocks than it has residues in one.
+fn has_few_blocks(p: Piece) -> bool {
+    let block = block_of(p);
+    let blocks = (u64::from(p.high) / block).saturating_sub(u64::from(p.low) / block);
+    blocks < (block >> p.pattern.mask.count_ones()).saturating_sub(1)
+}
+
+/// Appends each number plus the distance, modulo 2^32, block by block: of numbers of one block a range may be left.
+fn push_blocks(out: &mut Vec<Piece>, p: Piece, distance: u32) -> Result<(), OutOfMemory>
+    ensures { OnOk result ((y : ℕ) → y < 2 ^ 32 → times out.new.items y ≡
+        times out.old.items y + one (in_piece p ((y + (2 ^ 32 - distance)) % 2 ^ 32))) }
+{
+    let block = block_of(p);
+    let mut from = u64::from(p.low);
+    while from <= u64::from(p.high) {
+        let end = (from - from % block).saturating_add(block);
+        if let Some(part) = p.clipped(from, end) {
+            push_shifted(out, part.tightened(), distance)?;
+        }
+        from = end;
+    }
+    Ok(())
+}
+
 /// Each number plus the distance, modulo 2^32.
 pub fn shifted(alloc: Global, pieces: &[Piece], distance: u32) -> Result<Vec<Piece>, OutOfMemory>
     ensures { IfOk result (λ v. (y : ℕ) → y < 2 ^ 32 →
@@ -399,10 +547,25 @@ pub fn shifted(alloc: Global, pieces: &[Piece], distance: u32) -> Result<Vec<Pie
 {
     let mut out = Vec::new(alloc);
     for p in pieces {
-        push_shifted(&mut out, Some(*p), distance)?;
+        if has_few_blocks(*p) {
+            push_blocks(&mut out, *p, distance)?;
+        } else {
+            push_shifted(&mut out, p.tightened(), distance)?;
+        }
     }
-    // What goes on from 0 comes behind the rest.
-    out.sort_unstable_by_key(|p| p.low);
+    put_in_order(&mut out);
+    Ok(out)
+}
+
+/// The numbers that they hold when bit 0 is cleared.
+pub fn with_odd(alloc: Global, pieces: &[Piece]) -> Result<Vec<Piece>, OutOfMemory>
+    ensures { IfOk result (λ v. (x : ℕ) → x < 2 ^ 32 →
+        times v.items x ≡ times pieces.now (x - x % 2)) }
+{
+    let mut out = Vec::new(alloc);
+    for p in pieces {
+        push_piece(&mut out, p.with_odd())?;
+    }
     Ok(out)
 }
 
@@ -419,43 +582,6 @@ pub fn are_same(pieces: &[Piece], others: &[Piece]) -> bool
     size == count_below(others, END) && size == count_common(pieces, others)
 }
 
-/// Whether a piece of the list has a number of the piece.
-fn meets(pieces: &[Piece], p: Piece) -> bool
-    ensures { result ≡ false → (x : ℕ) → in_piece p x ≡ true → times pieces.now x ≡ 0 }
-{
-    for q in pieces {
-        if p.common(*q).is_some() {
-            return true;
-        }
-    }
-    false
-}
-
-/// Takes from the list what the piece holds, where that is anything.
-fn make_room(pieces: &mut Vec<Piece>, alloc: Global, p: Piece) -> Result<(), OutOfMemory>
-    ensures { OnOk result ((x : ℕ) →
-        times pieces.new.items x ≡ (if in_piece p x then 0 else times pieces.old.items x)) }
-{
-    if meets(pieces, p) {
-        *pieces = without(alloc, pieces, p)?;
-        return Ok(());
-    }
-    Ok(())
-}
-
-/// Adds the numbers of the piece, if there is one, so that each stands there once.
-fn add(pieces: &mut Vec<Piece>, alloc: Global, piece: Option<Piece>) -> Result<(), OutOfMemory>
-    ensures { OnOk result ((x : ℕ) →
-        times pieces.new.items x ≡ (if is_held piece x then 1 else times pieces.old.items x)) }
-{
-    let Some(p) = piece else {
-        return Ok(());
-    };
-    make_room(pieces, alloc, p)?;
-    pieces.push(p)?;
-    Ok(())
-}
-
 /// The numbers of the first list, and those of the second one that it lacks.
 pub fn either(alloc: Global, pieces: &[Piece], others: &[Piece]) -> Result<Vec<Piece>, OutOfMemory>
     ensures { IfOk result (λ v. (x : ℕ) →
@@ -463,7 +589,33 @@ pub fn either(alloc: Global, pieces: &[Piece], others: &[Piece]) -> Result<Vec<P
 {
     let mut out = minus(alloc, others, pieces)?;
     push_all(&mut out, pieces)?;
-    out.sort_unstable_by_key(|p| p.low);
+    put_in_order(&mut out);
+    Ok(out)
+}
+
+/// The numbers of the pieces, each once.
+fn united(alloc: Global, pieces: &[Piece]) -> Result<Vec<Piece>, OutOfMemory>
+    ensures { IfOk result (λ v. (x : ℕ) → times v.items x ≡ one (holds pieces.now x)) }
+{
+    if pieces.len() < 2 {
+        let all = Vec::from_slice(alloc, pieces)?;
+        return Ok(all);
+    }
+    let (front, back) = pieces.split_at(pieces.len() / 2);
+    let first = united(alloc, front)?;
+    let second = united(alloc, back)?;
+    let both = either(alloc, &first, &second)?;
+    Ok(both)
+}
+
+/// The piece of each pattern that some number matches.
+fn pieces_matching(alloc: Global, patterns: &[(u32, u32)]) -> Result<Vec<Piece>, OutOfMemory>
+    ensures { IfOk result (λ v. (x : ℕ) → x < 2 ^ 32 → holds v.items x ≡ is_matching patterns.now x) }
+{
+    let mut out = Vec::new(alloc);
+    for pattern in patterns {
+        push_piece(&mut out, Piece::matching(pattern.0, pattern.1))?;
+    }
     Ok(out)
 }
 
@@ -473,9 +625,7 @@ pub fn matching(alloc: Global, patterns: &[(u32, u32)]) -> Result<Vec<Piece>, Ou
     ensures held { IfOk result (λ v. (x : ℕ) → x < 2 ^ 32 →
         holds v.items x ≡ is_matching patterns.now x) }
 {
-    let mut out = Vec::new(alloc);
-    for pattern in patterns {
-        add(&mut out, alloc, Piece::matching(pattern.0, pattern.1))?;
-    }
-    Ok(out)
+    let pieces = pieces_matching(alloc, patterns)?;
+    let apart = united(alloc, &pieces)?;
+    Ok(apart)
 }

@@ -12,7 +12,7 @@ pub struct Pattern {
 }
 
 impl Pattern {
-    ghost use Rattle.std.specs.Prelude.{◌≡◌, ℕ, ◌+◌, ◌-◌, ◌*◌, ◌/◌, ◌^◌, ◌<◌, ◌≤◌, ◌↔◌, ◌&&◌, true, false, not, IfSome, IsNone};
+    ghost use Rattle.std.specs.Prelude.{◌≡◌, ℕ, ◌+◌, ◌-◌, ◌*◌, ◌/◌, ◌%◌, ◌^◌, ◌<◌, ◌≤◌, ◌↔◌, ◌&&◌, true, false, not, IfSome, IsNone};
     ghost use Rattle.dom_set.specs.Counting.{one, total};
     ghost use Rattle.dom_set.specs.Patterns.{is_matched, matches, matches_below, IsStep};
     ghost use Rattle.dom_set.specs.Pieces.{IsLastTo};
@@ -175,6 +175,38 @@ impl Pattern {
                 bits: self.bits | free,
             },
         ))
+    }
+
+    /// A pattern that the same numbers match between two of which the first matches: the highest bits, which all
+    /// numbers between these share, are left out.
+    #[tactic(auto, using(crate::proofs::Halving::low_half, crate::proofs::Halving::within_pair))]
+    pub fn between(self, low: u32, high: u32) -> Pattern
+        requires ordered { low ≤ high }
+        requires matching { matches self low ≡ true }
+        ensures same { (x : ℕ) → low ≤ x → x ≤ high → matches result x ≡ matches self x }
+        ensures fewer { result.mask ≤ self.mask }
+    {
+        if low == high {
+            return Pattern { mask: 0, bits: 0 };
+        }
+        let rest = self.half().between(low / 2, high / 2);
+        Pattern {
+            mask: 2 * rest.mask + self.mask % 2,
+            bits: 2 * rest.bits + self.bits % 2,
+        }
+    }
+
+    /// The pattern of the numbers that match when bit 0 is cleared.
+    pub fn with_odd(self) -> Option<Pattern>
+        ensures { (x : ℕ) → is_matched result x ≡ matches self (x - x % 2) }
+    {
+        if self.bits % 2 == 1 {
+            return None;
+        }
+        Some(Pattern {
+            mask: self.mask - self.mask % 2,
+            bits: self.bits,
+        })
     }
 
     /// The pattern of the numbers that match, plus the distance.

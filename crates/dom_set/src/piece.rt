@@ -15,7 +15,7 @@ pub struct Piece {
 }
 
 impl Piece {
-    ghost use Rattle.std.specs.Prelude.{◌≡◌, ℕ, ◌+◌, ◌-◌, ◌^◌, ◌<◌, ◌≤◌, ◌&&◌, ◌==◌, true, false, not, nat_lt, nat_le, bit_and, IfSome, IsNone};
+    ghost use Rattle.std.specs.Prelude.{◌≡◌, ℕ, ◌+◌, ◌-◌, ◌%◌, ◌^◌, ◌<◌, ◌≤◌, ◌&&◌, ◌==◌, true, false, not, nat_lt, nat_le, bit_and, IfSome, IsNone};
     ghost use Rattle.dom_set.specs.Counting.{one, total};
     ghost use Rattle.dom_set.specs.Patterns.{matches, matches_below, IsStep};
     ghost use Rattle.dom_set.specs.Pieces.{in_span, in_piece, is_held, HasPage, HoldsSome, IsFirstFrom, IsLast, IsPart};
@@ -123,6 +123,19 @@ impl Piece {
         Some((low, high))
     }
 
+    /// The same numbers, from the first of them to the last one, by a pattern without the highest bits that they share.
+    pub fn tightened(self) -> Option<Piece>
+        ensures { (x : ℕ) → is_held result x ≡ in_piece self x }
+    {
+        let low = self.first_from(0)?;
+        let high = self.last()?;
+        Some(Piece {
+            low,
+            high,
+            pattern: self.pattern.between(low, high),
+        })
+    }
+
     /// A page from the given one on, so that each page before it, from the given one on, has one of the numbers.
     pub fn pages_end(self, page: u32) -> u32
         requires { page ≤ 2 ^ 20 }
@@ -179,6 +192,29 @@ impl Piece {
             Some(pattern) => {
                 let part = self.with_pattern(pattern);
                 part.clipped(u64::from(other.low), u64::from(other.high) + 1)
+            }
+            None => None,
+        }
+    }
+
+    /// The numbers that it holds when bit 0 is cleared.
+    pub fn with_odd(self) -> Option<Piece>
+        ensures held { (x : ℕ) → x < 2 ^ 32 → is_held result x ≡ in_piece self (x - x % 2) }
+        ensures some { IfSome result HoldsSome }
+    {
+        let low = u64::from(self.low) + u64::from(self.low % 2);
+        let high = self.high - self.high % 2 + 1;
+        if u64::from(high) < low {
+            return None;
+        }
+        match self.pattern.with_odd() {
+            Some(pattern) => {
+                let both = Piece {
+                    low: low as u32,
+                    high,
+                    pattern,
+                };
+                both.clipped(0, END)
             }
             None => None,
         }

@@ -231,6 +231,14 @@ impl Set {
         Ok(Set { pieces })
     }
 
+    /// The words that are elements when bit 0 is cleared: each even element, and the number after it.
+    pub fn with_odd(&self, alloc: Global) -> Result<Set, OutOfMemory>
+        ensures { IfOk result (λ s. s ≡ elements_of (λ x. is_in self.now (x - x % 2))) }
+    {
+        let pieces = lists::with_odd(alloc, &self.pieces)?;
+        Ok(Set { pieces })
+    }
+
     /// The elements that are less than the number.
     pub fn below(&self, alloc: Global, x: u32) -> Result<Set, OutOfMemory>
         ensures { IfOk result (λ s. s ≡ filter (λ y. nat_lt y x) self.now) }

@@ -1,25 +1,18 @@
 -- What the targets of jumps say of variables.
-use Rattle.std.proofs.Common.{◌≡◌, ◌==◌, ℕ, ◌+◌, ◌-◌, ◌%◌, ◌<◌, ◌^◌, ◌&&◌, ◌||◌, Bool, true, List, [], ◌∷◌, IsTrue, sym, ap, ◌∙◌, subst, arith, eq-eqb}
-use Rattle.std.specs.List.{filter}
-use Rattle.dom_set.specs.Elements.{elements_of, is_in, is_within}
+use Rattle.std.proofs.Common.{◌≡◌, ℕ, ◌+◌, ◌-◌, ◌%◌, ◌<◌, ◌^◌, Bool, List, IsTrue, sym, ap, ◌∙◌, subst, arith}
+use Rattle.dom_set.specs.Elements.{elements_of, is_in}
 use Rattle.dom_set.specs.Laws.{ElementsPass, IsInTests}
 use Rattle.fd_prob.specs.declared.problem.Assignment.{Assignment}
 use Rattle.fd_prob.specs.declared.slot.Slot.TheVariants as slots
 use Rattle.fd_prob.specs.Relations.{value_of}
 use Rattle.fd_narrow.specs.Steps.{Leaves}
-use Rattle.fd_narrow.specs.Targets.{HasEven, HasOddToo}
+use Rattle.fd_narrow.specs.Targets.{HasOddToo}
 use Rattle.fd_narrow.proofs.Compositions.{followed, weakened}
-use Rattle.set_sums.proofs.Members.{is_in-elements_of, is_in-filter, joined}
-use Rattle.set_sums.proofs.Spans.{pushed_has}
+use Rattle.set_sums.proofs.Members.{is_in-elements_of}
 
 module _ (pass : ElementsPass) (tests : IsInTests) where
-  pub either_has : (first second made : List ℕ) → made ≡ elements_of (λ x. is_in first x || is_in second x) → (v : ℕ) → v < 2 ^ 32 → IsTrue (is_in first v || is_in second v) → IsTrue (is_in made v)
-  either_has first second made is v small h = subst (λ (b : Bool). IsTrue b) (sym (ap (λ (d : List ℕ). is_in d v) is ∙ is_in-elements_of pass tests (λ x. is_in first x || is_in second x) v small)) h
-
-  pub even_has : (set evens even : List ℕ) → evens ≡ elements_of (λ x. x % 2 == 0 && is_within ((0, 2 ^ 32 - 1) ∷ []) x) → even ≡ filter (is_in evens) set → HasEven set even
-  even_has set evens even is_evens is v small zeroth h =
-      let here : is_in evens v ≡ true = ap (λ (d : List ℕ). is_in d v) is_evens ∙ is_in-elements_of pass tests (λ x. x % 2 == 0 && is_within ((0, 2 ^ 32 - 1) ∷ []) x) v small ∙ joined (v % 2 == 0) (is_within ((0, 2 ^ 32 - 1) ∷ []) v) (eq-eqb (v % 2) 0 zeroth) (pushed_has [] (0, 2 ^ 32 - 1) v (omega arith) (omega arith)) in
-      ap (λ (d : List ℕ). is_in d v) is ∙ is_in-filter (is_in evens) set v ∙ joined (is_in evens v) (is_in set v) here h
+  pub odd_has : (set made : List ℕ) → made ≡ elements_of (λ x. is_in set (x - x % 2)) → HasOddToo set made
+  odd_has set made is v small h = subst (λ (b : Bool). IsTrue b) (sym (ap (λ (d : List ℕ). is_in d v) is ∙ is_in-elements_of pass tests (λ x. is_in set (x - x % 2)) v small)) h
 
 pub indirect_narrows : (a b c : List (List ℕ)) (set sums : List ℕ) → HasOddToo set sums → Leaves (λ x. IsTrue (is_in sums ((value_of x slots.A + value_of x slots.Imm) % 2 ^ 32))) a b → Leaves (λ x. IsTrue (is_in sums ((value_of x slots.Imm + value_of x slots.A) % 2 ^ 32))) b c → Leaves (λ x. IsTrue (is_in set ((value_of x slots.A + value_of x slots.Imm) % 2 ^ 32 - (value_of x slots.A + value_of x slots.Imm) % 2 ^ 32 % 2))) a c
 indirect_narrows a b c set sums has one two =

@@ -5,7 +5,7 @@ use Rattle.fd_prob.specs.declared.problem.Assignment.{Assignment}
 use Rattle.fd_prob.specs.declared.slot.Slot.{Slot}
 use Rattle.fd_prob.specs.Relations.{is_sum, value_of}
 use Rattle.fd_narrow.specs.Narrowing.{IsInside, domain_in}
-use Rattle.set_sums.specs.Spans.{HasDifferences, HasHalves, HasSums}
+use Rattle.set_sums.specs.Spans.{HasDifferencesWithin, HasHalves, HasSumsWithin}
 use Rattle.fd_narrow.specs.Steps.{IsValueIn, Leaves}
 use Rattle.fd_narrow.proofs.Compositions.{followed, weakened}
 
@@ -16,13 +16,17 @@ summed x s t u h = eqb-true ((value_of x s + value_of x t) % 2 ^ 32) (value_of x
 pub there : (doms : List (List ℕ)) (s : Slot) (set : List ℕ) (x : Assignment) → set ≡ domain_in doms s → IsInside doms x → IsTrue (is_in set (value_of x s))
 there doms s set x at_s inside = subst (λ (d : List ℕ). IsTrue (is_in d (value_of x s))) (sym at_s) (inside s)
 
-pub total_narrows : (a b : List (List ℕ)) (s t u : Slot) (first second totals : List ℕ) → first ≡ domain_in a s → second ≡ domain_in a t → HasSums first second totals → Leaves (IsValueIn u totals) a b → Leaves (λ x. IsTrue (is_sum x s t u)) a b
-total_narrows a b s t u first second totals at_s at_t sums leaves = weakened (IsValueIn u totals) (λ x. IsTrue (is_sum x s t u)) a b
-    (λ x inside sum small. subst (λ (n : ℕ). IsTrue (is_in totals n)) (summed x s t u sum) (sums (value_of x s) (value_of x t) (there a s first x at_s inside) (there a t second x at_t inside))) leaves
+-- the sum of two values is in the domain of the third
+sum_there : (a : List (List ℕ)) (s t u : Slot) (whole : List ℕ) (x : Assignment) → whole ≡ domain_in a u → IsInside a x → IsTrue (is_sum x s t u) → IsTrue (is_in whole ((value_of x s + value_of x t) % 2 ^ 32))
+sum_there a s t u whole x at_u inside sum = subst (λ (n : ℕ). IsTrue (is_in whole n)) (sym (summed x s t u sum)) (there a u whole x at_u inside)
 
-pub part_narrows : (a b : List (List ℕ)) (s t u : Slot) (whole second parts : List ℕ) → whole ≡ domain_in a u → second ≡ domain_in a t → HasDifferences whole second parts → Leaves (IsValueIn s parts) a b → Leaves (λ x. IsTrue (is_sum x s t u)) a b
-part_narrows a b s t u whole second parts at_u at_t differences leaves = weakened (IsValueIn s parts) (λ x. IsTrue (is_sum x s t u)) a b
-    (λ x inside sum small. differences (value_of x s) (value_of x t) small (there a t second x at_t inside) (subst (λ (n : ℕ). IsTrue (is_in whole n)) (sym (summed x s t u sum)) (there a u whole x at_u inside))) leaves
+pub total_narrows : (a b : List (List ℕ)) (s t u : Slot) (first second whole totals : List ℕ) → first ≡ domain_in a s → second ≡ domain_in a t → whole ≡ domain_in a u → HasSumsWithin first second whole totals → Leaves (IsValueIn u totals) a b → Leaves (λ x. IsTrue (is_sum x s t u)) a b
+total_narrows a b s t u first second whole totals at_s at_t at_u sums leaves = weakened (IsValueIn u totals) (λ x. IsTrue (is_sum x s t u)) a b
+    (λ x inside sum small. subst (λ (n : ℕ). IsTrue (is_in totals n)) (summed x s t u sum) (sums (value_of x s) (value_of x t) (there a s first x at_s inside) (there a t second x at_t inside) (sum_there a s t u whole x at_u inside sum))) leaves
+
+pub part_narrows : (a b : List (List ℕ)) (s t u : Slot) (whole second domain parts : List ℕ) → whole ≡ domain_in a u → second ≡ domain_in a t → domain ≡ domain_in a s → HasDifferencesWithin whole second domain parts → Leaves (IsValueIn s parts) a b → Leaves (λ x. IsTrue (is_sum x s t u)) a b
+part_narrows a b s t u whole second domain parts at_u at_t at_s differences leaves = weakened (IsValueIn s parts) (λ x. IsTrue (is_sum x s t u)) a b
+    (λ x inside sum small. differences (value_of x s) (value_of x t) (there a s domain x at_s inside) (there a t second x at_t inside) (sum_there a s t u whole x at_u inside sum)) leaves
 
 turned_sum : (x : Assignment) (s t u : Slot) → IsTrue (is_sum x s t u) → IsTrue (is_sum x t s u)
 turned_sum x s t u h = eq-eqb ((value_of x t + value_of x s) % 2 ^ 32) (value_of x u) (ap (λ (n : ℕ). n % 2 ^ 32) (turned (value_of x t) (value_of x s)) ∙ summed x s t u h) where

@@ -6,7 +6,7 @@ ghost use Rattle.fd_narrow.specs.Steps.{Leaves};
 use crate::domains::Domains;
 use dom_set::OutOfMemory;
 use fd_prob::Slot;
-use set_sums::{differences, halved, sums, words_of};
+use set_sums::{differences_within, halved, sums_within, words_of};
 use std::alloc::Global;
 
 impl Domains {
@@ -20,7 +20,7 @@ impl Domains {
     ) -> Result<(), OutOfMemory>
         ensures { OnOk result (Leaves (λ x. IsTrue (is_sum x s t sum)) self.old self.new) }
     {
-        let totals = sums(alloc, self.domain(s), self.domain(t))?;
+        let totals = sums_within(alloc, self.domain(s), self.domain(t), self.domain(sum))?;
         self.cut(alloc, sum, &totals)
     }
 
@@ -28,7 +28,7 @@ impl Domains {
     fn narrow_part(&mut self, alloc: Global, s: Slot, t: Slot, sum: Slot) -> Result<(), OutOfMemory>
         ensures { OnOk result (Leaves (λ x. IsTrue (is_sum x s t sum)) self.old self.new) }
     {
-        let parts = differences(alloc, self.domain(sum), self.domain(t))?;
+        let parts = differences_within(alloc, self.domain(sum), self.domain(t), self.domain(s))?;
         self.cut(alloc, s, &parts)
     }
 

@@ -1,44 +1,24 @@
 // Where branches and jumps go.
-ghost use Rattle.std.specs.Prelude.{ℕ, ◌+◌, ◌-◌, ◌%◌, ◌^◌, ◌<◌, ◌||◌, IfOk, IsTrue, OnOk};
+ghost use Rattle.std.specs.Prelude.{ℕ, ◌+◌, ◌-◌, ◌%◌, ◌^◌, IfOk, IsTrue, OnOk};
 ghost use Rattle.dom_set.specs.Elements.{is_in};
 ghost use Rattle.fd_prob.specs.Relations.{has_target, value_of};
 ghost use Rattle.fd_prob.specs.declared.slot.Slot.TheVariants as slots;
 ghost use Rattle.fd_narrow.specs.Steps.{Leaves};
-ghost use Rattle.fd_narrow.specs.Targets.{HasEven, HasOddToo};
+ghost use Rattle.fd_narrow.specs.Targets.{HasOddToo};
 
 use crate::domains::Domains;
 use dom_set::{OutOfMemory, Set, set_laws};
 use fd_prob::Slot;
 use rv_isa::Op;
-use set_sums::{differences, shifted};
+use set_sums::{differences_within, shifted};
 use std::alloc::Global;
-
-/// What is in one of the sets.
-fn either(alloc: Global, first: &Set, second: &Set) -> Result<Set, OutOfMemory>
-    ensures { IfOk result (λ set. (v : ℕ) → v < 2 ^ 32 → IsTrue (is_in first.now v || is_in second.now v) → IsTrue (is_in set v)) }
-{
-    set_laws();
-    let either = first.or(alloc, second)?;
-    Ok(either)
-}
-
-/// The even elements.
-fn even_of(alloc: Global, set: &Set) -> Result<Set, OutOfMemory>
-    ensures { IfOk result (HasEven set.now) }
-{
-    set_laws();
-    let evens = Set::from_ranges(alloc, &[(0, u32::MAX)], 2)?;
-    let even = set.and(alloc, &evens)?;
-    Ok(even)
-}
 
 /// The words that are elements when bit 0 is cleared.
 fn with_odd(alloc: Global, set: &Set) -> Result<Set, OutOfMemory>
     ensures { IfOk result (HasOddToo set.now) }
 {
-    let even = even_of(alloc, set)?;
-    let odd = shifted(alloc, &even, 1)?;
-    let both = either(alloc, &even, &odd)?;
+    set_laws();
+    let both = set.with_odd(alloc)?;
     Ok(both)
 }
 
@@ -61,7 +41,7 @@ impl Domains {
     ) -> Result<(), OutOfMemory>
         ensures { OnOk result (Leaves (λ x. IsTrue (is_in sums.now ((value_of x s + value_of x t) % 2 ^ 32))) self.old self.new) }
     {
-        let addends = differences(alloc, sums, self.domain(t))?;
+        let addends = differences_within(alloc, sums, self.domain(t), self.domain(s))?;
         self.cut(alloc, s, &addends)
     }
 

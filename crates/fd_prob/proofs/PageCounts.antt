@@ -1,6 +1,8 @@
 -- Counting pages that hold an address.
-use Rattle.std.proofs.Common.{◌≡◌, ℕ, zero, suc, ◌+◌, ◌-◌, ◌*◌, ◌/◌, ◌<◌, ◌≤◌, ◌^◌, Bool, true, false, List, [], ◌∷◌, Some, None, filter, find, length, nat_le, arith, refl, sym, ap, ◌∙◌, length-append, add-one, ◌==◌, ◌||◌, cond, subst, slice_index}
+use Rattle.std.proofs.Common.{◌≡◌, ℕ, zero, suc, ◌+◌, ◌-◌, ◌*◌, ◌/◌, ◌%◌, ◌<◌, ◌≤◌, ◌^◌, Bool, true, false, List, [], ◌∷◌, Option, Some, None, IfSome, All, filter, find, length, nat_le, arith, refl, sym, ap, ◌∙◌, length-append, add-one, ◌==◌, ◌||◌, cond, subst, slice_index}
 use Rattle.std.specs.List.Sorted.{IsStrictlyIncreasing}
+use Rattle.std.specs.Prelude.{bit_and, is_some}
+use Rattle.std.proofs.lemmas.Nat.{and_mask}
 use Rattle.std.proofs.lemmas.Bool.Decides.{nat_tests}
 use Rattle.std.proofs.lemmas.Option.{same_Some}
 use Rattle.fd_prob.proofs.Firsts.{passes}
@@ -138,3 +140,60 @@ pub run_to : (xs : List ℕ) (n end : ℕ) → n ≤ end → ((q : ℕ) → n �
 run_to xs n end up all =
     let whole : n + (end - n) ≡ end = omega (arith, up) in
     sym (ap (λ (m : ℕ). pages_below m xs) whole) ∙ run xs n (end - n) (λ q low high. all q low (omega (arith, high, up)))
+
+-- ---- addresses at one place of their pages
+
+-- a page does not count before it is reached, and then once more than those of the other addresses
+not_yet : (y : ℕ) (ys : List ℕ) (n : ℕ) → n ≤ y / 4096 → pages_below n (y ∷ ys) ≡ pages_below n ys
+not_yet y ys zero h = starting (y ∷ ys) ∙ sym (starting ys)
+not_yet y ys (suc n) h =
+    let under : n < y / 4096 = omega (arith, h) in
+    let same : tail (y ∷ ys) n ≡ tail ys n = rw (greater (y / 4096) n under) refl in
+    omega (arith, one_more (y ∷ ys) n, one_more ys n, same, not_yet y ys n (omega (arith, h)))
+
+counted : (y : ℕ) (ys : List ℕ) (n : ℕ) → has_page ys (y / 4096) ≡ false → y / 4096 < n → pages_below n (y ∷ ys) ≡ pages_below n ys + 1
+counted y ys zero other h = absurd (omega (arith, h))
+counted y ys (suc n) other h =
+    elim (y / 4096 == n) as (λ b. (y / 4096 == n) ≡ b → pages_below (suc n) (y ∷ ys) ≡ pages_below (suc n) ys + 1) [
+      | true ↦ λ t.
+          let at : y / 4096 ≡ n = eqb-true (y / 4096) n t in
+          let here : tail (y ∷ ys) n ≡ 1 = rw t refl in
+          let none : tail ys n ≡ 0 = empty ys n (ap (has_page ys) (sym at) ∙ other) in
+          omega (arith, one_more (y ∷ ys) n, one_more ys n, here, none, not_yet y ys n (omega (arith, at)))
+      | false ↦ λ t.
+          let under : y / 4096 < n = grind (arith, nat_tests) in
+          let same : tail (y ∷ ys) n ≡ tail ys n = rw t refl in
+          omega (arith, one_more (y ∷ ys) n, one_more ys n, same, counted y ys n other under)
+    ] refl
+
+-- the next address at the same place of its page is in a later page
+later_page : (y z : ℕ) → y < z → bit_and y 4095 ≡ bit_and z 4095 → y / 4096 < z / 4096
+later_page y z up same =
+    let e : y % 4096 ≡ z % 4096 = sym (and_mask y 12) ∙ same ∙ and_mask z 12 in
+    omega (arith, up, e)
+
+apart : (y : ℕ) (ys : List ℕ) → IsStrictlyIncreasing (y ∷ ys) → ((x : ℕ) → is_in (y ∷ ys) x ≡ true → bit_and x 4095 ≡ bit_and y 4095) → has_page ys (y / 4096) ≡ false
+apart y [] s same = refl
+apart y (z ∷ zs) s same =
+    let here : is_in (y ∷ z ∷ zs) z ≡ true = or_right (y == z) (is_in (z ∷ zs) z) (rw (eq-eqb z z refl) refl) in
+    let more : y / 4096 < z / 4096 = later_page y z (next y z zs s) (sym (same z here)) in
+    or_none (z / 4096 == y / 4096) (has_page zs (y / 4096)) (greater (z / 4096) (y / 4096) more) (above z (y / 4096) zs (rest y (z ∷ zs) s) more)
+
+-- each then has a page of its own
+pub spread : (xs : List ℕ) (place : ℕ) → IsStrictlyIncreasing xs → All (λ x. x < 2 ^ 32) xs → ((x : ℕ) → is_in xs x ≡ true → bit_and x 4095 ≡ place) → pages_below (2 ^ 20) xs ≡ length xs
+spread [] place s words same = empty_pages (2 ^ 20)
+  where
+    empty_pages : (n : ℕ) → pages_below n [] ≡ 0
+    empty_pages zero = starting []
+    empty_pages (suc n) = omega (arith, one_more [] n, empty_pages n)
+spread (y ∷ ys) place s words same =
+    let own : is_in (y ∷ ys) y ≡ true = rw (eq-eqb y y refl) refl in
+    let other : has_page ys (y / 4096) ≡ false = apart y ys s (λ x in_it. same x in_it ∙ sym (same y own)) in
+    let within : y / 4096 < 2 ^ 20 = omega (arith, words 0 y (omega arith)) in
+    let later : pages_below (2 ^ 20) ys ≡ length ys = spread ys place (rest y ys s) (λ k d h. words (suc k) d (omega (arith, h))) (λ x in_it. same x (or_right (y == x) (is_in ys x) in_it)) in
+    counted y ys (2 ^ 20) other within ∙ omega (arith, later)
+
+-- where something is known to be the same of all addresses at their places in their pages, each has a page of its own
+pub spread_by : (xs : List ℕ) (o : Option ℕ) → is_some o ≡ true → IsStrictlyIncreasing xs → All (λ x. x < 2 ^ 32) xs → IfSome o (λ place. (x : ℕ) → is_in xs x ≡ true → bit_and x 4095 ≡ place) → pages_below (2 ^ 20) xs ≡ length xs
+spread_by xs None is s words same = absurd (cc is)
+spread_by xs (Some place) is s words same = spread xs place s words same

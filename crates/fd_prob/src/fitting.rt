@@ -44,8 +44,10 @@ pub fn all_hold(op: Op, x: &Assignment, rels: &[Rel]) -> bool
     true
 }
 
+/// Whether the assignment fits the case: it has its operation, each value is in its domain there, and each of its
+/// relations holds.
 #[tactic(auto, unfolding(crate::specs::Fitting::fits_case))]
-fn fits_case(x: &Assignment, case: &Case) -> bool
+pub fn fits_case(x: &Assignment, case: &Case) -> bool
     requires { IsCase case.now }
     ensures { result ≡ fits_case x.now case.now }
 {
@@ -54,8 +56,7 @@ fn fits_case(x: &Assignment, case: &Case) -> bool
         && all_hold(case.operation(), x, case.rels.as_slice())
 }
 
-/// Whether the assignment fits the problem: a case has its operation, each value is in its domain there,
-/// and each relation of the case holds.
+/// Whether the assignment fits the problem: one of its cases.
 pub fn fits(p: &Problem, x: &Assignment) -> bool
     requires { IsProblem p.now }
     ensures { result ≡ fits p.now x.now }

@@ -16,7 +16,7 @@ mod spaces;
 
 pub use copies::{copy_rows, copy_sets, push_rels};
 pub use dom_set::OutOfMemory;
-pub use fitting::{all_hold, fits};
+pub use fitting::{all_hold, fits, fits_case};
 pub use items::Items;
 pub use laws::fitting_laws;
 pub use problem::{Assignment, Case, Extra, Problem};

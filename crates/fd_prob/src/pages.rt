@@ -21,7 +21,11 @@ pub fn pages_of(set: &Set) -> u64
     ensures { result ≡ pages_of set.now }
 {
     // `size` also says that the elements ascend.
-    let _size = set.size();
+    let size = set.size();
+    // Where all of them stand at one place of their pages, each has a page of its own.
+    if set.bits_under(PLACE).is_some() {
+        return size;
+    }
     let mut pages = 0;
     let mut page = 0;
     while page < PAGES {
@@ -38,3 +42,6 @@ pub fn pages_of(set: &Set) -> u64
 
 /// How many pages there are.
 const PAGES: u32 = 0x10_0000;
+
+/// The bits of an address that tell its place in its page.
+const PLACE: u32 = 0xfff;

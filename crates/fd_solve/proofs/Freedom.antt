@@ -50,7 +50,7 @@ told : (m h : Bool) → (not m || h) ≡ true → m ≡ true → h ≡ true
 told true h is so = is
 told false h is so = absurd (cc so)
 
-true_or_false : (b : Bool) → (b ≡ true) ⊎ (b ≡ false)
+pub true_or_false : (b : Bool) → (b ≡ true) ⊎ (b ≡ false)
 true_or_false true = inl refl
 true_or_false false = inr refl
 

@@ -14,6 +14,8 @@ pub mod OneAnswer
 pub mod Extensions
 pub mod Marking
 pub mod FirstCases
+pub mod Existing
+pub mod FittingMarks
 pub mod Biases
 pub mod Dropping
 pub mod Mentions

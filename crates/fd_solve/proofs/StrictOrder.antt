@@ -20,7 +20,7 @@ unfolding pivot_of
 at_operation p a b = refl
 
 -- a pivot goes by the operation, but for that of the operation itself
-pivot_alike : (p : Problem) (a b : ℕ) (s : Slot) → (0 < slot_number s → a ≡ b) → pivot_of p a s ≡ pivot_of p b s
+pub pivot_alike : (p : Problem) (a b : ℕ) (s : Slot) → (0 < slot_number s → a ≡ b) → pivot_of p a s ≡ pivot_of p b s
 pivot_alike p a b s same = ⊎_elim
     (λ is. subst (λ (t : Slot). pivot_of p a t ≡ pivot_of p b t) (sym is) (at_operation p a b))
     (λ later. ap (λ (n : ℕ). pivot_of p n s) (same later))

@@ -1,6 +1,8 @@
 pub mod Answers
 pub mod Dropping
+pub mod Known
 pub mod Marks
+pub mod Meeting
 pub mod Laws
 pub mod Search
 pub mod Taking

@@ -5,27 +5,24 @@ use Rattle.fd_prob.specs.declared.problem.Problem.{Problem}
 use Rattle.fd_prob.specs.Extras.{extended}
 use Rattle.fd_prob.specs.Fitting.{IsProblem}
 use Rattle.fd_solve.specs.declared.answers.Solved.{Solved}
-use Rattle.fd_solve.specs.declared.answers.Solved.TheVariants as answers
-use Rattle.fd_solve.specs.declared.leaf.Best.{Best}
 use Rattle.fd_solve.specs.declared.leaf.Taken.{Taken}
 use Rattle.fd_solve.specs.Answers.{IsAnswer, Kept, kept_by}
+use Rattle.fd_solve.specs.Known.{IsKnown}
 use Rattle.fd_solve.specs.Marks.{HasFirstsOf, with_marked}
 
 -- what stands for the first cases of the problem with the kept biases
-abbrev pub base_of : Option Best → Problem → Problem
+abbrev pub base_of : Option Problem → Problem → Problem
 base_of None p = p
-base_of (Some best) p = best.firsts
+base_of (Some firsts) p = firsts
 
 abbrev pub kept_of : Problem → List Extra → Taken → Kept
 kept_of p biases taken = record { problem = with_marked taken.marks.items biases p; dropped = taken.dropped }
 
--- where a bias was kept, the problem with those that were has the kept assignment for its answer, and the kept first cases
-abbrev pub IsBestOf : Problem → Problem → ℕ → Option Best → Type 0
-IsBestOf p whole nodes None = whole ≡ p
-IsBestOf p whole nodes (Some best) = IsProblem best.firsts × HasFirstsOf whole best.firsts × IsAnswer whole nodes (answers.Found best.least)
-
-abbrev pub IsBest : Problem → List Extra → ℕ → Taken → Type 0
-IsBest p biases nodes taken = IsBestOf p (with_marked taken.marks.items biases p) nodes taken.best
+-- what stands for the first cases of the problem with the kept biases is right, and so is what is known of that problem
+pub record IsTold (p : Problem) (biases : List Extra) (nodes : ℕ) (taken : Taken) : Type 0 where
+  pub base : IsProblem (base_of taken.firsts p)
+  pub firsts : HasFirstsOf (with_marked taken.marks.items biases p) (base_of taken.firsts p)
+  pub known : IsKnown (with_marked taken.marks.items biases p) nodes taken.known
 
 -- one bias was taken
 abbrev pub IsTakenBy : ℕ → ℕ → Extra → Kept → Kept → Type 0

@@ -1,48 +1,73 @@
-// Biases, taken one after another.
-ghost use Rattle.std.specs.Prelude.{◌≡◌, ◌+◌, ◌-◌, ◌<◌, ◌++◌, ◌∷◌, [], false, All, IfOk, OnOk, length, slice_index_or, slice_set};
+// Biases, taken one after another. What is known of the problem with the biases that were kept spares most searches: where
+// nothing fits it, nothing fits it with a further bias, and where an assignment that fits it fits it with the bias too, the
+// bias is kept.
+ghost use Rattle.std.specs.Prelude.{◌≡◌, ◌+◌, ◌-◌, ◌<◌, ◌≤◌, ◌++◌, ◌∷◌, [], false, true, All, IfOk, OnOk, length, slice_index_or, slice_set};
 ghost use Rattle.fd_prob.specs.Fitting.{IsProblem};
-ghost use Rattle.fd_solve.specs.Answers.{IsLeafAnswer};
-ghost use Rattle.fd_solve.specs.Taking.{IsBest, IsTakenBy, base_of, kept_of};
+ghost use Rattle.fd_solve.specs.Answers.{IsAnswer, IsLeafAnswer, NothingFits};
+ghost use Rattle.fd_solve.specs.Known.{IsKnown, has_none};
+ghost use Rattle.fd_solve.specs.Marks.{AreSound, with_marked};
+ghost use Rattle.fd_solve.specs.Taking.{IsTakenBy, IsTold, base_of, kept_of};
 
 use crate::answers::{LeafAnswer, Solved};
 use crate::firsts::cut_problem;
-use crate::operations::{answer_alone, answer_with};
+use crate::known::{Known, answer_after, known_after};
+use crate::marked::Marked;
+use crate::operations::answer_alone;
 use dom_set::OutOfMemory;
-use fd_prob::{Assignment, Extra, Items, Problem};
+use fd_prob::{Extra, Items, Problem};
 use std::alloc::Global;
-
-/// The first cases of the problem with the biases that were kept, and the least assignment that fits it.
-#[derive(Drop)]
-struct Best {
-    firsts: Problem,
-    least: Assignment,
-}
 
 /// The biases that were taken so far.
 #[derive(Drop)]
 struct Taken {
     /// Whether each was kept.
     marks: Vec<bool>,
-    /// None where no bias was kept.
-    best: Option<Best>,
+    /// The first cases of the problem with the biases that were kept. None where none was: they are the problem's own.
+    firsts: Option<Problem>,
+    /// What is known of the problem with the biases that were kept.
+    known: Known,
+    /// Those that were not kept, as the answer lists them.
     dropped: Items<(u32, bool)>,
 }
 
 impl Taken {
     /// What stands for the first cases of the problem with the biases that were kept.
     fn base<'a>(&'a self, p: &'a Problem) -> &'a Problem
-        ensures { result.now ≡ base_of self.now.best p.now }
+        ensures { result.now ≡ base_of self.now.firsts p.now }
     {
-        match &self.best {
-            Some(best) => &best.firsts,
+        match &self.firsts {
+            Some(firsts) => firsts,
             None => p,
         }
+    }
+
+    /// What is known of the problem with a further bias, whose mark and first cases are given.
+    fn known_next(
+        &self,
+        alloc: Global,
+        p: &Problem,
+        biases: &[Extra],
+        firsts: &Problem,
+        nodes: u64,
+    ) -> Result<Known, OutOfMemory>
+        requires sound { AreSound p.now biases.now self.now.marks.items firsts.now }
+        requires none { has_none self.now.known ≡ true → NothingFits (with_marked self.now.marks.items biases.now p.now) }
+        ensures { IfOk result (IsKnown (with_marked self.now.marks.items biases.now p.now) nodes) }
+    {
+        let marked = Marked {
+            problem: p,
+            biases,
+            marks: &self.marks,
+            firsts,
+        };
+        known_after(alloc, &self.known, &marked, nodes)
     }
 
     /// Takes the last mark away and lists its bias, with whether the budget was spent.
     fn unmark(&mut self, spent: bool) -> Result<(), OutOfMemory>
         requires { 0 < length self.old.marks.items }
-        ensures best { self.new.best ≡ self.old.best }
+        ensures firsts { self.new.firsts ≡ self.old.firsts }
+        ensures known { self.new.known ≡ self.old.known }
         ensures marks { OnOk result (self.new.marks.items ≡ slice_set self.old.marks.items (length self.old.marks.items - 1) false) }
         ensures dropped { OnOk result (self.new.dropped ≡ self.old.dropped ++ (length self.old.marks.items - 1, spent) ∷ []) }
     {
@@ -69,28 +94,45 @@ impl Taken {
         requires entries { All (λ e. length e.cases ≡ length p.now.cases) biases.now }
         requires more { length self.old.marks.items < length biases.now }
         requires next { bias.now ≡ slice_index_or biases.now (length self.old.marks.items) bias.now }
-        requires best { IsBest p.now biases.now nodes self.old }
+        requires told { IsTold p.now biases.now nodes self.old }
         ensures taken { OnOk result (IsTakenBy nodes (length self.old.marks.items) bias.now (kept_of p.now biases.now self.old) (kept_of p.now biases.now self.new)) }
-        ensures best { OnOk result (IsBest p.now biases.now nodes self.new) }
+        ensures told { OnOk result (IsTold p.now biases.now nodes self.new) }
         ensures one { OnOk result (length self.new.marks.items ≡ length self.old.marks.items + 1) }
     {
         let firsts = cut_problem(alloc, self.base(p), bias)?;
         self.marks.push(true)?;
-        let answer = answer_with(alloc, p, biases, &self.marks, &firsts, nodes)?;
-        match answer {
-            Solved::Found(least) => {
-                self.best = Some(Best { firsts, least });
-                Ok(())
+        let known = self.known_next(alloc, p, biases, &firsts, nodes)?;
+        match known.dropping() {
+            None => {
+                self.firsts = Some(firsts);
+                self.known = known;
             }
-            Solved::NoneFits => {
-                self.unmark(false)?;
-                Ok(())
-            }
-            Solved::Spent => {
-                self.unmark(true)?;
-                Ok(())
-            }
+            Some(spent) => self.unmark(spent)?,
         }
+        Ok(())
+    }
+
+    /// The answer of the problem with the biases that were kept.
+    fn answer(
+        &self,
+        alloc: Global,
+        p: &Problem,
+        biases: &[Extra],
+        nodes: u64,
+    ) -> Result<Solved, OutOfMemory>
+        requires problem { IsProblem p.now }
+        requires entries { All (λ e. length e.cases ≡ length p.now.cases) biases.now }
+        requires room { length self.now.marks.items ≤ length biases.now }
+        requires told { IsTold p.now biases.now nodes self.now }
+        ensures { IfOk result (IsAnswer (with_marked self.now.marks.items biases.now p.now) nodes) }
+    {
+        let marked = Marked {
+            problem: p,
+            biases,
+            marks: &self.marks,
+            firsts: self.base(p),
+        };
+        answer_after(alloc, &self.known, &marked, nodes)
     }
 }
 
@@ -111,16 +153,14 @@ pub fn solve_leaf(
 {
     let mut taken = Taken {
         marks: Vec::new(alloc),
-        best: None,
+        firsts: None,
+        known: Known::Answer(answer_alone(alloc, p, nodes)?),
         dropped: Items::new(alloc),
     };
     for bias in biases {
         taken.take(alloc, p, biases, bias, nodes)?;
     }
-    let Taken { best, dropped, .. } = taken;
-    let solved = match best {
-        Some(best) => Solved::Found(best.least),
-        None => answer_alone(alloc, p, nodes)?,
-    };
+    let solved = taken.answer(alloc, p, biases, nodes)?;
+    let Taken { dropped, .. } = taken;
     Ok(LeafAnswer { solved, dropped })
 }

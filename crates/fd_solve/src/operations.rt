@@ -7,7 +7,7 @@ ghost use Rattle.fd_prob.specs.Order.{pivot_of};
 ghost use Rattle.fd_prob.specs.Spaces.{space};
 ghost use Rattle.fd_solve.specs.declared.answers.Solved.TheVariants.{Found, NoneFits, Spent};
 ghost use Rattle.fd_solve.specs.Answers.{IsAnswer, IsLeast, NothingFits};
-ghost use Rattle.fd_solve.specs.Marks.{AreSound, IsSound, whole_of, with_marked};
+ghost use Rattle.fd_solve.specs.Marks.{IsSound, whole_of};
 ghost use Rattle.fd_solve.specs.Search.{IsLeastFrom, NoneBetween};
 
 use crate::Solved;
@@ -15,7 +15,7 @@ use crate::cases::solve_cases;
 use crate::marked::{Marked, pivots_with};
 use crate::pivots::operation_pivot;
 use dom_set::OutOfMemory;
-use fd_prob::{Assignment, Extra, Problem, fitting_laws, space};
+use fd_prob::{Assignment, Problem, fitting_laws, space};
 use std::alloc::Global;
 
 /// The first operation of these numbers with which anything fits, and the least assignment of it.
@@ -55,14 +55,11 @@ fn least(alloc: Global, marked: &Marked, pivot: u8) -> Result<Option<Assignment>
     Ok(lower)
 }
 
-/// The answer of the problem with its marked biases.
-fn answer_of(alloc: Global, marked: &Marked, nodes: u64) -> Result<Solved, OutOfMemory>
+/// The answer of the problem with its marked biases under each budget that its space is within.
+pub fn searched(alloc: Global, marked: &Marked) -> Result<Solved, OutOfMemory>
     requires { IsSound marked.now }
-    ensures { IfOk result (IsAnswer (whole_of marked.now) nodes) }
+    ensures { IfOk result (λ solved. (nodes : ℕ) → space (whole_of marked.now) ≤ nodes → IsAnswer (whole_of marked.now) nodes solved) }
 {
-    if nodes < space(marked.firsts) {
-        return Ok(Solved::Spent);
-    }
     let pivot = operation_pivot(alloc, marked.firsts)?;
     match least(alloc, marked, pivot)? {
         Some(x) => Ok(Solved::Found(x)),
@@ -70,25 +67,16 @@ fn answer_of(alloc: Global, marked: &Marked, nodes: u64) -> Result<Solved, OutOf
     }
 }
 
-/// The same, by the parts of the problem.
-pub fn answer_with(
-    alloc: Global,
-    p: &Problem,
-    biases: &[Extra],
-    marks: &[bool],
-    firsts: &Problem,
-    nodes: u64,
-) -> Result<Solved, OutOfMemory>
-    requires { AreSound p.now biases.now marks.now firsts.now }
-    ensures { IfOk result (IsAnswer (with_marked marks.now biases.now p.now) nodes) }
+/// The answer of the problem with its marked biases.
+pub fn answer_of(alloc: Global, marked: &Marked, nodes: u64) -> Result<Solved, OutOfMemory>
+    requires { IsSound marked.now }
+    ensures { IfOk result (IsAnswer (whole_of marked.now) nodes) }
 {
-    let marked = Marked {
-        problem: p,
-        biases,
-        marks,
-        firsts,
-    };
-    answer_of(alloc, &marked, nodes)
+    if nodes < space(marked.firsts) {
+        return Ok(Solved::Spent);
+    }
+    let solved = searched(alloc, marked)?;
+    Ok(solved)
 }
 
 /// The answer of the problem without biases.
@@ -96,7 +84,13 @@ pub fn answer_alone(alloc: Global, p: &Problem, nodes: u64) -> Result<Solved, Ou
     requires { IsProblem p.now }
     ensures { IfOk result (IsAnswer p.now nodes) }
 {
-    answer_with(alloc, p, &[], &[], p, nodes)
+    let marked = Marked {
+        problem: p,
+        biases: &[],
+        marks: &[],
+        firsts: p,
+    };
+    answer_of(alloc, &marked, nodes)
 }
 
 /// The answer of the problem under a budget of `nodes`: `Spent` exactly where the space of the problem

@@ -8,6 +8,7 @@ pub mod Fitting
 pub mod Ways
 pub mod Results
 pub mod Items
+pub mod Ready
 pub mod LeafTurns
 pub mod Lawful
 pub mod Forward

@@ -13,7 +13,7 @@ module _ (W : Type 0) where
   pub comes_along : (walk : Tally → Outcome W) (r : SearchResult W) (o p : Outcome W) → o ≡ p → ComesTo W walk o r → ComesTo W walk p r
   comes_along walk r o p same comes = subst (λ (x : Outcome W). ComesTo W walk x r) same comes
 
-  same_some : (x y : W) → Some x ≡ Some y → x ≡ y
+  pub same_some : (x y : W) → Some x ≡ Some y → x ≡ y
   same_some x y h = cc
 
   -- where all choices are tried, a dead walk begins again

@@ -5,6 +5,7 @@ pub mod Fit
 pub mod Steps
 pub mod Places
 pub mod Walks
+pub mod Ready
 pub mod Answers
 pub mod Tries
 pub mod Laws

@@ -1,14 +1,24 @@
 -- Places of an answer that are given one by one.
-use Rattle.std.proofs.Common.{◌≡◌, ℕ, ◌-◌, ◌<◌, ◌≤◌, ◌⊎◌, List, [], ◌∷◌, ◌++◌, length, length-set, Some, refl, sym, ap, ◌∙◌, subst, inl, inr, arith}
+use Rattle.std.proofs.Common.{◌≡◌, ℕ, zero, suc, Option, None, slice_index_or, slice_set, ◌-◌, ◌<◌, ◌≤◌, ◌⊎◌, List, [], ◌∷◌, ◌++◌, length, length-set, Some, refl, sym, ap, ◌∙◌, subst, inl, inr, arith}
 use Rattle.std.proofs.Math.Path.{fun_ext}
 use Rattle.rv_script.specs.declared.access.Access.{Access}
 use Rattle.rv_script.specs.declared.place.Place.{Place}
 use Rattle.rv_script.specs.declared.place.Place.TheVariants.{Reg, Csr, Word}
-use Rattle.rv_script.specs.Folds.{Answer, Answer.Does, Answer.Missing as Lacks, Answer.Nowhere, Known}
+use Rattle.rv_script.specs.Folds.{Answer, Answer.Does, Answer.Missing as Lacks, Answer.Nowhere, Entry, Known}
 use Rattle.rv_script.specs.Logs.{enlarged}
 use Rattle.rv_hart.specs.declared.record.Change.{Change}
+use Rattle.rv_hart.specs.declared.record.Control.{Control}
+use Rattle.rv_hart.specs.declared.record.Control.TheVariants.{Stay, Write, Trap, Mret, Sret}
+use Rattle.rv_hart.specs.Changes.{csrs_after}
+use Rattle.rv_csr.specs.declared.privilege.Priv.{Priv}
+use Rattle.rv_csr.specs.declared.privilege.Priv.TheVariants.{U, S, M}
+use Rattle.rv_csr.specs.declared.table.Register.{Register}
+use Rattle.rv_csr.specs.declared.table.Register.TheVariants.{Sstatus, Satp, Mstatus, Medeleg, Mhartid, Lazy}
+use Rattle.rv_csr.specs.State.{CsrValues, with_first}
+use Rattle.rv_csr.specs.Table.{register_at}
+use Rattle.rv_csr.specs.Traps.{takes_trap, trapped_to}
 use Rattle.fd_prob.specs.declared.slot.Slot.{Slot}
-use Rattle.part_machine.specs.Whole.{Whole, bare_after, fixed_in, hart_of, next_of, record_in, stepped}
+use Rattle.part_machine.specs.Whole.{Bare, Whole, bare_after, no_hart, with_csr, with_register, fixed_in, hart_of, next_of, record_in, stepped}
 use Rattle.rv_hart.specs.Fixed.{Fixed}
 use Rattle.rv_hart.specs.Whole.{record_of}
 use Rattle.rv_hart.specs.declared.record.Record.{Record}
@@ -18,12 +28,12 @@ use Rattle.part_state.specs.Probing.{IsProbe}
 use Rattle.part_state.specs.declared.probe.Probe.{Probe}
 use Rattle.part_state.specs.declared.probe.Probe.TheVariants.{Clash, Missing, Outside, Ready}
 use Rattle.leaf_link.specs.Values.{Values}
-use Rattle.leaf_link.specs.Placing.{IsInstruction, ValuesAreByPlaces, ValuesAreInstructions, value_at}
+use Rattle.leaf_link.specs.Placing.{IsInstruction, StaysOrTraps, StepsStayOrTrap, ValuesAreByPlaces, ValuesAreInstructions, value_at}
 use Rattle.leaf_link.specs.Problems.{key_of}
 use Rattle.turn_laws.specs.Ahead.{AreAmong, IsUnderway, LogsAreShort, OneMoreIsGiven, PlacesAreNext, unknown_in}
 use Rattle.turn_laws.specs.Laws.{CandidatesAreSteps, FixedPartsStay, IsTaken, OthersStay}
 use Rattle.turn_laws.specs.Given.{CanGive, all_given, given_to, known_at, turn_at}
-use Rattle.leaf_turn.specs.Answers.{AreGiven, IsFound, IsStill, IsTakenBy, new_at}
+use Rattle.leaf_turn.specs.Answers.{AreAsked, AreGiven, IsFound, IsStill, IsTakenBy, new_at}
 use Rattle.leaf_link.specs.Candidates.{accesses_in}
 
 -- some of the places are given, and so many at most are left
@@ -31,6 +41,7 @@ pub record AreGoing (k : ℕ) (x : Values) (left : ℕ) (old now : Whole) : Type
   pub places : List (Place × ℕ)
   pub can : CanGive k places old
   pub among : AreAmong places (new_at k old x)
+  pub asked : AreAsked k (new_at k old x) places old
   pub is : now ≡ all_given k places old
   pub few : (f : IsFound k old x) → unknown_in (enlarged (known_at k old) (given_to places)) f.candidate.log ≤ left
 
@@ -39,6 +50,7 @@ begun k x w short = record {
   places = [];
   can = tt;
   among = λ place v h. absurd (cc);
+  asked = tt;
   is = refl;
   few = λ f. short f.setting f.feet k w f.leaf (new_at k w x) (enlarged (known_at k w) (given_to [])) f.candidate;
 }
@@ -48,6 +60,11 @@ same_values k w x f = fun_ext (λ (s : Slot). sym (f.values s))
 
 pub instruction_of : (k : ℕ) (w : Whole) (x : Values) → ValuesAreInstructions → IsFound k w x → IsInstruction x
 instruction_of k w x law f = subst IsInstruction (same_values k w x f) (law (turn_at f.setting f.feet k w) f.leaf (new_at k w x) f.candidate).0
+
+-- one place more, which is what the step lacks behind those before it
+asked_more : (k : ℕ) (new : Known) (es : List (Place × ℕ)) (place : Place) (v : ℕ) (w : Whole) → AreAsked k new es w → next_of k (all_given k es w) ≡ Lacks place → new place ≡ Some v → AreAsked k new (es ++ (place, v) ∷ []) w
+asked_more k new [] place v w asked lacks is = (lacks, is, tt)
+asked_more k new (e ∷ es) place v w asked lacks is = (asked.0, asked.1, asked_more k new es place v (place_given k e.0 e.1 w) asked.2 lacks is)
 
 -- where the next step lacks a place, the place can start with the answer's value, and then one less is left
 pub record IsGoingOn (k : ℕ) (x : Values) (left : ℕ) (old now : Whole) (place : Place) : Type 0 where
@@ -78,6 +95,7 @@ going_on k x left old now place next appended by_places test l f g lacks =
         places = g.places ++ (place, value) ∷ [];
         can = more.1;
         among = more.0;
+        asked = asked_more k new g.places place value old g.asked first new_is;
         is = ap (λ (w : Whole). place_given k place value w) g.is ∙ sym (appended k g.places place value old);
         few = λ h.
             let one = (next h.setting h.feet k old h.leaf new g.places test l h.fetched.aligned h.vectors g.can g.among h.candidate).fewer place value first new_is in
@@ -98,7 +116,7 @@ all_are_given k x left old now next test l f g none = go (next_of k (all_given k
     under = next f.setting f.feet k old f.leaf (new_at k old x) g.places test l f.fetched.aligned f.vectors g.can g.among f.candidate
 
     go : (a : Answer Access Change) → next_of k (all_given k g.places old) ≡ a → AreGiven k x old now
-    go (Does xs c) e = record { places = g.places; can = g.can; listed = under.listed xs c e; now = g.is }
+    go (Does xs c) e = record { places = g.places; can = g.can; listed = under.listed xs c e; asked = g.asked; now = g.is }
     go (Lacks place) e = absurd (none place (same ∙ e))
     go Nowhere e = absurd (under.somewhere e)
 
@@ -159,8 +177,54 @@ ram_stays k (e ∷ es) w = ram_stays k es (place_given k e.0 e.1 w) ∙ one e.0
     one (Csr addr) = refl
     one (Word addr) = refl
 
-pub still : (k : ℕ) (x : Values) (r : Record) (old new : Whole) → OthersStay → IsTakenBy k x r old new → IsStill old new
-still k x r old new others t =
+set_satp : (hs : List Bare) (k : ℕ) (h d : Bare) → h.csrs.satp ≡ (slice_index_or hs k d).csrs.satp → (j : ℕ) → (slice_index_or (slice_set hs k h) j d).csrs.satp ≡ (slice_index_or hs j d).csrs.satp
+set_satp [] k h d same j = refl
+set_satp (g ∷ hs) zero h d same zero = same
+set_satp (g ∷ hs) zero h d same (suc j) = refl
+set_satp (g ∷ hs) (suc k) h d same zero = refl
+set_satp (g ∷ hs) (suc k) h d same (suc j) = set_satp hs k h d same j
+
+first_satp : (o : Option Register) (v : ℕ) (csrs : CsrValues) → (with_first o v csrs).satp ≡ csrs.satp
+first_satp None v csrs = refl
+first_satp (Some Sstatus) v csrs = refl
+first_satp (Some Satp) v csrs = refl
+first_satp (Some Mstatus) v csrs = refl
+first_satp (Some Medeleg) v csrs = refl
+first_satp (Some Mhartid) v csrs = refl
+first_satp (Some (Lazy register)) v csrs = refl
+
+given_satp : (k : ℕ) (place : Place) (v : ℕ) (w : Whole) (j : ℕ) → (hart_of j (place_given k place v w)).csrs.satp ≡ (hart_of j w).csrs.satp
+given_satp k (Reg n) v w j = set_satp w.harts k (with_register n v (hart_of k w)) no_hart refl j
+given_satp k (Csr addr) v w j = set_satp w.harts k (with_csr addr v (hart_of k w)) no_hart (first_satp (register_at addr) v (hart_of k w).csrs) j
+given_satp k (Word addr) v w j = refl
+
+all_satp : (k : ℕ) (es : List (Place × ℕ)) (w : Whole) (j : ℕ) → (hart_of j (all_given k es w)).csrs.satp ≡ (hart_of j w).csrs.satp
+all_satp k [] w j = refl
+all_satp k (e ∷ es) w j = all_satp k es (place_given k e.0 e.1 w) j ∙ given_satp k e.0 e.1 w j
+
+trap_satp : (to : Priv) (csrs : CsrValues) (from : Priv) (cause pc value : ℕ) → (trapped_to to csrs from cause pc value).satp ≡ csrs.satp
+trap_satp U csrs from cause pc value = refl
+trap_satp S csrs from cause pc value = refl
+trap_satp M csrs from cause pc value = refl
+
+control_satp : (from : Priv) (pc : ℕ) (control : Control) (csrs : CsrValues) → StaysOrTraps control → (csrs_after from pc control csrs).satp ≡ csrs.satp
+control_satp from pc Stay csrs h = refl
+control_satp from pc (Write register value) csrs h = absurd h
+control_satp from pc (Trap cause value) csrs h = trap_satp (takes_trap csrs.medeleg from cause) csrs from cause pc value
+control_satp from pc Mret csrs h = absurd h
+control_satp from pc Sret csrs h = absurd h
+
+pub same_change : (a b : List Entry) (c d : Change) → (let r : Answer Entry Change = Does a c in r) ≡ Does b d → c ≡ d
+same_change a b c d e = cc e
+
+-- the step of an answer goes on or traps
+stays_or_traps : (k : ℕ) (x : Values) (r : Record) (old new : Whole) → StepsStayOrTrap → IsFound k old x → (t : IsTakenBy k x r old new) → StaysOrTraps t.change.control
+stays_or_traps k x r old new law f t =
+    subst (λ (c : Change). StaysOrTraps c.control) (same_change f.candidate.log t.log f.candidate.change t.change (sym f.candidate.is.plays ∙ t.plays))
+    (law (turn_at f.setting f.feet k old) f.walk f.pa f.leaf (new_at k old x) f.fetched f.candidate f.little)
+
+pub still : (k : ℕ) (x : Values) (r : Record) (old new : Whole) → OthersStay → StepsStayOrTrap → IsFound k old x → IsTakenBy k x r old new → IsStill old new
+still k x r old new others law f t =
     let places = t.places.places in
     let b = others k places old in
     let given : Whole = all_given k places old in
@@ -171,4 +235,8 @@ still k x r old new others t =
       choices = ap (λ (w : Whole). w.choices) is ∙ b.choices;
       dropped = ap (λ (w : Whole). w.dropped) is ∙ b.dropped;
       harts = ap (λ (w : Whole). length w.harts) is ∙ length-set given.harts k (bare_after t.change (hart_of k given)) ∙ b.harts;
+      satp = λ j.
+          ap (λ (w : Whole). (hart_of j w).csrs.satp) is
+          ∙ set_satp given.harts k (bare_after t.change (hart_of k given)) no_hart (control_satp (hart_of k given).privilege (hart_of k given).pc t.change.control (hart_of k given).csrs (stays_or_traps k x r old new law f t)) j
+          ∙ all_satp k places old j;
     }

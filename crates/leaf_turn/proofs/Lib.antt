@@ -1,6 +1,7 @@
 pub mod Untranslated
 pub mod Freedom
 pub mod Giving
+pub mod Once
 pub mod Keeping
 pub mod Grounding
 pub mod Operations

@@ -1,8 +1,8 @@
 -- The answer of a leaf, and the test behind its step.
-use Rattle.std.specs.Prelude.{◌≡◌, ◌++◌, ℕ, true, List, length}
+use Rattle.std.specs.Prelude.{◌≡◌, ◌<◌, ◌++◌, ℕ, true, List, [], ◌∷◌, Some, length}
 use Rattle.rv_isa.specs.Table.{row_of}
 use Rattle.rv_script.specs.declared.place.Place.{Place}
-use Rattle.rv_script.specs.Folds.{Answer.Does, Entry, Known, by_known}
+use Rattle.rv_script.specs.Folds.{Answer.Does, Answer.Missing as Lacks, Entry, Known, by_known}
 use Rattle.rv_script.specs.Logs.{answer_told, enlarged}
 use Rattle.foot_map.specs.declared.touch.Touch.{Touch}
 use Rattle.foot_map.specs.Races.{IsFootprint}
@@ -13,7 +13,8 @@ use Rattle.rv_hart.specs.Whole.{record_of}
 use Rattle.fd_prob.specs.declared.slot.Slot.{Slot}
 use Rattle.tpl_ast.specs.declared.template.Atom.{Atom}
 use Rattle.tpl_admit.specs.Races.{footprints_of}
-use Rattle.part_machine.specs.Whole.{Whole, fixed_in, hart_of, records_of, stepped}
+use Rattle.part_machine.specs.Whole.{Whole, fixed_in, hart_of, next_of, records_of, stepped}
+use Rattle.part_state.specs.Meaning.{IsTest, place_given}
 use Rattle.part_state.specs.State.{State, Test, tests}
 use Rattle.leaf_link.specs.Values.{Values, new_places}
 use Rattle.leaf_link.specs.Candidates.{IsCandidate, accesses_in}
@@ -41,11 +42,17 @@ pub record IsFound (k : ℕ) (w : Whole) (x : Values) : Type 0 where
   pub values : (s : Slot) → x s ≡ key_of (turn_at setting feet k w) leaf (new_at k w x) candidate s
   pub little : asks_little (row_of candidate.instr.op) ≡ true
 
--- the new places of an answer, registers and CSRs of the hart and words of memory, were given their values
+-- each place is what the next step lacks when its turn comes, and has its new value
+abbrev pub AreAsked : ℕ → Known → List (Place × ℕ) → Whole → Type 0
+AreAsked k new [] w = Unit {0}
+AreAsked k new (e ∷ es) w = (next_of k w ≡ Lacks e.0) × (new e.0 ≡ Some e.1) × AreAsked k new es (place_given k e.0 e.1 w)
+
+-- the new places of an answer, registers and CSRs of the hart and words of memory, were given their values, in the order in which the step asks for them
 pub record AreGiven (k : ℕ) (x : Values) (old new : Whole) : Type 0 where
   pub places : List (Place × ℕ)
   pub can : CanGive k places old
   pub listed : AreListed places (new_at k old x)
+  pub asked : AreAsked k (new_at k old x) places old
   pub now : new ≡ all_given k places old
 
 -- and then it took its next step, with this record
@@ -58,13 +65,20 @@ pub record IsTakenBy (k : ℕ) (x : Values) (r : Record) (old new : Whole) : Typ
   pub now : new ≡ stepped k (accesses_in log) change given
   pub record_is : r ≡ record_of (fixed_in (hart_of k old) old.memory) (accesses_in log) change
 
--- RAM, names, choices and dropped biases are as they were, and there are as many harts
+-- the values of an answer, taken on a test, give one record and one test
+abbrev pub TakingsAreOne : Type 0
+TakingsAreOne =
+    (k : ℕ) (x : Values) (r s : Record) (old new other : Whole) → IsTest old → k < length old.harts → IsFound k old x
+    → IsTakenBy k x r old new → IsTakenBy k x s old other → (r ≡ s) × (new ≡ other)
+
+-- RAM, names, choices and dropped biases are as they were, there are as many harts, and what is translated stays
 pub record IsStill (old new : Whole) : Type 0 where
   pub ram : new.ram ≡ old.ram
   pub names : new.names ≡ old.names
   pub choices : new.choices ≡ old.choices
   pub dropped : new.dropped ≡ old.dropped
   pub harts : length new.harts ≡ length old.harts
+  pub satp : (j : ℕ) → (hart_of j new).csrs.satp ≡ (hart_of j old).csrs.satp
 
 -- the test of then, and all before it, still stand at their numbers
 pub record AreKept (old new : State) : Type 0 where

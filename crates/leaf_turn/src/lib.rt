@@ -16,7 +16,7 @@ pub use answer::{answer_of, leaf_answer};
 pub use built::{are_built, built_leaves_are_posable};
 pub use error::OutOfMemory;
 pub use known::known_is_words;
-pub use laws::{answers_are_found, rows_are_there};
+pub use laws::{answers_are_found, rows_are_there, takings_are_one};
 pub use stand::{names_of, stand_of};
 pub use taking::take;
 pub use wishes::{biases_of, mandatory_of};

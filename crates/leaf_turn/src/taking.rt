@@ -82,6 +82,7 @@ fn give_and_step(part: &mut Part, hart: u8, x: &Assignment) -> Result<Record, Ou
 {
     candidates_are_steps();
     given_places_are_known();
+    values_are_by_places();
     part.is_test();
     give(part, hart, x)?;
     Ok(part.advance(hart)?)

@@ -85,7 +85,7 @@ state_at [] k are within = absurd (omega (arith, within))
 state_at (s ∷ ss) zero are within = are.0
 state_at (s ∷ ss) (suc k) are within = state_at ss k are.1 (omega (arith, within))
 
-legal_hart : (c : Cert) (fill : Fill) (k : ℕ) → IsState (start_of c k) → IsLegalFill fill → IsLegalHart ((filled_system c fill).harts k)
+legal_hart : (c : Cert) (fill : Fill) (k : ℕ) → IsState (start_of c k) → AreLegalPlaces (fill.places k) → IsLegalHart ((filled_system c fill).harts k)
 legal_hart c fill k is legal = record {
   pc = is.pc;
   aligned = is.aligned;
@@ -93,14 +93,17 @@ legal_hart c fill k is legal = record {
   medeleg = (is.medeleg, is.legal_medeleg);
   satp = (is.satp, is.legal_satp);
   places = λ key place. filled_has (λ key v. IsWord v × (is_legal_place (key, v) ≡ true)) (found (start_of c k).places) (fill.places k)
-      (λ key v given. given_legal 0 (start_of c k).places is.places is.legal_places key v given) key (legal.places k key place);
+      (λ key v given. given_legal 0 (start_of c k).places is.places is.legal_places key v given) key (legal key place);
 }
 
-pub fills_are_legal : (c : Cert) (fill : Fill) → IsWellFormed c → IsLegalFill fill → IsLegalSystem (length c.start) (filled_system c fill)
+pub fills_are_legal : (c : Cert) (fill : Fill) → IsWellFormed c → IsLegalFill (length c.start) fill → IsLegalSystem (length c.start) (filled_system c fill)
 fills_are_legal c fill formed legal = record {
-  harts = λ k within. legal_hart c fill k (state_at c.start k formed.start within) legal;
+  harts = λ k within. legal_hart c fill k (state_at c.start k formed.start within) (legal.places k within);
   words = memory_words c fill formed.words legal.words;
 }
+
+pub machines_fill : (count : ℕ) (sys : System) → IsLegalSystem count sys → IsLegalFill count (fill_of sys)
+machines_fill count sys legal = record { places = λ k within. (legal.harts k within).places; words = legal.words }
 
 -- ---- zero
 
@@ -123,5 +126,5 @@ zero_legal key place = elim (or_cases (leb 1 key && ltb key 32) (list_any (λ (a
     differ : true ≡ false → ⊥
     differ e = cc
 
-pub zero_is_a_fill : IsLegalFill no_fill × ((c : Cert) → first_system c ≡ filled_system c no_fill)
-zero_is_a_fill = (record { places = λ k key place. (omega arith, zero_legal key place); words = λ n. omega arith }, λ c. refl)
+pub zero_is_a_fill : ((count : ℕ) → IsLegalFill count no_fill) × ((c : Cert) → first_system c ≡ filled_system c no_fill)
+zero_is_a_fill = (λ count. record { places = λ k within key place. (omega arith, zero_legal key place); words = λ n. omega arith }, λ c. refl)

@@ -51,8 +51,9 @@ pub record IsSameFor (c : Cert) (sys other : System) : Type 0 where
 abbrev pub AreLegalPlaces : (ℕ → ℕ) → Type 0
 AreLegalPlaces file = (key : ℕ) → is_key key ≡ true → IsWord (file key) × (is_legal_place (key, file key) ≡ true)
 
-pub record IsLegalFill (fill : Fill) : Type 0 where
-  pub places : (k : ℕ) → AreLegalPlaces (fill.places k)
+-- so does a fill for so many harts, and words for memory
+pub record IsLegalFill (count : ℕ) (fill : Fill) : Type 0 where
+  pub places : (k : ℕ) → k < count → AreLegalPlaces (fill.places k)
   pub words : (n : ℕ) → IsWord (fill.words n)
 
 -- a hart as a machine can have it
@@ -83,8 +84,12 @@ FillsAreAll = (c : Cert) (sys : System) → AgreesWith c sys → IsSameFor c sys
 
 -- with a legal fill it is as a machine can be
 abbrev pub FillsAreLegal : Type 0
-FillsAreLegal = (c : Cert) (fill : Fill) → IsWellFormed c → IsLegalFill fill → IsLegalSystem (length c.start) (filled_system c fill)
+FillsAreLegal = (c : Cert) (fill : Fill) → IsWellFormed c → IsLegalFill (length c.start) fill → IsLegalSystem (length c.start) (filled_system c fill)
+
+-- and the values of a machine are a legal fill
+abbrev pub MachinesFill : Type 0
+MachinesFill = (count : ℕ) (sys : System) → IsLegalSystem count sys → IsLegalFill count (fill_of sys)
 
 -- the fill with zero everywhere is legal, and gives the system with zero wherever nothing is given
 abbrev pub ZeroIsAFill : Type 0
-ZeroIsAFill = IsLegalFill no_fill × ((c : Cert) → first_system c ≡ filled_system c no_fill)
+ZeroIsAFill = ((count : ℕ) → IsLegalFill count no_fill) × ((c : Cert) → first_system c ≡ filled_system c no_fill)

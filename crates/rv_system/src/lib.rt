@@ -6,7 +6,7 @@ ghost use Rattle.tpl_admit.specs.declared.certificate.Cert.{Cert};
 ghost use Rattle.tpl_admit.specs.Starts.{AgreesWith, first_system};
 ghost use Rattle.tpl_admit.specs.Validity.{IsSound};
 ghost use Rattle.tpl_admit.specs.Faithfulness.{IsFaithful};
-ghost use Rattle.rv_system.specs.Fills.{FillsAgree, FillsAreAll, FillsAreKept, FillsAreLegal, ZeroIsAFill};
+ghost use Rattle.rv_system.specs.Fills.{FillsAgree, FillsAreAll, FillsAreKept, FillsAreLegal, MachinesFill, ZeroIsAFill};
 
 /// From every system that agrees with the start of a sound certificate, of any number of harts, under every order of
 /// whole steps in which no hart exceeds its records, each hart's steps are its printed records, and the printed end
@@ -25,5 +25,6 @@ pub fn sound_certificates_are_faithful()
 
     // Where values of CSRs are to be legal, as in a machine.
     ensures legal { FillsAreLegal }
+    ensures machines { MachinesFill }
     ensures zero { ZeroIsAFill }
 {}

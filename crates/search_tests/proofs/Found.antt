@@ -1,5 +1,5 @@
 -- Bodies that are found fit, item by item.
-use Rattle.std.proofs.Common.{◌≡◌, ℕ, ◌+◌, ◌<◌, ◌^◌, Bool, true, ◌&&◌, nat_lt, List, ◌∷◌, map, length, get_or, drop, sym, ap, ◌∙◌, subst}
+use Rattle.std.proofs.Common.{◌≡◌, ℕ, ◌+◌, ◌<◌, ◌^◌, Bool, true, ◌&&◌, nat_lt, List, [], ◌∷◌, map, length, get_or, drop, sym, ap, ◌∙◌, subst}
 use Rattle.std.specs.Prelude.{Vec}
 use Rattle.std.specs.Global.{Global}
 use Rattle.std.proofs.lemmas.Bool.{lt-ltb}
@@ -9,6 +9,7 @@ use Rattle.tpl_ast.specs.declared.template.Item.{Item}
 use Rattle.tpl_ast.specs.Choices.{all_true, are_ways_fit, can_pick, is_fit, weight_of}
 use Rattle.gen_search.specs.Search.{all_items, of_hart}
 use Rattle.gen_search.specs.Fit.{AreFit}
+use Rattle.gen_search.specs.Ready.{AreAllowed, AreReady, BodiesAreReady, parts_of}
 use Rattle.gen_search.proofs.Fitting.{fit_append, fit_body}
 
 and_true : (a b : Bool) → a ≡ true → b ≡ true → (a && b) ≡ true
@@ -36,3 +37,16 @@ pub hart_step : (harts : List HartDecl) (i : ℕ) (h : HartDecl) → i < length 
 hart_step harts i h lt is fit rest k =
     subst (λ (hs : List HartDecl). AreFit (all_items k hs)) (sym (drop_more harts i h lt ∙ ap (λ (g : HartDecl). g ∷ drop (i + 1) harts) (sym is)))
     (fit_append (of_hart k h.body.items) (all_items (k + 1) (drop (i + 1) harts)) (fit_body k h.body.items fit) (rest (k + 1)))
+
+-- ---- a test that takes everything
+
+all_allowed : (hart : ℕ) (items : List Item) → AreAllowed (λ hart item. Unit {0}) hart items
+all_allowed hart [] = tt
+all_allowed hart (i ∷ is) = (tt, all_allowed hart is)
+
+all_ready : (todo : List (ℕ × Item)) → AreReady (λ hart item. Unit {0}) todo
+all_ready [] = tt
+all_ready (x ∷ xs) = (all_allowed x.0 (parts_of x.1), all_ready xs)
+
+pub always_ready : (harts : List HartDecl) → BodiesAreReady (λ hart item. Unit {0}) harts
+always_ready harts = all_ready (all_items 0 harts)

@@ -2,6 +2,7 @@
 ghost use Rattle.std.specs.Prelude.{◌≡◌, map, true};
 ghost use Rattle.tpl_ast.specs.Choices.{all_true, are_ways_fit, can_pick, is_fit};
 ghost use Rattle.gen_search.specs.Fit.{CanSearch};
+ghost use Rattle.gen_search.specs.Ready.{BodiesAreReady};
 
 use tpl_ast::{HartDecl, Item};
 
@@ -58,9 +59,11 @@ fn is_item_fit(item: &Item) -> bool
     }
 }
 
-/// Whether the bodies of harts can be searched.
+/// Whether the bodies of harts can be searched. A listed test takes all their leaves and labels.
+#[tactic(auto, using(crate::proofs::Found::always_ready))]
 pub fn can_search(harts: &[HartDecl]) -> bool
-    ensures { result ≡ true → CanSearch harts.now }
+    ensures fit { result ≡ true → CanSearch harts.now }
+    ensures ready { BodiesAreReady (λ hart item. Unit {0}) harts.now }
 {
     for hart in harts {
         if !is_body_fit(&hart.body) {

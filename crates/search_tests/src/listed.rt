@@ -99,7 +99,9 @@ impl PartialTest for ListedTest {
 
     ghost turned = { λ s. s.turns };
 
-    ghost rules = { rules_of };
+    ghost follows = { λ rules. rules ≡ rules_of };
+
+    ghost can_take = { λ whole hart item. Unit {0} };
 
     fn mark(&self) -> usize {
         self.changes.as_slice().len()

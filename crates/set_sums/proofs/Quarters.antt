@@ -5,7 +5,7 @@ use Rattle.std.proofs.lemmas.Nat.{and_mask}
 use Rattle.dom_set.specs.Elements.{elements_of, is_in, is_matching}
 use Rattle.dom_set.specs.Laws.{ElementsPass, IsInTests}
 use Rattle.set_sums.specs.Remainders.{AreClasses, HasClassSums, HasRemainders, IsStepMask}
-use Rattle.set_sums.specs.Spans.{HasDifferences, HasSums}
+use Rattle.set_sums.specs.Spans.{HasDifferences, HasDifferencesWithin, HasSumsWithin}
 use Rattle.set_sums.proofs.Members.{element, is_in-elements_of, is_in-filter, joined}
 use Rattle.set_sums.proofs.Spans.{first_of_two}
 
@@ -46,15 +46,15 @@ left_by_part v w = omega arith
 in_both : (around classes made : List ℕ) (n : ℕ) → made ≡ filter (is_in classes) around → IsTrue (is_in around n) → IsTrue (is_in classes n) → IsTrue (is_in made n)
 in_both around classes made n is h k = subst IsTrue (sym (ap (λ (d : List ℕ). is_in d n) is ∙ is_in-filter (is_in classes) around n)) (joined (is_in classes n) (is_in around n) k h)
 
-pub both_sums : (first second around classes made : List ℕ) → HasSums first second around → HasClassSums first second 1 classes → made ≡ filter (is_in classes) around → HasSums first second made
-both_sums first second around classes made sums same is v w h k = in_both around classes made ((v + w) % 2 ^ 32) is (sums v w h k) (same ((v + w) % 2 ^ 32) v w (word v w) h k (left_by_sum v w))
+pub both_sums : (first second domain around classes made : List ℕ) → HasSumsWithin first second domain around → HasClassSums first second 1 classes → made ≡ filter (is_in classes) around → HasSumsWithin first second domain made
+both_sums first second domain around classes made sums same is v w h k d = in_both around classes made ((v + w) % 2 ^ 32) is (sums v w h k d) (same ((v + w) % 2 ^ 32) v w (word v w) h k (left_by_sum v w))
 
 -- what leaves the class of differences holds them
 pub class_has : (first second classes : List ℕ) → HasClassSums first second 3 classes → HasDifferences first second classes
 class_has first second classes same v w small h k = same v ((v + w) % 2 ^ 32) w small k h (left_by_part v w)
 
-pub both_differences : (first second around classes made : List ℕ) → HasDifferences first second around → HasDifferences first second classes → made ≡ filter (is_in classes) around → HasDifferences first second made
-both_differences first second around classes made parts same is v w small h k = in_both around classes made v is (parts v w small h k) (same v w small h k)
+pub both_differences : (first second domain around classes made : List ℕ) → All (λ x. x < 2 ^ 32) domain → HasDifferencesWithin first second domain around → HasDifferences first second classes → made ≡ filter (is_in classes) around → HasDifferencesWithin first second domain made
+both_differences first second domain around classes made words parts same is v w d h k = in_both around classes made v is (parts v w d h k) (same v w (element (λ n. n < 2 ^ 32) domain v words d) h k)
 
 -- the low bits of a difference, by those of the sum and of the part
 low_difference : (mask sum part d v w : ℕ) → IsStepMask mask → v < 2 ^ 32 → w < 2 ^ 32 → d ≡ (sum + (2 ^ 32 - part)) % 2 ^ 32 → bit_and ((v + w) % 2 ^ 32) mask ≡ sum → bit_and w mask ≡ part → bit_and v mask ≡ bit_and d mask

@@ -10,7 +10,7 @@ use Rattle.std.proofs.lemmas.List.Kept.{AllPairs-from_increasing}
 use Rattle.std.proofs.lemmas.Option.{get_or_from_slice_get}
 use Rattle.dom_set.specs.Elements.{elements_of, is_in, is_within}
 use Rattle.dom_set.specs.Laws.{ElementsPass, IsInTests}
-use Rattle.set_sums.specs.Spans.{AreCovered, AreKept, AreNegated, HasDifferences, HasSums, HaveSums, IsBetween, IsOfRanges}
+use Rattle.set_sums.specs.Spans.{AreCovered, AreKept, AreNegated, AreNegatives, HasDifferencesWithin, HasSums, HaveSums, IsBetween, IsOfRanges}
 use Rattle.set_sums.proofs.Members.{element, is_in-elements_of, is_in-filter, joined, left, right}
 
 pub either : (a b : Bool) → IsTrue (a || b) → IsTrue a ⊎ IsTrue b
@@ -109,10 +109,21 @@ sums_turned first second made sums v w h k = subst (λ (n : ℕ). IsTrue (is_in 
 away : (v w : ℕ) → v < 2 ^ 32 → w < 2 ^ 32 → ((v + w) % 2 ^ 32 + (2 ^ 32 - w) % 2 ^ 32) % 2 ^ 32 ≡ v
 away v w small fits = omega arith
 
-pub differences_by_ranges : (first second made : List ℕ) (firsts seconds others ranges : List (ℕ × ℕ)) → All (λ w. w < 2 ^ 32) second → AreCovered first firsts → AreCovered second seconds → AreNegated others seconds → HaveSums ranges firsts others → IsOfRanges ranges made → HasDifferences first second made
-differences_by_ranges first second made firsts seconds others ranges words one two turned sums is v w small h k =
-    let fits : w < 2 ^ 32 = element (λ n. n < 2 ^ 32) second w words h in
-    is.all v small (subst (λ (n : ℕ). IsTrue (is_within ranges n)) (away v w small fits) (sums ((v + w) % 2 ^ 32) ((2 ^ 32 - w) % 2 ^ 32) (one ((v + w) % 2 ^ 32) k) (turned w (omega arith) (two w h))))
+-- where the second set has one element
+pub differences_by_shift : (first second domain made : List ℕ) (x : ℕ) → All (λ v. v < 2 ^ 32) domain → ((w : ℕ) → IsTrue (is_in second w) → w ≡ x) → ((v : ℕ) → v < 2 ^ 32 → is_in made v ≡ is_in first ((v + x) % 2 ^ 32)) → HasDifferencesWithin first second domain made
+differences_by_shift first second domain made x words only is v w d h k = subst IsTrue (sym (is v (element (λ n. n < 2 ^ 32) domain v words d))) (subst (λ (n : ℕ). IsTrue (is_in first ((v + n) % 2 ^ 32))) (only w h) k)
+
+-- what leads to 0, by ranges around the elements
+pub negatives_by_ranges : (set : List ℕ) (ranges negated : List (ℕ × ℕ)) → All (λ w. w < 2 ^ 32) set → AreCovered set ranges → AreNegated negated ranges → AreNegatives set negated
+negatives_by_ranges set ranges negated words covered turned w h =
+    let fits : w < 2 ^ 32 = element (λ n. n < 2 ^ 32) set w words h in
+    turned w (omega (arith, fits)) (covered w h)
+
+pub differences_by_ranges : (first second domain made : List ℕ) (firsts others windows ranges : List (ℕ × ℕ)) → All (λ w. w < 2 ^ 32) second → All (λ v. v < 2 ^ 32) domain → AreCovered first firsts → AreNegatives second others → AreCovered domain windows → HaveSums ranges firsts others windows → IsOfRanges ranges made → HasDifferencesWithin first second domain made
+differences_by_ranges first second domain made firsts others windows ranges words small one negatives within sums is v w d h k =
+    let word : v < 2 ^ 32 = element (λ n. n < 2 ^ 32) domain v small d in
+    let back : ((v + w) % 2 ^ 32 + (2 ^ 32 - w) % 2 ^ 32) % 2 ^ 32 ≡ v = away v w word (element (λ n. n < 2 ^ 32) second w words h) in
+    is.all v word (subst (λ (n : ℕ). IsTrue (is_within ranges n)) back (sums ((v + w) % 2 ^ 32) ((2 ^ 32 - w) % 2 ^ 32) (one ((v + w) % 2 ^ 32) k) (negatives w h) (subst (λ (n : ℕ). IsTrue (is_within windows n)) (sym back) (within v d))))
 
 -- one element more is a range
 pub singled : (xs : List ℕ) (ranges new : List (ℕ × ℕ)) (i v k d : ℕ) → slice_get xs i ≡ Some v → new ≡ ranges ++ (v, v) ∷ [] → ((j e : ℕ) → j < i → IsTrue (is_within ranges (get_or xs j e))) → k < i + 1 → IsTrue (is_within new (get_or xs k d))

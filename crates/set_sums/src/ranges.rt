@@ -1,7 +1,7 @@
 // Sets by ranges and sums of sets, where more elements than those asked for do no harm.
-ghost use Rattle.std.specs.Prelude.{◌≡◌, ℕ, ◌+◌, ◌-◌, ◌%◌, ◌^◌, ◌<◌, false, true, All, IfOk, IfSome, IsNone, IsTrue, OnOk};
+ghost use Rattle.std.specs.Prelude.{◌≡◌, ℕ, ◌+◌, ◌-◌, ◌%◌, ◌^◌, ◌<◌, [], ◌∷◌, false, true, All, IfOk, IfSome, IsNone, IsTrue, OnOk};
 ghost use Rattle.dom_set.specs.Elements.{is_in};
-ghost use Rattle.set_sums.specs.Spans.{AreCovered, AreKept, HasDifferences, HasHalves, HasSums, HaveHalves, HaveHalvesOf, HaveRound, HaveSums, HaveSumsWith, AreNegated, IsBetween, IsOfRanges};
+ghost use Rattle.set_sums.specs.Spans.{AreCovered, AreKept, AreNegated, AreNegatives, HasDifferencesWithin, HasHalves, HasSumsWithin, HaveHalves, HaveHalvesOf, HaveRound, HaveSums, HaveSumsOf, HaveSumsWith, IsAround, IsBetween, IsMet, IsOfRanges, MayMeet};
 
 use crate::remainders::{class_differences, class_sums};
 use dom_set::{OutOfMemory, Set, set_laws};
@@ -32,6 +32,14 @@ pub fn shifted(alloc: Global, set: &Set, distance: u32) -> Result<Set, OutOfMemo
     set_laws();
     let shifted = set.shift(alloc, distance)?;
     Ok(shifted)
+}
+
+/// Each element minus the distance, modulo 2^32.
+fn lowered(alloc: Global, set: &Set, distance: u32) -> Result<Set, OutOfMemory>
+    ensures { IfOk result (λ s. (v : ℕ) → v < 2 ^ 32 → is_in s v ≡ is_in set.now ((v + distance) % 2 ^ 32)) }
+{
+    let lowered = shifted(alloc, set, 0u32.wrapping_sub(distance))?;
+    Ok(lowered)
 }
 
 /// Whether the sets have a common element.
@@ -73,8 +81,20 @@ fn push_ends(ranges: &mut Vec<Span>, set: &Set) -> Result<(), OutOfMemory>
 /// How many elements a set may have so that each is a range of its own.
 const FEW: u64 = 32;
 
-/// How many pairs of ranges of two sets are looked at, at most.
+/// How many sums of ranges are kept, at most, where both sets are taken as they are.
 const MANY: usize = 8192;
+
+/// How many are, where the windows are narrow.
+const MORE: usize = 65_536;
+
+/// How many words narrow windows have, at most.
+const NARROW: u64 = 65_536;
+
+/// How many ranges are looked at one by one.
+const BLOCK: usize = 16;
+
+/// How many ranges of a domain are windows of their own.
+const WINDOWS: usize = 4;
 
 /// Each element is a range.
 fn elements(alloc: Global, set: &Set) -> Result<Vec<Span>, OutOfMemory>
@@ -117,18 +137,130 @@ fn parts(alloc: Global, set: &Set) -> Result<Vec<Span>, OutOfMemory>
     Ok(parts)
 }
 
-/// Ranges around the elements of both sets. Where there would be too many pairs of them, the set that has fewer is
+/// Ranges around the elements of a domain: its spans where they are few, and else two at most.
+fn windows_of(alloc: Global, domain: &Set) -> Result<Vec<Span>, OutOfMemory>
+    ensures { IfOk result (λ windows. AreCovered domain.now windows.items) }
+{
+    let windows = domain.spans(alloc)?;
+    if windows.len() <= WINDOWS {
+        return Ok(windows);
+    }
+    let windows = halves(alloc, domain)?;
+    Ok(windows)
+}
+
+/// Whether one of the numbers from the lowest to the highest, modulo 2^32, is in the window.
+fn is_met(window: Span, low: u64, high: u64) -> bool
+    requires { high < 2 ^ 33 }
+    ensures { IsMet (window ∷ []) low high result }
+{
+    let (first, last) = (u64::from(window.0), u64::from(window.1));
+    (low <= last && first <= high) || (low <= WORDS + last && WORDS + first <= high)
+}
+
+/// Whether one of the numbers from the lowest to the highest, modulo 2^32, is in one of the windows.
+fn are_met(windows: &[Span], low: u64, high: u64) -> bool
+    requires { high < 2 ^ 33 }
+    ensures { IsMet windows.now low high result }
+{
+    for window in windows {
+        if is_met(*window, low, high) {
+            return true;
+        }
+    }
+    false
+}
+
+/// A range around all ranges.
+fn hull(ranges: &[Span]) -> Span
+    ensures { IsAround ranges.now result }
+{
+    let mut low = u32::MAX;
+    let mut high = 0;
+    for range in ranges {
+        low = low.min(range.0);
+        high = high.max(range.1);
+    }
+    (low, high)
+}
+
+/// Whether a sum of a number of the first ranges and one of the others may be in a window, by ranges around all of them.
+fn may_meet(firsts: &[Span], others: &[Span], windows: &[Span]) -> bool
+    ensures { MayMeet firsts.now others.now windows.now result }
+{
+    let (low, high) = sum_of(hull(firsts), hull(others));
+    are_met(windows, low, high)
+}
+
+/// How many of the others have a sum with the first range that is in a window.
+fn count_met(first: Span, others: &[Span], windows: &[Span]) -> usize {
+    let mut count = 0usize;
+    for other in others {
+        let (low, high) = sum_of(first, *other);
+        if are_met(windows, low, high) {
+            count = count.saturating_add(1);
+        }
+    }
+    count
+}
+
+/// How many sums of ranges are kept, at most: more where the windows are narrow, since then few numbers are left.
+fn most_of(windows: &[Span]) -> usize {
+    let mut width = 0u64;
+    for window in windows {
+        width = width.saturating_add(u64::from(window.1.saturating_sub(window.0)));
+    }
+    if width < NARROW { MORE } else { MANY }
+}
+
+/// How many pairs there are besides so many, as `push_pairs` finds them, until there are too many.
+fn count_pairs(
+    many: usize,
+    most: usize,
+    firsts: &[Span],
+    others: &[Span],
+    windows: &[Span],
+) -> usize {
+    if many > most || !may_meet(firsts, others, windows) {
+        return many;
+    }
+    if firsts.len() <= BLOCK && others.len() <= BLOCK {
+        let mut count = many;
+        for first in firsts {
+            count = count.saturating_add(count_met(*first, others, windows));
+        }
+        return count;
+    }
+    if firsts.len() < others.len() {
+        let (front, back) = others.split_at(others.len() / 2);
+        let many = count_pairs(many, most, firsts, front, windows);
+        return count_pairs(many, most, firsts, back, windows);
+    }
+    let (front, back) = firsts.split_at(firsts.len() / 2);
+    let many = count_pairs(many, most, front, others, windows);
+    count_pairs(many, most, back, others, windows)
+}
+
+/// Whether more sums of ranges would be kept than at most.
+fn are_many(firsts: &[Span], others: &[Span], windows: &[Span]) -> bool {
+    let most = most_of(windows);
+    firsts.len().saturating_mul(others.len()) > most
+        && count_pairs(0, most, firsts, others, windows) > most
+}
+
+/// Ranges around the elements of both sets. Where too many sums of them would matter, the set that has fewer is
 /// given two at most.
 fn both_parts(
     alloc: Global,
     first: &Set,
     second: &Set,
+    windows: &[Span],
 ) -> Result<(Vec<Span>, Vec<Span>), OutOfMemory>
     ensures { IfOk result (λ both. AreCovered first.now both.0.items × AreCovered second.now both.1.items) }
 {
     let firsts = parts(alloc, first)?;
     let seconds = parts(alloc, second)?;
-    if firsts.len().saturating_mul(seconds.len()) <= MANY {
+    if !are_many(&firsts, &seconds, windows) {
         return Ok((firsts, seconds));
     }
     if firsts.len() < seconds.len() {
@@ -158,30 +290,108 @@ fn push_round(ranges: &mut Vec<Span>, low: u64, high: u64) -> Result<(), OutOfMe
     Ok(())
 }
 
-/// The sums of a number of the first range and one of the others.
-fn push_sums(ranges: &mut Vec<Span>, first: Span, others: &[Span]) -> Result<(), OutOfMemory>
-    ensures sums { OnOk result (HaveSumsWith ranges.new.items first others.now) }
+/// The lowest and the highest sum of a number of each range.
+fn sum_of(first: Span, other: Span) -> (u64, u64)
+    ensures low { result.0 ≡ first.0 + other.0 }
+    ensures high { result.1 ≡ first.1 + other.1 }
+    ensures bound { result.1 < 2 ^ 33 }
+{
+    (
+        u64::from(first.0) + u64::from(other.0),
+        u64::from(first.1) + u64::from(other.1),
+    )
+}
+
+/// The sums of a number of each range that are in a window, and perhaps more.
+fn push_sum(
+    ranges: &mut Vec<Span>,
+    first: Span,
+    other: Span,
+    windows: &[Span],
+) -> Result<(), OutOfMemory>
+    ensures sums { OnOk result (HaveSumsOf ranges.new.items first other windows.now) }
     ensures kept { OnOk result (AreKept ranges.old.items ranges.new.items) }
 {
-    for other in others {
-        let (low, high) = *other;
-        push_round(
-            ranges,
-            u64::from(first.0) + u64::from(low),
-            u64::from(first.1) + u64::from(high),
-        )?;
+    let (low, high) = sum_of(first, other);
+    if are_met(windows, low, high) {
+        push_round(ranges, low, high)?;
     }
     Ok(())
 }
 
-/// The sums of a number of the first ranges and one of the others.
-fn range_sums(alloc: Global, firsts: &[Span], others: &[Span]) -> Result<Vec<Span>, OutOfMemory>
-    ensures { IfOk result (λ sums. HaveSums sums.items firsts.now others.now) }
+/// The sums of a number of the first range and one of the others that are in a window, and perhaps more.
+fn push_sums(
+    ranges: &mut Vec<Span>,
+    first: Span,
+    others: &[Span],
+    windows: &[Span],
+) -> Result<(), OutOfMemory>
+    ensures sums { OnOk result (HaveSumsWith ranges.new.items first others.now windows.now) }
+    ensures kept { OnOk result (AreKept ranges.old.items ranges.new.items) }
+{
+    for other in others {
+        push_sum(ranges, first, *other, windows)?;
+    }
+    Ok(())
+}
+
+/// The same for each of the first ranges.
+fn push_block(
+    ranges: &mut Vec<Span>,
+    firsts: &[Span],
+    others: &[Span],
+    windows: &[Span],
+) -> Result<(), OutOfMemory>
+    ensures sums { OnOk result (HaveSums ranges.new.items firsts.now others.now windows.now) }
+    ensures kept { OnOk result (AreKept ranges.old.items ranges.new.items) }
+{
+    for first in firsts {
+        push_sums(ranges, *first, others, windows)?;
+    }
+    Ok(())
+}
+
+/// The same, by halves of the longer list where the ranges are not few, so that what is far from the windows is passed
+/// over as a whole.
+fn push_pairs(
+    ranges: &mut Vec<Span>,
+    firsts: &[Span],
+    others: &[Span],
+    windows: &[Span],
+) -> Result<(), OutOfMemory>
+    ensures sums { OnOk result (HaveSums ranges.new.items firsts.now others.now windows.now) }
+    ensures kept { OnOk result (AreKept ranges.old.items ranges.new.items) }
+{
+    if !may_meet(firsts, others, windows) {
+        return Ok(());
+    }
+    if firsts.len() <= BLOCK && others.len() <= BLOCK {
+        push_block(ranges, firsts, others, windows)?;
+        return Ok(());
+    }
+    if firsts.len() < others.len() {
+        let (front, back) = others.split_at(others.len() / 2);
+        push_pairs(ranges, firsts, front, windows)?;
+        push_pairs(ranges, firsts, back, windows)?;
+        return Ok(());
+    }
+    let (front, back) = firsts.split_at(firsts.len() / 2);
+    push_pairs(ranges, front, others, windows)?;
+    push_pairs(ranges, back, others, windows)?;
+    Ok(())
+}
+
+/// The sums of a number of the first ranges and one of the others that are in a window, and perhaps more.
+fn range_sums(
+    alloc: Global,
+    firsts: &[Span],
+    others: &[Span],
+    windows: &[Span],
+) -> Result<Vec<Span>, OutOfMemory>
+    ensures { IfOk result (λ sums. HaveSums sums.items firsts.now others.now windows.now) }
 {
     let mut sums = Vec::new(alloc);
-    for first in firsts {
-        push_sums(&mut sums, *first, others)?;
-    }
+    push_pairs(&mut sums, firsts, others, windows)?;
     Ok(sums)
 }
 
@@ -201,20 +411,26 @@ fn negated(alloc: Global, ranges: &[Span]) -> Result<Vec<Span>, OutOfMemory>
     Ok(negated)
 }
 
-/// The sums of elements of two sets, by their ranges.
-fn sums_around(alloc: Global, first: &Set, second: &Set) -> Result<Set, OutOfMemory>
-    ensures { IfOk result (HasSums first.now second.now) }
+/// The sums of elements of two sets that are in the domain, by ranges.
+fn sums_around(alloc: Global, first: &Set, second: &Set, domain: &Set) -> Result<Set, OutOfMemory>
+    ensures { IfOk result (HasSumsWithin first.now second.now domain.now) }
 {
-    let (firsts, others) = both_parts(alloc, first, second)?;
-    let ranges = range_sums(alloc, &firsts, &others)?;
+    let windows = windows_of(alloc, domain)?;
+    let (firsts, others) = both_parts(alloc, first, second, &windows)?;
+    let ranges = range_sums(alloc, &firsts, &others, &windows)?;
     let sums = words_of(alloc, &ranges)?;
     Ok(sums)
 }
 
-/// The sums of elements of two sets, modulo 2^32: just these where one of the sets has one element, and
-/// else perhaps more.
-pub fn sums(alloc: Global, first: &Set, second: &Set) -> Result<Set, OutOfMemory>
-    ensures { IfOk result (HasSums first.now second.now) }
+/// The sums of elements of two sets, modulo 2^32, that are in the domain, and perhaps more: just all sums where one of
+/// the sets has one element.
+pub fn sums_within(
+    alloc: Global,
+    first: &Set,
+    second: &Set,
+    domain: &Set,
+) -> Result<Set, OutOfMemory>
+    ensures { IfOk result (HasSumsWithin first.now second.now domain.now) }
 {
     first.element_laws();
     second.element_laws();
@@ -226,35 +442,72 @@ pub fn sums(alloc: Global, first: &Set, second: &Set) -> Result<Set, OutOfMemory
         let sums = shifted(alloc, second, x)?;
         return Ok(sums);
     }
-    let around = sums_around(alloc, first, second)?;
+    let around = sums_around(alloc, first, second, domain)?;
     let classes = class_sums(alloc, first, second, 1)?;
     let sums = around.and(alloc, &classes)?;
     Ok(sums)
 }
 
-/// The words that give an element of the first set when one of the second is added, by their ranges.
-fn differences_around(alloc: Global, first: &Set, second: &Set) -> Result<Set, OutOfMemory>
+/// Ranges around the elements of the first set, and around what leads to 0 when one of the second is added. Where too
+/// many sums of them would matter, the set that has fewer is given two at most.
+fn difference_parts(
+    alloc: Global,
+    first: &Set,
+    second: &Set,
+    windows: &[Span],
+) -> Result<(Vec<Span>, Vec<Span>), OutOfMemory>
     requires { All (λ w. w < 2 ^ 32) second.now }
-    ensures { IfOk result (HasDifferences first.now second.now) }
+    ensures { IfOk result (λ both. AreCovered first.now both.0.items × AreNegatives second.now both.1.items) }
 {
-    let (firsts, seconds) = both_parts(alloc, first, second)?;
+    let wholes = parts(alloc, first)?;
+    let seconds = parts(alloc, second)?;
     let others = negated(alloc, &seconds)?;
-    let ranges = range_sums(alloc, &firsts, &others)?;
+    if !are_many(&wholes, &others, windows) {
+        return Ok((wholes, others));
+    }
+    if wholes.len() < others.len() {
+        let wholes = halves(alloc, first)?;
+        return Ok((wholes, others));
+    }
+    let seconds = halves(alloc, second)?;
+    let others = negated(alloc, &seconds)?;
+    Ok((wholes, others))
+}
+
+/// The words of the domain that give an element of the first set when one of the second is added, by ranges.
+fn differences_around(
+    alloc: Global,
+    first: &Set,
+    second: &Set,
+    domain: &Set,
+) -> Result<Set, OutOfMemory>
+    ensures { IfOk result (HasDifferencesWithin first.now second.now domain.now) }
+{
+    second.element_laws();
+    domain.element_laws();
+    let windows = windows_of(alloc, domain)?;
+    let (firsts, others) = difference_parts(alloc, first, second, &windows)?;
+    let ranges = range_sums(alloc, &firsts, &others, &windows)?;
     let differences = words_of(alloc, &ranges)?;
     Ok(differences)
 }
 
-/// The words that give an element of the first set when one of the second is added, modulo 2^32: just
-/// these where the second set has one element, and else perhaps more.
-pub fn differences(alloc: Global, first: &Set, second: &Set) -> Result<Set, OutOfMemory>
-    ensures { IfOk result (HasDifferences first.now second.now) }
+/// The words of the domain that give an element of the first set when one of the second is added, modulo 2^32, and
+/// perhaps more: just all such words where the second set has one element.
+pub fn differences_within(
+    alloc: Global,
+    first: &Set,
+    second: &Set,
+    domain: &Set,
+) -> Result<Set, OutOfMemory>
+    ensures { IfOk result (HasDifferencesWithin first.now second.now domain.now) }
 {
-    second.element_laws();
+    domain.element_laws();
     if let Some(x) = second.only() {
-        let differences = shifted(alloc, first, 0u32.wrapping_sub(x))?;
+        let differences = lowered(alloc, first, x)?;
         return Ok(differences);
     }
-    let around = differences_around(alloc, first, second)?;
+    let around = differences_around(alloc, first, second, domain)?;
     let classes = class_differences(alloc, first, second)?;
     let differences = around.and(alloc, &classes)?;
     Ok(differences)

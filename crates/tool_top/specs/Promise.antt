@@ -1,5 +1,5 @@
 -- What the program promises.
-use Rattle.std.specs.Prelude.{◌≡◌, ◌≢◌, ℕ, ◌≤◌, ◌==◌, if◌then◌else◌, List, [], drop, take, length, codes, Some, Bool, not, ◌||◌, true, ◌⊎◌}
+use Rattle.std.specs.Prelude.{◌≡◌, ◌≢◌, ℕ, ◌≤◌, ◌==◌, nat_le, ◌&&◌, if◌then◌else◌, List, [], drop, take, length, codes, Some, Bool, not, ◌||◌, true, ◌⊎◌}
 use Rattle.std.specs.declared.option.Option.{Option}
 use Rattle.std.specs.Io.KnownBytes.{Appends, Consumes}
 use Rattle.streams.specs.Causes.{EndsAtFault, Rose}
@@ -75,6 +75,6 @@ ends_reading status = not (status == 2 || (status == 6 || status == 8))
 abbrev pub IsAllRead : Command → Option (List ℕ) → Option (List ℕ) → ℕ → Type 0
 IsAllRead command old new status = ends_reading status ≡ true → (bytes : List ℕ) → old ≡ Some bytes → new ≡ Some (drop (limit_of command) bytes)
 
--- the numbers that the program ends with
+-- the numbers that the program may end with, whatever it is asked for
 abbrev pub is_status : ℕ → Bool
-is_status n = n == 0 || (n == 2 || (n == 3 || (n == 6 || (n == 7 || (n == 8 || (n == 9 || n == 10))))))
+is_status n = n == 0 || (n == 2 || (n == 3 || nat_le 5 n && nat_le n 12))

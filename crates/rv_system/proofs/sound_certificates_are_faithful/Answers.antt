@@ -1,5 +1,5 @@
 use Rattle.rv_system.proofs.Law.{faithful, first_agrees}
-use Rattle.rv_system.proofs.Fills.{fills_agree, fills_are_all, fills_are_kept, fills_are_legal, zero_is_a_fill}
+use Rattle.rv_system.proofs.Fills.{fills_agree, fills_are_all, fills_are_kept, fills_are_legal, machines_fill, zero_is_a_fill}
 use Rattle.rv_system.proofs.sound_certificates_are_faithful.Goals as goal
 
 pub returns-clause-faithful : goal.returns-clause-faithful
@@ -19,6 +19,9 @@ returns-clause-all c = fills_are_all
 
 pub returns-clause-legal : goal.returns-clause-legal
 returns-clause-legal c = fills_are_legal
+
+pub returns-clause-machines : goal.returns-clause-machines
+returns-clause-machines c = machines_fill
 
 pub returns-clause-zero : goal.returns-clause-zero
 returns-clause-zero c = zero_is_a_fill

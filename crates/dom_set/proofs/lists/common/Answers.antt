@@ -1,6 +1,9 @@
-use Rattle.std.proofs.Common.{ℕ, ◌*◌, ap, arith}
-use Rattle.dom_set.specs.Pieces.{times}
+use Rattle.std.proofs.Common.{List, ℕ, ◌*◌, drop, ap, arith}
+use Rattle.dom_set.specs.declared.piece.Piece.{Piece}
+use Rattle.dom_set.specs.Counting.{one}
+use Rattle.dom_set.specs.Pieces.{in_piece, times}
 use Rattle.dom_set.proofs.Times.{times_rest}
+use Rattle.dom_set.proofs.Walks.{shared_alive}
 use Rattle.dom_set.proofs.lists.common.Goals as goal
 
 pub loop-p-preserved : goal.loop-p-preserved
@@ -9,7 +12,10 @@ loop-p-preserved c = record {
     arith,
     c.loop-p.invariant.shared x,
     c.in_ok-push_common.ensures x,
+    c.in_ok-push_common-2.ensures x,
+    ap (λ (ps : List Piece). one (in_piece c.p-item.result x) * times (drop 0 ps) x) c.deref.ensures.value,
+    shared_alive c.p-item.result c.args.others.now c.next_place.new.alive.items c.in_ok-place.place x c.in_ok-place.ensures,
     ap (λ (n : ℕ). n * times c.args.others.now x) (times_rest c.args.pieces.now c.loop-p.p-index c.p-item.result x c.loop-p-test.true c.p-item.is),
   );
-  passed = c.next_place-place.ensures;
+  alive = c.in_ok-place.ensures;
 }

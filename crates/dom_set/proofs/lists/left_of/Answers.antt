@@ -1,22 +1,17 @@
-use Rattle.std.proofs.Common.{List, [], ◌∷◌, ◌++◌, cond, drop, ap, ◌∙◌}
+use Rattle.std.proofs.Common.{List, [], ◌∷◌, ◌++◌, cond, sym, ap, ◌∙◌}
 use Rattle.dom_set.specs.declared.piece.Piece.{Piece}
 use Rattle.dom_set.specs.Pieces.{in_piece, times}
-use Rattle.dom_set.proofs.Walks.{left_all, left_first, left_next, rest_none, shared_none}
+use Rattle.dom_set.proofs.Walks.{left_first, left_next, left_done}
 use Rattle.dom_set.proofs.lists.left_of.Goals as goal
 
-pub loop-i-init : goal.loop-i-init
-loop-i-init c = λ x. left_first c.args.p c.args.others.now c.push.new.self.items c.args.place x c.requires.passed
+pub loop-q-init : goal.loop-q-init
+loop-q-init c = λ x. left_first c.args.p c.args.others.now c.push.new.self.items x
     (c.in_ok-push.ensures.items ∙ ap (λ (ps : List Piece). ps ++ c.args.p ∷ []) c.new-left.ensures.items)
 
-pub loop-i-preserved : goal.loop-i-preserved
-loop-i-preserved c = λ x. left_next c.args.p c.args.others.now c.loop-i.left.items c.in_ok-left.left.items c.loop-i.i c.index-others-i-in-loop-i.result x c.loop-i-test.true c.index-others-i-in-loop-i.is
-    (c.in_ok-left.ensures x ∙ ap (λ (ps : List Piece). cond (in_piece c.index-others-i-in-loop-i.result x) 0 (times ps x)) c.deref.ensures.value)
-    (c.loop-i.invariant x)
-
-pub returns-then-p-others : goal.returns-then-p-others
-returns-then-p-others c = λ x. left_all c.args.p c.args.others.now (drop c.loop-i.i c.args.others.now) c.loop-i.left.items x (c.loop-i.invariant x)
-    (shared_none c.args.p c.args.others.now c.loop-i.i c.index-others-i.result x (c.requires.ascending c.if-ascending.true) c.loop-i-test.true c.if-p-others.true)
+pub loop-q-preserved : goal.loop-q-preserved
+loop-q-preserved c = λ x. left_next c.args.others.now c.loop-q.q-index c.q-item.result (times c.loop-q.left.items x) (times c.in_ok-left.left.items x) x c.loop-q-test.true c.q-item.is
+    (c.in_ok-left.ensures x ∙ ap (λ (ps : List Piece). cond (in_piece c.q-item.result x) 0 (times ps x)) c.deref.ensures.value)
+    ∙ c.loop-q.invariant x
 
 pub returns : goal.returns
-returns c = λ x. left_all c.args.p c.args.others.now (drop c.loop-i.i c.args.others.now) c.loop-i.left.items x (c.loop-i.invariant x)
-    (rest_none c.args.p c.args.others.now c.loop-i.i x c.loop-i-test.false)
+returns c = λ x. sym (left_done c.args.others.now c.loop-q.q-index (times c.loop-q.left.items x) x c.loop-q-test.false) ∙ c.loop-q.invariant x

@@ -1,6 +1,7 @@
-use Rattle.std.proofs.Common.{ℕ, drop}
-use Rattle.dom_set.proofs.Walks.{IsLeft}
+use Rattle.std.proofs.Common.{◌≡◌, ℕ, cond, drop}
+use Rattle.dom_set.specs.Counting.{one}
+use Rattle.dom_set.specs.Pieces.{in_piece, holds, times}
 use Rattle.dom_set.proofs.lists.left_of.Given as goal
 
-abbrev pub invariant-loop-i : goal.invariant-loop-i
-invariant-loop-i l = (x : ℕ) → IsLeft l.p l.others (drop l.i l.others) l.left.items x
+abbrev pub invariant-loop-q : goal.invariant-loop-q
+invariant-loop-q l = (x : ℕ) → cond (holds (drop l.q-index l.others) x) 0 (times l.left.items x) ≡ cond (holds l.others x) 0 (one (in_piece l.fn.p x))

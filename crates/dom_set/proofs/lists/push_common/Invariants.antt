@@ -6,4 +6,4 @@ use Rattle.dom_set.proofs.lists.push_common.Given as goal
 abbrev pub invariant-loop-i : goal.invariant-loop-i
 invariant-loop-i l = (x : ℕ) →
     times l.out.items x + one (in_piece l.p x) * times (drop l.i l.others) x
-    ≡ times l.initial.out.items x + one (in_piece l.p x) * times l.others x
+    ≡ times l.initial.out.items x + one (in_piece l.p x) * times (drop l.place l.others) x

@@ -1,7 +1,10 @@
 use Rattle.std.proofs.Common.{◌≡◌, ℕ, ◌-◌, ◌/◌, ◌+◌, ◌*◌, ◌<◌, ◌≤◌, ◌^◌, Option, IfSome, sym, subst, ◌∙◌, arith}
 use Rattle.fd_prob.specs.Spaces.{pages_below}
-use Rattle.fd_prob.proofs.PageCounts.{advance, ending, run_to, starting}
+use Rattle.fd_prob.proofs.PageCounts.{advance, ending, run_to, spread_by, starting}
 use Rattle.fd_prob.proofs.pages.pages_of.Goals as goal
+
+pub returns-then-is_some : goal.returns-then-is_some
+returns-then-is_some c = c.size-size.ensures.size ∙ sym (spread_by c.args.set.now c.bits_under.result (sym c.is_some.ensures ∙ c.if-is_some.true) c.size-size.ensures.ascending c.size-size.ensures.words c.bits_under.ensures)
 
 pub loop-page-init : goal.loop-page-init
 loop-page-init c = record { counted = sym (starting c.args.set.now); few = omega arith; within = omega arith }

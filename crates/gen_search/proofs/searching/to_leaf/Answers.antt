@@ -9,6 +9,7 @@ use Rattle.gen_search.specs.Walks.{with_draws}
 use Rattle.gen_search.specs.Wholes.{wholes}
 use Rattle.gen_search.proofs.Items.{choice_steps, choose_entered, choose_rest, inside, label_rest, next_fit, repeat_entered, repeat_rest, seq_entered, seq_rest}
 use Rattle.gen_search.proofs.Kept.{get_kept, kept_longer, marked_le, marked_up, unwound_finished, unwound_kept, wholes_length}
+use Rattle.gen_search.proofs.Ready.{choose_ready, label_ready, next_ready, repeat_ready, seq_ready, turned_back}
 use Rattle.gen_search.proofs.searching.to_leaf.Goals as goal
 
 pub loop-item-preserved-in-Continue-branch-3 : goal.loop-item-preserved-in-Continue-branch-3
@@ -16,16 +17,23 @@ loop-item-preserved-in-Continue-branch-3 g c =
     let next : laid c.loop-item.walk.place ≡ (c.next_item.new.self.hart, c.in-Some.item.now) ∷ laid c.next_item.new.self = rw c.in-Some.is at c.in_ok-item.ensures.item in
     let known = c.loop-item.invariant in
     record {
-      same = λ turns.
-          known.same turns
-          ∙ inside _ g.P.PartialTest.rules turns (wholes (g.P.PartialTest.earlier c.loop-item.part) (g.P.PartialTest.whole c.loop-item.part)) c.loop-item.walk.choices.items (g.P.PartialTest.whole c.loop-item.part) c.loop-item.walk.tally _ _
-          (seq_rest _ g.P.PartialTest.rules turns c.next_item.new.self.hart c.in-Some.item.now c.in-Seq.body c.deref.result.now (laid c.loop-item.walk.place) (laid c.next_item.new.self) (laid c.enter.new.self) next c.in-Seq.is c.deref.ensures.value c.in_ok-enter-in-Seq.ensures.laid);
+      same = λ rules follow turns.
+          known.same rules follow turns
+          ∙ inside _ rules turns (wholes (g.P.PartialTest.earlier c.loop-item.part) (g.P.PartialTest.whole c.loop-item.part)) c.loop-item.walk.choices.items (g.P.PartialTest.whole c.loop-item.part) c.loop-item.walk.tally _ _
+          (seq_rest _ rules turns c.next_item.new.self.hart c.in-Some.item.now c.in-Seq.body c.deref.result.now (laid c.loop-item.walk.place) (laid c.next_item.new.self) (laid c.enter.new.self) next c.in-Seq.is c.deref.ensures.value c.in_ok-enter-in-Seq.ensures.laid);
       well = record {
         fit = seq_entered c.next_item.new.self.hart c.in-Some.item.now c.in-Seq.body c.deref.result.now (laid c.loop-item.walk.place) (laid c.next_item.new.self) (laid c.enter.new.self) next c.in-Seq.is c.deref.ensures.value c.in_ok-enter-in-Seq.ensures.laid known.well.fit;
         counted = subst (λ (n : ℕ). n < 2 ^ 32) (sym (λ i. c.in_ok-enter-in-Seq.ensures.hart i + length (c.in_ok-enter-in-Seq.ensures.later i).now)) c.in_ok-item.ensures.counted;
         choices = known.well.choices;
         marked = known.well.marked;
       };
+      ready = λ first start.
+          let before = known.ready first start in
+          record {
+            back = record { harts = before.back.harts; start = before.back.start; choices = before.back.choices };
+            place = seq_ready (g.P.PartialTest.can_take first) c.next_item.new.self.hart c.in-Some.item.now c.in-Seq.body c.deref.result.now (laid c.loop-item.walk.place) (laid c.next_item.new.self) (laid c.enter.new.self) next c.in-Seq.is c.deref.ensures.value c.in_ok-enter-in-Seq.ensures.laid before.place;
+            whole = before.whole;
+          };
       tally = known.tally;
       start = known.start;
       harts = known.harts;
@@ -38,16 +46,23 @@ loop-item-preserved-in-Continue-branch-4 g c =
     let next : laid c.loop-item.walk.place ≡ (c.next_item.new.self.hart, c.in-Some.item.now) ∷ laid c.next_item.new.self = rw c.in-Some.is at c.in_ok-item.ensures.item in
     let known = c.loop-item.invariant in
     record {
-      same = λ turns.
-          known.same turns
-          ∙ inside _ g.P.PartialTest.rules turns (wholes (g.P.PartialTest.earlier c.loop-item.part) (g.P.PartialTest.whole c.loop-item.part)) c.loop-item.walk.choices.items (g.P.PartialTest.whole c.loop-item.part) c.loop-item.walk.tally _ _
-          (repeat_rest _ g.P.PartialTest.rules turns c.next_item.new.self.hart c.in-Repeat.times c.in-Some.item.now c.in-Repeat.body c.deref-in-Repeat.result.now (laid c.loop-item.walk.place) (laid c.next_item.new.self) (laid c.enter-in-Repeat.new.self) next c.in-Repeat.is c.deref-in-Repeat.ensures.value c.in_ok-enter-in-Repeat.ensures.laid);
+      same = λ rules follow turns.
+          known.same rules follow turns
+          ∙ inside _ rules turns (wholes (g.P.PartialTest.earlier c.loop-item.part) (g.P.PartialTest.whole c.loop-item.part)) c.loop-item.walk.choices.items (g.P.PartialTest.whole c.loop-item.part) c.loop-item.walk.tally _ _
+          (repeat_rest _ rules turns c.next_item.new.self.hart c.in-Repeat.times c.in-Some.item.now c.in-Repeat.body c.deref-in-Repeat.result.now (laid c.loop-item.walk.place) (laid c.next_item.new.self) (laid c.enter-in-Repeat.new.self) next c.in-Repeat.is c.deref-in-Repeat.ensures.value c.in_ok-enter-in-Repeat.ensures.laid);
       well = record {
         fit = repeat_entered c.next_item.new.self.hart c.in-Repeat.times c.in-Some.item.now c.in-Repeat.body c.deref-in-Repeat.result.now (laid c.loop-item.walk.place) (laid c.next_item.new.self) (laid c.enter-in-Repeat.new.self) next c.in-Repeat.is c.deref-in-Repeat.ensures.value c.in_ok-enter-in-Repeat.ensures.laid known.well.fit;
         counted = subst (λ (n : ℕ). n < 2 ^ 32) (sym (λ i. c.in_ok-enter-in-Repeat.ensures.hart i + length (c.in_ok-enter-in-Repeat.ensures.later i).now)) c.in_ok-item.ensures.counted;
         choices = known.well.choices;
         marked = known.well.marked;
       };
+      ready = λ first start.
+          let before = known.ready first start in
+          record {
+            back = record { harts = before.back.harts; start = before.back.start; choices = before.back.choices };
+            place = repeat_ready (g.P.PartialTest.can_take first) c.next_item.new.self.hart c.in-Repeat.times c.in-Some.item.now c.in-Repeat.body c.deref-in-Repeat.result.now (laid c.loop-item.walk.place) (laid c.next_item.new.self) (laid c.enter-in-Repeat.new.self) next c.in-Repeat.is c.deref-in-Repeat.ensures.value c.in_ok-enter-in-Repeat.ensures.laid before.place;
+            whole = before.whole;
+          };
       tally = known.tally;
       start = known.start;
       harts = known.harts;
@@ -79,12 +94,21 @@ loop-item-preserved-in-Continue-branch-5 g c =
     let next : laid c.loop-item.walk.place ≡ (c.next_item.new.self.hart, c.in-Some.item.now) ∷ laid c.next_item.new.self = rw c.in-Some.is at c.in_ok-item.ensures.item in
     let known = c.loop-item.invariant in
     record {
-      same = λ turns.
-          known.same turns
-          ∙ inside _ g.P.PartialTest.rules turns (wholes (g.P.PartialTest.earlier c.loop-item.part) (g.P.PartialTest.whole c.loop-item.part)) c.loop-item.walk.choices.items (g.P.PartialTest.whole c.loop-item.part) c.loop-item.walk.tally _ _
-          (choose_rest _ g.P.PartialTest.rules turns c.next_item.new.self.hart c.in-Choose.line c.in-Some.item.now c.in-Choose.ways c.deref-in-Choose.result.now (laid c.loop-item.walk.place) (laid c.next_item.new.self) next c.in-Choose.is c.deref-in-Choose.ensures.value)
-          ∙ sym (c.in_ok-choose-in-Choose.ensures.same turns);
+      same = λ rules follow turns.
+          known.same rules follow turns
+          ∙ inside _ rules turns (wholes (g.P.PartialTest.earlier c.loop-item.part) (g.P.PartialTest.whole c.loop-item.part)) c.loop-item.walk.choices.items (g.P.PartialTest.whole c.loop-item.part) c.loop-item.walk.tally _ _
+          (choose_rest _ rules turns c.next_item.new.self.hart c.in-Choose.line c.in-Some.item.now c.in-Choose.ways c.deref-in-Choose.result.now (laid c.loop-item.walk.place) (laid c.next_item.new.self) next c.in-Choose.is c.deref-in-Choose.ensures.value)
+          ∙ sym (c.in_ok-choose-in-Choose.ensures.same rules follow turns);
       well = c.in_ok-choose-in-Choose.ensures.well;
+      ready = λ first start.
+          let before = known.ready first start in
+          c.in_ok-choose-in-Choose.ensures.ready first
+          (record {
+            back = record { harts = before.back.harts; start = before.back.start; choices = before.back.choices };
+            place = (next_ready (g.P.PartialTest.can_take first) c.next_item.new.self.hart c.in-Some.item.now (laid c.loop-item.walk.place) (laid c.next_item.new.self) next before.place).1;
+            whole = before.whole;
+          })
+          (choose_ready (g.P.PartialTest.can_take first) c.next_item.new.self.hart c.in-Choose.line c.in-Some.item.now c.in-Choose.ways c.deref-in-Choose.result.now (laid c.loop-item.walk.place) (laid c.next_item.new.self) next c.in-Choose.is c.deref-in-Choose.ensures.value before.place);
       tally = c.in_ok-choose-in-Choose.ensures.tally ∙ ap (with_draws c.choose.new.walk.tally.draws) known.tally;
       start = c.in_ok-choose-in-Choose.ensures.start ∙ known.start;
       harts = c.in_ok-choose-in-Choose.ensures.harts ∙ known.harts;
@@ -106,18 +130,25 @@ loop-item-preserved g c =
     let more = kept_longer (g.P.PartialTest.earlier c.loop-item.part) (g.P.PartialTest.whole c.loop-item.part) (g.P.PartialTest.earlier c.bind_label.new.self) (g.P.PartialTest.whole c.bind_label.new.self) c.in_ok-bind_label-in-Label.ensures.kept in
     let low : c.loop-item.walk.start ≤ length (g.P.PartialTest.earlier c.loop-item.part) = marked_le c.loop-item.walk.start c.loop-item.walk.choices.items (length (g.P.PartialTest.earlier c.loop-item.part)) known.well.marked in
     record {
-      same = λ turns.
-          known.same turns
-          ∙ ap (unwound g.P.PartialTest.rules turns old c.loop-item.walk.choices.items)
-          (label_rest _ g.P.PartialTest.rules turns c.next_item.new.self.hart c.in-Label.name c.in-Some.item.now (laid c.loop-item.walk.place) (laid c.next_item.new.self) (g.P.PartialTest.whole c.loop-item.part) (g.P.PartialTest.whole c.bind_label.new.self) c.loop-item.walk.tally next c.in-Label.is c.in_ok-bind_label-in-Label.ensures.whole)
-          ∙ sym (unwound_kept _ g.P.PartialTest.rules turns old new c.loop-item.walk.start c.loop-item.walk.choices.items (length (g.P.PartialTest.earlier c.loop-item.part))
-          (rest_of g.P.PartialTest.rules turns (laid c.next_item.new.self) (g.P.PartialTest.whole c.bind_label.new.self) c.loop-item.walk.tally) c.in_ok-bind_label-in-Label.ensures.kept within known.well.marked);
+      same = λ rules follow turns.
+          known.same rules follow turns
+          ∙ ap (unwound rules turns old c.loop-item.walk.choices.items)
+          (label_rest _ rules turns c.next_item.new.self.hart c.in-Label.name c.in-Some.item.now (laid c.loop-item.walk.place) (laid c.next_item.new.self) (g.P.PartialTest.whole c.loop-item.part) (g.P.PartialTest.whole c.bind_label.new.self) c.loop-item.walk.tally next c.in-Label.is (c.in_ok-bind_label-in-Label.ensures.whole rules follow))
+          ∙ sym (unwound_kept _ rules turns old new c.loop-item.walk.start c.loop-item.walk.choices.items (length (g.P.PartialTest.earlier c.loop-item.part))
+          (rest_of rules turns (laid c.next_item.new.self) (g.P.PartialTest.whole c.bind_label.new.self) c.loop-item.walk.tally) c.in_ok-bind_label-in-Label.ensures.kept within known.well.marked);
       well = record {
         fit = (next_fit c.next_item.new.self.hart c.in-Some.item.now (laid c.loop-item.walk.place) (laid c.next_item.new.self) next known.well.fit).1;
         counted = c.in_ok-item.ensures.counted;
         choices = known.well.choices;
         marked = marked_up c.loop-item.walk.start c.loop-item.walk.choices.items (length (g.P.PartialTest.earlier c.loop-item.part)) (length (g.P.PartialTest.earlier c.bind_label.new.self)) known.well.marked more;
       };
+      ready = λ first start.
+          let before = known.ready first start in
+          record {
+            back = turned_back _ g.P.PartialTest.can_take first (g.P.PartialTest.earlier c.loop-item.part) (g.P.PartialTest.whole c.loop-item.part) (g.P.PartialTest.earlier c.bind_label.new.self) (g.P.PartialTest.whole c.bind_label.new.self) c.loop-item.walk _ c.loop-item.walk.tally c.in_ok-bind_label-in-Label.ensures.kept known.well.marked before.back;
+            place = (next_ready (g.P.PartialTest.can_take first) c.next_item.new.self.hart c.in-Some.item.now (laid c.loop-item.walk.place) (laid c.next_item.new.self) next before.place).1;
+            whole = λ hart item can_first. c.in_ok-bind_label-in-Label.ensures.still hart item (before.whole hart item can_first);
+          };
       tally = known.tally;
       start = known.start;
       harts = known.harts;
@@ -129,8 +160,15 @@ loop-item-preserved g c =
     }
 
 pub returns-clause-done : goal.returns-clause-done
-returns-clause-done g c = λ turns.
+returns-clause-done g c = λ rules follow turns.
     let none : laid c.loop-item.walk.place ≡ [] = rw c.in_default.is at c.in_ok-item.ensures.item in
-    c.loop-item.invariant.same turns
-    ∙ ap (λ (todo : List (ℕ × Item)). unwound g.P.PartialTest.rules turns (wholes (g.P.PartialTest.earlier c.loop-item.part) (g.P.PartialTest.whole c.loop-item.part)) c.loop-item.walk.choices.items (rest_of g.P.PartialTest.rules turns todo (g.P.PartialTest.whole c.loop-item.part) c.loop-item.walk.tally)) none
-    ∙ unwound_finished _ g.P.PartialTest.rules turns (wholes (g.P.PartialTest.earlier c.loop-item.part) (g.P.PartialTest.whole c.loop-item.part)) c.loop-item.walk.choices.items (g.P.PartialTest.whole c.loop-item.part) c.loop-item.walk.tally
+    c.loop-item.invariant.same rules follow turns
+    ∙ ap (λ (todo : List (ℕ × Item)). unwound rules turns (wholes (g.P.PartialTest.earlier c.loop-item.part) (g.P.PartialTest.whole c.loop-item.part)) c.loop-item.walk.choices.items (rest_of rules turns todo (g.P.PartialTest.whole c.loop-item.part) c.loop-item.walk.tally)) none
+    ∙ unwound_finished _ rules turns (wholes (g.P.PartialTest.earlier c.loop-item.part) (g.P.PartialTest.whole c.loop-item.part)) c.loop-item.walk.choices.items (g.P.PartialTest.whole c.loop-item.part) c.loop-item.walk.tally
+
+pub bind_label-requires : goal.bind_label-requires
+bind_label-requires g c =
+    let next : laid c.loop-item.walk.place ≡ (c.next_item.new.self.hart, c.in-Some.item.now) ∷ laid c.next_item.new.self = rw c.in-Some.is at c.in_ok-item.ensures.item in
+    let first = c.requires.ready.0 in
+    let before = c.loop-item.invariant.ready first c.requires.ready.1 in
+    before.whole c.next_item.new.self.hart _ (label_ready (g.P.PartialTest.can_take first) c.next_item.new.self.hart c.in-Label.name c.in-Some.item.now (laid c.loop-item.walk.place) (laid c.next_item.new.self) next c.in-Label.is before.place)

@@ -20,6 +20,6 @@ returns-clause-kept c = kept_more c.args.part.now c.give.new.part c.advance.new.
 
 pub returns-clause-still : goal.returns-clause-still
 returns-clause-still c =
-    still c.args.hart (values_in c.args.x.now) c.in_ok-advance.field-0 (here c.args.part.now) (here c.advance.new.self) c.given_places_are_known.ensures.others
+    still c.args.hart (values_in c.args.x.now) c.in_ok-advance.field-0 (here c.args.part.now) (here c.advance.new.self) c.given_places_are_known.ensures.others c.values_are_by_places.ensures.control c.requires.found
     (taken_by c.args.hart (values_in c.args.x.now) c.in_ok-advance.field-0 (here c.args.part.now) (here c.give.new.part) (here c.advance.new.self) c.candidates_are_steps.ensures c.given_places_are_known.ensures.fixed c.is_test.ensures
     c.requires.hart c.requires.found c.in_ok-give.ensures.given c.in_ok-advance.ensures.now c.in_ok-advance.ensures.record)

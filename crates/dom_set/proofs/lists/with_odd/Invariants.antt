@@ -1,0 +1,6 @@
+use Rattle.std.proofs.Common.{◌≡◌, ℕ, ◌+◌, ◌-◌, ◌%◌, ◌^◌, ◌<◌, drop}
+use Rattle.dom_set.specs.Pieces.{times}
+use Rattle.dom_set.proofs.lists.with_odd.Given as goal
+
+abbrev pub invariant-loop-p : goal.invariant-loop-p
+invariant-loop-p l = (x : ℕ) → x < 2 ^ 32 → times l.out.items x + times (drop l.p-index l.pieces) (x - x % 2) ≡ times l.pieces (x - x % 2)

@@ -1,0 +1,106 @@
+// What is known of problems, without a search where none is needed.
+ghost use Rattle.std.specs.Prelude.{◌≡◌, true, IfOk};
+ghost use Rattle.fd_solve.specs.Answers.{IsAnswer, NothingFits};
+ghost use Rattle.fd_solve.specs.Known.{IsKnown, dropping, fitting_of, has_none};
+ghost use Rattle.fd_solve.specs.Marks.{IsSound, whole_of};
+
+use crate::answers::Solved;
+use crate::marked::Marked;
+use crate::meeting::fits_marked;
+use crate::operations::{answer_of, searched};
+use crate::search::words;
+use dom_set::OutOfMemory;
+use fd_prob::{Assignment, space};
+use std::alloc::Global;
+
+/// What is known of a problem under a budget.
+#[derive(Clone, Copy)]
+pub enum Known {
+    /// Its answer.
+    Answer(Solved),
+    /// An assignment that fits it, and that may not be the least one; its space is within the budget.
+    Fits(Assignment),
+}
+
+impl Known {
+    /// Whether it is known that nothing fits.
+    fn has_none(&self) -> bool
+        ensures { result ≡ has_none self.now }
+    {
+        match self {
+            Known::Answer(Solved::Found(_)) => false,
+            Known::Answer(Solved::NoneFits) => true,
+            Known::Answer(Solved::Spent) => false,
+            Known::Fits(_) => false,
+        }
+    }
+
+    /// An assignment that fits, where one is known.
+    fn fitting(&self) -> Option<Assignment>
+        ensures { result ≡ fitting_of self.now }
+    {
+        match self {
+            Known::Answer(Solved::Found(x)) => Some(*x),
+            Known::Answer(Solved::NoneFits) => None,
+            Known::Answer(Solved::Spent) => None,
+            Known::Fits(x) => Some(*x),
+        }
+    }
+
+    /// Whether a bias with which this is known is to be dropped, and if so whether the budget was spent.
+    pub fn dropping(&self) -> Option<bool>
+        ensures { result ≡ dropping self.now }
+    {
+        match self {
+            Known::Answer(Solved::Found(_)) => None,
+            Known::Answer(Solved::NoneFits) => Some(false),
+            Known::Answer(Solved::Spent) => Some(true),
+            Known::Fits(_) => None,
+        }
+    }
+}
+
+/// What is known of the problem with its marked biases, by what was known of it before the last bias was marked. There is
+/// no search where nothing fitted before, nor where the assignment that is known to have fitted still does.
+pub fn known_after(
+    alloc: Global,
+    before: &Known,
+    marked: &Marked,
+    nodes: u64,
+) -> Result<Known, OutOfMemory>
+    requires sound { IsSound marked.now }
+    requires none { has_none before.now ≡ true → NothingFits (whole_of marked.now) }
+    ensures { IfOk result (IsKnown (whole_of marked.now) nodes) }
+{
+    if nodes < space(marked.firsts) {
+        return Ok(Known::Answer(Solved::Spent));
+    }
+    if before.has_none() {
+        return Ok(Known::Answer(Solved::NoneFits));
+    }
+    if let Some(x) = before.fitting() {
+        words(&x.values);
+        if fits_marked(&x, marked) {
+            return Ok(Known::Fits(x));
+        }
+    }
+    let solved = searched(alloc, marked)?;
+    Ok(Known::Answer(solved))
+}
+
+/// The answer of the problem with its marked biases, after what is known of it.
+pub fn answer_after(
+    alloc: Global,
+    known: &Known,
+    marked: &Marked,
+    nodes: u64,
+) -> Result<Solved, OutOfMemory>
+    requires sound { IsSound marked.now }
+    requires known { IsKnown (whole_of marked.now) nodes known.now }
+    ensures { IfOk result (IsAnswer (whole_of marked.now) nodes) }
+{
+    match known {
+        Known::Answer(solved) => Ok(*solved),
+        Known::Fits(_) => answer_of(alloc, marked, nodes),
+    }
+}
