@@ -37,23 +37,45 @@ fn start(alloc: Global, places: &[(u32, u32)]) -> Result<HartState, AllocError> 
     })
 }
 
-/// Six divided by three, by the instruction at an address.
-fn division(pc: u32) -> Record {
+/// The fetch of a word.
+fn fetch(pc: u32, word: u32) -> Accesses {
     let mut accesses = Accesses::new();
     accesses.push(Access {
         role: Role::Fetch,
         addr: pc,
         size: 4,
-        value: DIV,
+        value: word,
     });
+    accesses
+}
+
+/// Six divided by three, by the instruction at an address.
+fn division(pc: u32) -> Record {
     Record {
         pc,
         privilege: Priv::M,
         word: DIV,
         outcome: Outcome::Retired,
         rd: Some((7, 2)),
-        accesses,
+        accesses: fetch(pc, DIV),
         next_pc: pc.wrapping_add(4),
+    }
+}
+
+/// A word that is refused as illegal, whatever it is.
+fn refusal(word: u32) -> Record {
+    Record {
+        pc: BASE,
+        privilege: Priv::M,
+        word,
+        outcome: Outcome::Trap {
+            cause: 2,
+            value: word,
+            to: Priv::M,
+        },
+        rd: None,
+        accesses: fetch(BASE, word),
+        next_pc: BASE,
     }
 }
 
@@ -64,13 +86,20 @@ fn variable_of(name: &str) -> Result<Var, Fail> {
         "a" => Ok(Var::A),
         "b" => Ok(Var::B),
         "ea" => Ok(Var::Ea),
+        "target" => Ok(Var::Target),
         "outcome" => Ok(Var::Outcome),
         _ => Err(Fail::new("no variable")),
     }
 }
 
-/// An atom: a variable and the one number that it is among.
+/// An atom: a variable and the one number that it is among, or `taken`.
 fn wish_of(alloc: Global, atom: &str, prefer: bool) -> Result<Wish, Fail> {
+    if atom == "taken" {
+        return Ok(Wish {
+            atom: Atom::Taken,
+            prefer,
+        });
+    }
     let (name, text) = atom.split_once('=').ok_or("an atom")?;
     let number = text.parse()?;
     let set = Set::from_ranges(alloc, &[(number, number)], 1)?;
@@ -255,6 +284,35 @@ fn compare_leaves(rt: &impl Abort, alloc: Global, row: &str) -> Result<(), Fail>
 fn a_division_meets_its_leaf_or_fails_at_an_atom(rt: HostRuntime) -> Result<(), Fail> {
     for row in LEAVES.split('\n') {
         compare_leaves(&rt, rt.alloc(), row)?;
+    }
+    Ok(())
+}
+
+/// Words that are refused, leaves, and the step and the atom of the least failure, or `ok`. The words are `lw x7, 4(x5)`,
+/// `jalr x7, 4(x5)` and `bne x5, x6, 8`; x5 is 6 and x6 is 3.
+const REFUSED: &str = "\
+4367235;outcome=2 ea=10;ok
+4367235;outcome=2 ea=14;0 1
+4367235;outcome=2 a=6;0 1
+4359143;outcome=2 target=10;ok
+4359143;outcome=2 a=6;0 1
+6460515;outcome=2 taken;ok
+6460515;outcome=2 target=2147483656;ok
+6460515;outcome=2 b=3;0 1";
+
+fn compare_refused(rt: &impl Abort, alloc: Global, row: &str) -> Result<(), Fail> {
+    let (word, rest) = row.split_once(';').ok_or("a word")?;
+    let (leaves, want) = rest.split_once(';').ok_or("leaves")?;
+    let records = list_of(alloc, refusal(word.parse()?))?;
+    let unmet = judged_in(alloc, leaves_of(alloc, leaves)?, records, &[], &[])?;
+    assert_eq!(rt; shown(alloc, unmet)?.as_str(), want, "at {row}");
+    Ok(())
+}
+
+#[test]
+fn of_a_refused_instruction_a_and_b_alone_have_no_value(rt: HostRuntime) -> Result<(), Fail> {
+    for row in REFUSED.split('\n') {
+        compare_refused(&rt, rt.alloc(), row)?;
     }
     Ok(())
 }

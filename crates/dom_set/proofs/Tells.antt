@@ -1,5 +1,5 @@
 -- Bits that all numbers of pieces have.
-use Rattle.std.proofs.Common.{◌≡◌, ℕ, true, bit_and, eqb, List, Option, Some, None, IfSome, IsTrue, sym, ap, ◌∙◌}
+use Rattle.std.proofs.Common.{◌≡◌, ℕ, true, bit_and, List, Option, Some, None, IfSome, IsTrue, sym, ap, ◌∙◌}
 use Rattle.std.proofs.lemmas.Bool.{eqb-true}
 use Rattle.std.proofs.lemmas.Nat.{and_assoc}
 use Rattle.dom_set.specs.declared.piece.Piece.{Piece}
@@ -13,9 +13,9 @@ matched_bits : (p : Piece) (x : ℕ) → in_piece p x ≡ true → bit_and x p.p
 unfolding in_piece matches
 matched_bits p x h = eqb-true _ _ (passes (matches p.pattern) p.low p.high x h).matched
 
-pub tells_bits : (p : Piece) (mask bits x : ℕ) → bit_and p.pattern.mask mask ≡ mask → eqb (bit_and p.pattern.bits mask) bits ≡ true → in_piece p x ≡ true → bit_and x mask ≡ bits
-tells_bits p mask bits x within test held =
-    ap (bit_and x) (sym within) ∙ sym (and_assoc mask x p.pattern.mask) ∙ ap (λ (y : ℕ). bit_and y mask) (matched_bits p x held) ∙ eqb-true _ _ test
+pub told_bits : (p : Piece) (mask x : ℕ) → bit_and p.pattern.mask mask ≡ mask → in_piece p x ≡ true → bit_and x mask ≡ bit_and p.pattern.bits mask
+told_bits p mask x within held =
+    ap (bit_and x) (sym within) ∙ sym (and_assoc mask x p.pattern.mask) ∙ ap (λ (y : ℕ). bit_and y mask) (matched_bits p x held)
 
 pub bits_of_elements : (ps : List Piece) (mask : ℕ) (o : Option ℕ) → IfSome o (λ bits. (x : ℕ) → holds ps x ≡ true → bit_and x mask ≡ bits) → IfSome o (λ bits. (x : ℕ) → IsTrue (is_in (elements_of (holds ps)) x) → bit_and x mask ≡ bits)
 bits_of_elements ps mask None told = told

@@ -8,10 +8,11 @@
 //! differ in it first. `from_patterns` makes one piece of each pattern, whose ends tell the highest bits
 //! of the mask down to the highest one that it lacks, and joins the pieces of each half of the patterns as
 //! `or` does, which keeps those of one set, and beside them what `minus` leaves of the other. `shift` keeps at
-//! most two for a piece whose mask is 2^k - 1; of another it makes such pieces first. Their number, and the time,
-//! can double for each bit that the mask lacks below its highest one, though those that hold no number are left
-//! out, and no piece keeps the bits that all its numbers share. Where the piece reaches into fewer blocks of as many
-//! numbers as tell the mask's bits apart than that, it is taken block by block. Of two sets of n and m pieces that `from_ranges` made at most n + m pairs
+//! most two for a piece whose mask is 2^k - 1; of another it makes such pieces first, without the highest bits that
+//! all its numbers share. Their number, and the time, can double for each bit that the mask lacks below its highest
+//! one, though those that hold no number are left out. Where the piece reaches into no more blocks of as many numbers
+//! as tell the mask's bits apart than that, or, if the mask lacks two such bits or more, into fewer than 4,096, it is
+//! taken block by block. Of two sets of n and m pieces that `from_ranges` made at most n + m pairs
 //! overlap, so `and` keeps at most n + m pieces, and `minus` at most (1 + k) (n + m), with k = 0 where
 //! the second power of two is the lesser. That is 23 (n + m) for multiples of up to 4,194,304, as are
 //! those in use, 1, 2, 4, 4,096 and 4,194,304; no mask of a result has a bit above all those of its

@@ -1,5 +1,5 @@
 // Lists of pieces.
-ghost use Rattle.std.specs.Prelude.{◌≡◌, ℕ, ◌+◌, ◌-◌, ◌*◌, ◌%◌, ◌^◌, ◌<◌, ◌≤◌, ◌↔◌, ◌&&◌, not, true, false, bit_and, All, List, length, drop, IfSome, IsTrue, nat_lt, nat_le, if◌then◌else◌, IfOk, OnOk};
+ghost use Rattle.std.specs.Prelude.{◌≡◌, ℕ, ◌+◌, ◌-◌, ◌*◌, ◌%◌, ◌^◌, ◌<◌, ◌≤◌, ◌↔◌, ◌&&◌, ◌||◌, not, Bool, true, false, bit_and, All, List, length, drop, IfSome, IsTrue, nat_lt, nat_le, if◌then◌else◌, IfOk, OnOk};
 ghost use Rattle.dom_set.specs.Counting.{one, total};
 ghost use Rattle.dom_set.specs.Elements.{is_matching, is_within};
 ghost use Rattle.dom_set.specs.Patterns.{matches};
@@ -61,13 +61,25 @@ fn lesser(a: Option<u32>, b: Option<u32>) -> Option<u32>
     }
 }
 
+/// The nearer of a number and of the first one from the given one up that the piece holds: a piece that begins no
+/// nearer than the number isn't asked.
+fn nearer(nearest: Option<u32>, p: Piece, from: u32) -> Option<u32>
+    ensures { (t : ℕ → Bool) → IsFirstFrom t from nearest →
+        IsFirstFrom (λ x. t x || in_piece p x) from result }
+{
+    match nearest {
+        Some(x) if x <= p.low => nearest,
+        _ => lesser(nearest, p.first_from(from)),
+    }
+}
+
 /// The first number from the given one up that they hold.
 pub fn first_from(pieces: &[Piece], from: u32) -> Option<u32>
     ensures { IsFirstFrom (holds pieces.now) from result }
 {
     let mut nearest = None;
     for p in pieces {
-        nearest = lesser(nearest, p.first_from(from));
+        nearest = nearer(nearest, *p, from);
     }
     nearest
 }
@@ -122,16 +134,14 @@ pub fn pages_end(pieces: &[Piece], page: u32) -> u32
     end
 }
 
-/// The bits that all their numbers have under a mask, where their patterns tell that these are the same.
+/// The bits that all their numbers have under a mask, where each piece tells its own and these are the same.
 pub fn bits_under(pieces: &[Piece], mask: u32) -> Option<u32>
     ensures { IfSome result (λ bits. (x : ℕ) → holds pieces.now x ≡ true → bit_and x mask ≡ bits) }
 {
-    if pieces.is_empty() {
-        return None;
-    }
-    let bits = pieces[0].pattern.bits & mask;
+    let bits = pieces.first()?.bits_under(mask)?;
     for p in pieces {
-        if !p.tells(mask, bits) {
+        let own = p.bits_under(mask)?;
+        if own != bits {
             return None;
         }
     }
@@ -516,11 +526,13 @@ fn block_of(p: Piece) -> u64
     (u64::from(p.pattern.mask) + 1).next_power_of_two()
 }
 
-/// Whether the piece reaches into fewer blocks than it has residues in one.
+/// Whether the piece reaches into no more blocks than it has residues in one, or, where these are more than two, into
+/// fewer than 4,096.
 fn has_few_blocks(p: Piece) -> bool {
     let block = block_of(p);
-    let blocks = (u64::from(p.high) / block).saturating_sub(u64::from(p.low) / block);
-    blocks < (block >> p.pattern.mask.count_ones()).saturating_sub(1)
+    let blocks = (u64::from(p.high) / block).saturating_sub(u64::from(p.low) / block) + 1;
+    let residues = block >> p.pattern.mask.count_ones();
+    blocks <= residues || (residues > 2 && blocks < 4096)
 }
 
 /// Appends each number plus the distance, modulo 2^32, block by block: of numbers of one block a range may be left.
@@ -547,7 +559,9 @@ pub fn shifted(alloc: Global, pieces: &[Piece], distance: u32) -> Result<Vec<Pie
 {
     let mut out = Vec::new(alloc);
     for p in pieces {
-        if has_few_blocks(*p) {
+        if p.pattern.is_step() {
+            push_shifted(&mut out, Some(*p), distance)?;
+        } else if has_few_blocks(*p) {
             push_blocks(&mut out, *p, distance)?;
         } else {
             push_shifted(&mut out, p.tightened(), distance)?;

@@ -12,7 +12,7 @@ pub struct Pattern {
 }
 
 impl Pattern {
-    ghost use Rattle.std.specs.Prelude.{◌≡◌, ℕ, ◌+◌, ◌-◌, ◌*◌, ◌/◌, ◌%◌, ◌^◌, ◌<◌, ◌≤◌, ◌↔◌, ◌&&◌, true, false, not, IfSome, IsNone};
+    ghost use Rattle.std.specs.Prelude.{◌≡◌, ℕ, ◌+◌, ◌-◌, ◌*◌, ◌/◌, ◌%◌, ◌^◌, ◌<◌, ◌≤◌, ◌↔◌, ◌&&◌, true, false, not, IfSome, IsNone, IsTrue};
     ghost use Rattle.dom_set.specs.Counting.{one, total};
     ghost use Rattle.dom_set.specs.Patterns.{is_matched, matches, matches_below, IsStep};
     ghost use Rattle.dom_set.specs.Pieces.{IsLastTo};
@@ -175,6 +175,13 @@ impl Pattern {
                 bits: self.bits | free,
             },
         ))
+    }
+
+    /// Whether the mask has all bits below some bit, and no others.
+    pub fn is_step(self) -> bool
+        ensures { IsTrue result ↔ IsStep self }
+    {
+        self.halves().is_none()
     }
 
     /// A pattern that the same numbers match between two of which the first matches: the highest bits, which all

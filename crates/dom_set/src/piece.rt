@@ -41,11 +41,15 @@ impl Piece {
         })
     }
 
-    /// Whether its pattern tells that all its numbers have these bits under the mask.
-    pub fn tells(self, mask: u32, bits: u32) -> bool
-        ensures { result ≡ true → (x : ℕ) → in_piece self x ≡ true → bit_and x mask ≡ bits }
+    /// The bits that all its numbers have under the mask, where its pattern tells them or there is just one number.
+    pub fn bits_under(self, mask: u32) -> Option<u32>
+        ensures { IfSome result (λ bits. (x : ℕ) → in_piece self x ≡ true → bit_and x mask ≡ bits) }
     {
-        self.pattern.mask & mask == mask && self.pattern.bits & mask == bits
+        if self.pattern.mask & mask == mask {
+            return Some(self.pattern.bits & mask);
+        }
+        let (low, high) = self.span()?;
+        if low == high { Some(low & mask) } else { None }
     }
 
     /// Whether it holds the number.

@@ -1,5 +1,5 @@
 -- Biases, taken one after another.
-use Rattle.std.proofs.Common.{◌≡◌, ℕ, zero, suc, ◌+◌, ◌<◌, ◌≤◌, List, length, drop, get_or, Bool, true, false, [], ◌∷◌, ◌++◌, ◌-◌, All, Option, Some, None, refl, sym, ap, ◌∙◌, subst, length-append, length-set, arith}
+use Rattle.std.proofs.Common.{◌≡◌, ℕ, zero, suc, ◌+◌, ◌<◌, ◌≤◌, List, length, drop, get_or, Bool, true, false, [], ◌∷◌, ◌++◌, ◌-◌, All, Option, Some, None, refl, sym, ap, ◌∙◌, subst, le_trans, length-append, length-set, arith}
 use Rattle.std.specs.Prelude.{slice_set}
 use Rattle.std.proofs.lemmas.Option.{same_Some}
 use Rattle.fd_prob.specs.declared.problem.Extra.{Extra}
@@ -9,15 +9,18 @@ use Rattle.fd_solve.specs.declared.known.Known.{Known}
 use Rattle.fd_solve.specs.declared.known.Known.TheVariants.{Answer, Fits}
 use Rattle.fd_prob.specs.Extras.{extended}
 use Rattle.fd_prob.specs.Fitting.{IsProblem}
+use Rattle.fd_prob.specs.Spaces.{space}
 use Rattle.fd_solve.specs.declared.leaf.Taken.{Taken}
 use Rattle.fd_solve.specs.Answers.{AreTaken, Kept, NothingFits}
-use Rattle.fd_solve.specs.Known.{IsKnown, dropping, has_none}
+use Rattle.fd_solve.specs.Known.{IsKnown, dropping, has_none, was_spent}
 use Rattle.fd_solve.specs.Marks.{AreSound, HasFirstsOf, with_marked}
+use Rattle.fd_solve.specs.Shrinking.{shrinks}
 use Rattle.fd_solve.specs.Taking.{IsTakenBy, IsTold, base_of, kept_of}
 use Rattle.fd_solve.proofs.Existing.{some_least}
 use Rattle.fd_solve.proofs.Lists.{drop_here, drop_past}
 use Rattle.fd_solve.proofs.Marking.{many_marked, marked_false, marked_true, whole_marked}
 use Rattle.fd_solve.proofs.FittingMarks.{nothing_more}
+use Rattle.fd_solve.proofs.Shrinking.{space_shrinks}
 
 module _ (nodes n : ℕ) (biases : List Extra) where
   -- the next bias, and then the rest
@@ -43,6 +46,13 @@ none_fits p nodes (Answer (answers.Found x)) none is = absurd (cc none)
 none_fits p nodes (Answer answers.NoneFits) none is = is.1
 none_fits p nodes (Answer answers.Spent) none is = absurd (cc none)
 none_fits p nodes (Fits x) none is = absurd (cc none)
+
+-- where it is not known that the budget was spent, the space is within it
+known_within : (p : Problem) (nodes : ℕ) (known : Known) → was_spent known ≡ false → IsKnown p nodes known → space p ≤ nodes
+known_within p nodes (Answer (answers.Found x)) within is = is.0
+known_within p nodes (Answer answers.NoneFits) within is = is.0
+known_within p nodes (Answer answers.Spent) within is = absurd (cc within)
+known_within p nodes (Fits x) within is = is.0
 
 -- a bias is taken by what is known of the problem with it; where something fits, the answer is the least that does
 module _ (whole : Problem) (nodes position : ℕ) (e : Extra) (dropped : List (ℕ × Bool)) where
@@ -121,6 +131,11 @@ module _ (p : Problem) (biases : List Extra) (nodes : ℕ) (taken : Taken) where
       }
 
       -- where nothing fits without this bias
+      pub within_next : (after : List Bool) → IsTold p biases nodes taken → after ≡ taken.marks.items ++ true ∷ [] → shrinks e ≡ true → was_spent taken.known ≡ false → space (with_marked after biases p) ≤ nodes
+      within_next after told is small within =
+          let entered : length e.cases ≡ length whole.cases = entry ∙ sym (many_marked taken.marks.items biases p (length p.cases) entries refl) in
+          subst (λ (q : Problem). space q ≤ nodes) (sym (whole_after after is)) (le_trans (space_shrinks e small whole entered) (known_within whole nodes taken.known within told.known))
+
       pub none_next : (after : List Bool) → IsProblem p → IsTold p biases nodes taken → after ≡ taken.marks.items ++ true ∷ [] → has_none taken.known ≡ true → NothingFits (with_marked after biases p)
       none_next after problem told is none =
           subst NothingFits (sym (whole_after after is)) (nothing_more e whole (whole_marked taken.marks.items biases p problem) (none_fits whole nodes taken.known none told.known))

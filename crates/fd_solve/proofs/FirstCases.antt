@@ -31,7 +31,7 @@ bare_cut e None = refl
 bare_cut e (Some c) = refl
 
 -- the first case of an operation among the extended ones is the first one, cut
-first_extended : (e : Extra) (stays : List Bool) (cases : List Case) (op : ℕ) → length stays ≡ length cases → option_map bare (first_of (extended_cases e stays cases) op) ≡ option_map (cut_case e) (option_map bare (first_of cases op))
+pub first_extended : (e : Extra) (stays : List Bool) (cases : List Case) (op : ℕ) → length stays ≡ length cases → option_map bare (first_of (extended_cases e stays cases) op) ≡ option_map (cut_case e) (option_map bare (first_of cases op))
 first_extended e [] [] op same = refl
 first_extended e [] (c ∷ cases) op same = absurd (omega (arith, same))
 first_extended e (s ∷ stays) [] op same = absurd (omega (arith, same))
@@ -50,7 +50,7 @@ cut_firsts_of e whole p made firsts entries cut pivots pairs fetch = record {
   fetch = fetch ∙ firsts.fetch;
 }
 
-allowed_bare : (o : Option Case) → option_map bare (if_allowed o) ≡ if_allowed (option_map bare o)
+pub allowed_bare : (o : Option Case) → option_map bare (if_allowed o) ≡ if_allowed (option_map bare o)
 unfolding domain_of
 allowed_bare None = refl
 allowed_bare (Some c) = elim (is_in (domain_of c slots.Op) c.op) as (λ b. option_map bare (if b then Some c else None) ≡ (if b then Some (bare c) else None)) [ true ↦ refl | false ↦ refl ]
@@ -70,11 +70,11 @@ same_chosen : (f g : ℕ → Option Case) → ((n : ℕ) → option_map bare (f 
 same_chosen f g same [] = refl
 same_chosen f g same (n ∷ ns) = chosen_more (f n) (g n) (filter_map f ns) (filter_map g ns) (same n) (same_chosen f g same ns)
 
-bare_map : {X : Type 0} (h : Case → X) → ((c : Case) → h (bare c) ≡ h c) → (cs : List Case) → map h (map bare cs) ≡ map h cs
+pub bare_map : {X : Type 0} (h : Case → X) → ((c : Case) → h (bare c) ≡ h c) → (cs : List Case) → map h (map bare cs) ≡ map h cs
 bare_map h same [] = refl
 bare_map {X} h same (c ∷ cs) = ap (λ (x : X). x ∷ map h (map bare cs)) (same c) ∙ ap (λ (xs : List X). h c ∷ xs) (bare_map h same cs)
 
-bare_find : (cs : List Case) → find is_access (map bare cs) ≡ option_map bare (find is_access cs)
+pub bare_find : (cs : List Case) → find is_access (map bare cs) ≡ option_map bare (find is_access cs)
 bare_find [] = refl
 bare_find (c ∷ cs) =
     elim (is_access c) as (λ b. cond b (Some (bare c)) (find is_access (map bare cs)) ≡ option_map bare (cond b (Some c) (find is_access cs))) [
@@ -82,12 +82,12 @@ bare_find (c ∷ cs) =
       | false ↦ bare_find cs
     ]
 
-bare_pages : (o : Option Case) → pages_in (option_map bare o) ≡ pages_in o
+pub bare_pages : (o : Option Case) → pages_in (option_map bare o) ≡ pages_in o
 unfolding domain_of
 bare_pages None = refl
 bare_pages (Some c) = refl
 
-bare_space : (c : Case) → operation_space (bare c) ≡ operation_space c
+pub bare_space : (c : Case) → operation_space (bare c) ≡ operation_space c
 unfolding operation_space domain_of
 bare_space c = refl
 

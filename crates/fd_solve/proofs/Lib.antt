@@ -14,6 +14,7 @@ pub mod OneAnswer
 pub mod Extensions
 pub mod Marking
 pub mod FirstCases
+pub mod Shrinking
 pub mod Existing
 pub mod FittingMarks
 pub mod Biases

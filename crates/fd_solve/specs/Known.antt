@@ -34,3 +34,10 @@ dropping (Answer (answers.Found x)) = None
 dropping (Answer answers.NoneFits) = Some false
 dropping (Answer answers.Spent) = Some true
 dropping (Fits x) = None
+
+-- it is known that the budget was spent
+abbrev pub was_spent : Known → Bool
+was_spent (Answer (answers.Found x)) = false
+was_spent (Answer answers.NoneFits) = false
+was_spent (Answer answers.Spent) = true
+was_spent (Fits x) = false

@@ -8,3 +8,4 @@ pub mod Search
 pub mod Taking
 pub mod Free
 pub mod Easier
+pub mod Shrinking

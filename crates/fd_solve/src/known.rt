@@ -1,7 +1,8 @@
 // What is known of problems, without a search where none is needed.
-ghost use Rattle.std.specs.Prelude.{◌≡◌, true, IfOk};
+ghost use Rattle.std.specs.Prelude.{◌≡◌, ◌≤◌, nat_lt, true, IfOk};
+ghost use Rattle.fd_prob.specs.Spaces.{space};
 ghost use Rattle.fd_solve.specs.Answers.{IsAnswer, NothingFits};
-ghost use Rattle.fd_solve.specs.Known.{IsKnown, dropping, fitting_of, has_none};
+ghost use Rattle.fd_solve.specs.Known.{IsKnown, dropping, fitting_of, has_none, was_spent};
 ghost use Rattle.fd_solve.specs.Marks.{IsSound, whole_of};
 
 use crate::answers::Solved;
@@ -35,6 +36,18 @@ impl Known {
         }
     }
 
+    /// Whether it is known that the budget was spent.
+    pub fn was_spent(&self) -> bool
+        ensures { result ≡ was_spent self.now }
+    {
+        match self {
+            Known::Answer(Solved::Found(_)) => false,
+            Known::Answer(Solved::NoneFits) => false,
+            Known::Answer(Solved::Spent) => true,
+            Known::Fits(_) => false,
+        }
+    }
+
     /// An assignment that fits, where one is known.
     fn fitting(&self) -> Option<Assignment>
         ensures { result ≡ fitting_of self.now }
@@ -60,19 +73,31 @@ impl Known {
     }
 }
 
+/// Whether the space of the problem with its marked biases is above the budget. It isn't counted where it is known not to be.
+fn is_spent(marked: &Marked, within: bool, nodes: u64) -> bool
+    requires sound { IsSound marked.now }
+    requires within { within ≡ true → space (whole_of marked.now) ≤ nodes }
+    ensures { result ≡ nat_lt nodes (space (whole_of marked.now)) }
+{
+    !within && nodes < space(marked.firsts)
+}
+
 /// What is known of the problem with its marked biases, by what was known of it before the last bias was marked. There is
-/// no search where nothing fitted before, nor where the assignment that is known to have fitted still does.
+/// no search where nothing fitted before, nor where the assignment that is known to have fitted still does. The space is
+/// not counted where it is known to be within the budget.
 pub fn known_after(
     alloc: Global,
     before: &Known,
     marked: &Marked,
+    within: bool,
     nodes: u64,
 ) -> Result<Known, OutOfMemory>
     requires sound { IsSound marked.now }
     requires none { has_none before.now ≡ true → NothingFits (whole_of marked.now) }
+    requires within { within ≡ true → space (whole_of marked.now) ≤ nodes }
     ensures { IfOk result (IsKnown (whole_of marked.now) nodes) }
 {
-    if nodes < space(marked.firsts) {
+    if is_spent(marked, within, nodes) {
         return Ok(Known::Answer(Solved::Spent));
     }
     if before.has_none() {

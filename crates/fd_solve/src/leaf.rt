@@ -3,9 +3,11 @@
 // bias is kept.
 ghost use Rattle.std.specs.Prelude.{◌≡◌, ◌+◌, ◌-◌, ◌<◌, ◌≤◌, ◌++◌, ◌∷◌, [], false, true, All, IfOk, OnOk, length, slice_index_or, slice_set};
 ghost use Rattle.fd_prob.specs.Fitting.{IsProblem};
+ghost use Rattle.fd_prob.specs.Spaces.{space};
 ghost use Rattle.fd_solve.specs.Answers.{IsAnswer, IsLeafAnswer, NothingFits};
-ghost use Rattle.fd_solve.specs.Known.{IsKnown, has_none};
+ghost use Rattle.fd_solve.specs.Known.{IsKnown, has_none, was_spent};
 ghost use Rattle.fd_solve.specs.Marks.{AreSound, with_marked};
+ghost use Rattle.fd_solve.specs.Shrinking.{shrinks};
 ghost use Rattle.fd_solve.specs.Taking.{IsTakenBy, IsTold, base_of, kept_of};
 
 use crate::answers::{LeafAnswer, Solved};
@@ -14,8 +16,18 @@ use crate::known::{Known, answer_after, known_after};
 use crate::marked::Marked;
 use crate::operations::answer_alone;
 use dom_set::OutOfMemory;
-use fd_prob::{Extra, Items, Problem};
+use fd_prob::{Extra, Items, Problem, Slot};
 use std::alloc::Global;
+
+/// Whether a bias cuts no variable whose cut may make the space of a problem larger.
+fn shrinks(bias: &Extra) -> bool
+    ensures { result ≡ shrinks bias.now }
+{
+    bias.cuts
+        .as_slice()
+        .iter()
+        .all(|cut| !matches!(cut.0, Slot::Op | Slot::A))
+}
 
 /// The biases that were taken so far.
 #[derive(Drop)]
@@ -47,11 +59,13 @@ impl Taken {
         alloc: Global,
         p: &Problem,
         biases: &[Extra],
+        bias: &Extra,
         firsts: &Problem,
         nodes: u64,
     ) -> Result<Known, OutOfMemory>
         requires sound { AreSound p.now biases.now self.now.marks.items firsts.now }
         requires none { has_none self.now.known ≡ true → NothingFits (with_marked self.now.marks.items biases.now p.now) }
+        requires within { shrinks bias.now ≡ true → was_spent self.now.known ≡ false → space (with_marked self.now.marks.items biases.now p.now) ≤ nodes }
         ensures { IfOk result (IsKnown (with_marked self.now.marks.items biases.now p.now) nodes) }
     {
         let marked = Marked {
@@ -60,7 +74,8 @@ impl Taken {
             marks: &self.marks,
             firsts,
         };
-        known_after(alloc, &self.known, &marked, nodes)
+        let within = shrinks(bias) && !self.known.was_spent();
+        known_after(alloc, &self.known, &marked, within, nodes)
     }
 
     /// Takes the last mark away and lists its bias, with whether the budget was spent.
@@ -101,7 +116,7 @@ impl Taken {
     {
         let firsts = cut_problem(alloc, self.base(p), bias)?;
         self.marks.push(true)?;
-        let known = self.known_next(alloc, p, biases, &firsts, nodes)?;
+        let known = self.known_next(alloc, p, biases, bias, &firsts, nodes)?;
         match known.dropping() {
             None => {
                 self.firsts = Some(firsts);

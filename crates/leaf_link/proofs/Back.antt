@@ -46,6 +46,7 @@ use Rattle.rv_hart.proofs.Fetched.{rest_has}
 use Rattle.leaf_link.proofs.Links.{Good, law_from}
 use Rattle.leaf_link.proofs.Formats.{read_fields}
 use Rattle.leaf_link.proofs.Truths.{by_all_met}
+use Rattle.leaf_link.proofs.Unrefused.{Unrefused, is_never_refused, never_ends}
 use Rattle.leaf_link.proofs.Front.{hold_all, pa_aligned, a_entry, asks_a, asks_b, b_entry, chosen, front_back, front_log, label_past, prefixed_done, rest_of, script_told, settled, told_a, told_b, walk_first, word_place}
 use Rattle.leaf_link.proofs.Law.{IsLater, a_label, address_asks, all_without, b_label, code_entry, front_accesses, holding, in_a, in_b, in_code, in_rest, in_walk, is_later, or_from, rest_label, shows, unless_from, way_fits}
 use Rattle.leaf_link.proofs.Both.{each_slot, fits_good, is_reached, link, may_code, or_some, pa_of, reaches, reaching}
@@ -182,7 +183,8 @@ good_fits t walk pa leaf op ways f words plain owed x g op_is =
     let co : Coherent k log = λ e h m n none q. (λ w. g.meets.once e h (in_log e m) (in_log h n) none q w, g.agree e h (in_log e m) (in_log h n) none q) in
     let whole : answer_told tell (script t.fixed) ≡ Does log g.change = g.plays ∙ ap (λ (z : List Entry). Does z g.change) l in
     let asked : uses_rs1 s ≡ true → asks_a t op x ≡ true = λ u. used_asked (row_of op) t.fixed (word_of i) i (x slots.A) (x slots.B) tell rest g.change plays u in
-    let sh = shows t walk pa s p x rest g.change f is ea own co whole word refl (reaching o) asked a0 b0 in
+    let never : is_never_refused (row_of op) ≡ true → (outcome == 2) ≡ false = λ n. ended (Unrefused t.fixed) (rest_of t op x (x slots.A) (x slots.B)) tell rest g.change (never_ends (row_of op) t.fixed (word_of i) i (x slots.A) (x slots.B) n) plays in
+    let sh = shows t walk pa s p x rest g.change f is ea own co whole word refl (reaching o) asked a0 b0 never in
     let j = by_all_met t s p x (moment_of t log g.change) sh leaf (ap (λ (z : List Entry). all_met t (moment_of t z g.change) leaf) (sym l) ∙ g.meets.atoms) in
     let rest_in : (e : Entry) → HasItem rest e → HasItem g.log e = λ e m. in_log e (in_rest t walk pa op x rest e m) in
     let code_in : HasItem g.log (code_entry t pa x) = in_log (code_entry t pa x) (in_code t walk pa op x rest) in

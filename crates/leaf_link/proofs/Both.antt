@@ -1,11 +1,12 @@
 -- The law of an operation, in both directions.
-use Rattle.std.proofs.Common.{◌≡◌, ℕ, if◌then◌else◌, ◌+◌, ◌%◌, ◌^◌, ◌<◌, ◌&&◌, ◌||◌, Bool, true, false, eqb, ltb, List, Option, Some, None, refl, sym, ap, ◌∙◌, subst, inl, inr, arith}
+use Rattle.std.proofs.Common.{◌≡◌, ℕ, if◌then◌else◌, ◌+◌, ◌%◌, ◌^◌, ◌<◌, ◌&&◌, ◌==◌, ◌||◌, Bool, true, false, eqb, ltb, List, Option, Some, None, refl, sym, ap, ◌∙◌, subst, inl, inr, arith}
 use Rattle.std.proofs.lemmas.Bool.{eq-eqb, eqb-true, cases_Bool, and_parts, and_from, lt-ltb, ltb-true}
 use Rattle.std.specs.List.{list_all}
 use Rattle.rv_isa.specs.declared.instruction.Instr.{Instr}
 use Rattle.rv_isa.specs.declared.operation.Op.{Op}
 use Rattle.rv_isa.specs.Encoding.{word_of}
 use Rattle.rv_isa.specs.Reading.{decoded}
+use Rattle.rv_isa.specs.Fields.{reads_rs1}
 use Rattle.rv_isa.specs.Table.{row_of}
 use Rattle.rv_isa.proofs.Codec.{encoded_read, encoded_below}
 use Rattle.rv_script.specs.declared.access.Access.{Access}
@@ -35,6 +36,7 @@ use Rattle.leaf_link.proofs.Numbers.{op_back}
 use Rattle.leaf_link.proofs.Links.{Good}
 use Rattle.leaf_link.proofs.Formats.{fields_read}
 use Rattle.leaf_link.proofs.Truths.{JudgesAll, Shows, all_met_by, when}
+use Rattle.leaf_link.proofs.Unrefused.{never_asks, not_two}
 use Rattle.leaf_link.proofs.Front.{all_hold, pa_aligned, a_entry, asks_a, asks_b, b_entry, chosen, front_log, front_plays, walk_known, word_place}
 use Rattle.leaf_link.proofs.Law.{IsLater, a_label, address_asks, all_without, b_label, by_entries, code_entry, code_label, ea_from, fits_way, front_accesses, front_coherent, held, is_later, or_unused, or_used, rest_label, shows, used}
 
@@ -264,7 +266,7 @@ posed_good t walk pa leaf op ways f plain owed x c =
     (λ h j q. a0 h ∙ linked (x slots.A) (x slots.B) (x slots.Rs1) (x slots.Rs2) q (used _ _ c.link (and_from _ _ (sym aks ∙ h) (sym bks ∙ j))) ∙ sym (b0 j)) in
     let reach = reached (all_tests t leaf vars.Pa) way.reaches (data_address (accesses_in done.log)) done.reach in
     let p : ℕ = pa_of (data_address (accesses_in done.log)) in
-    let sh = shows t walk pa s p x done.log done.change f is ea own co plays done.word done.outcome reach.0 (λ u. aks ∙ u) a0 b0 in (
+    let sh = shows t walk pa s p x done.log done.change f is ea own co plays done.word done.outcome reach.0 (λ u. aks ∙ u) a0 b0 (λ n. not_two (reads_rs1 (row_of op)) (way.outcome == 2) (sym aks ∙ never_asks (row_of op) t.fixed i n)) in (
       record {
         log = log;
         change = done.change;

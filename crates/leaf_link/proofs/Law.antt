@@ -38,6 +38,7 @@ use Rattle.rv_script.proofs.Plays.{told, no_label, no_register, numbers_within}
 use Rattle.rv_hart.proofs.Forms.{rest_between}
 use Rattle.leaf_link.proofs.Links.{enlarged_has}
 use Rattle.leaf_link.proofs.Truths.{Shows, register_at, when}
+use Rattle.leaf_link.proofs.Unrefused.{is_never_refused}
 use Rattle.leaf_link.proofs.Front.{pa_aligned, a_entry, accesses_only, accesses_then, asks_a, asks_b, b_entry, chosen, front_log, has_either, has_first, has_only, has_second, label_here, label_past, label_skip, later_has, only, only_has, rest_of, walk_first, walk_known, word_place}
 
 -- COHERENCE
@@ -222,8 +223,9 @@ pub shows : (t : Turn) (walk : List Entry) (pa : ℕ) (s : Shape) (p : ℕ) (x :
     → answer_told (by_answers t.known (given_by x)) (script t.fixed) ≡ Does (front_log t walk pa s.op x log) change
     → change.word ≡ word_of (instr_in x) → outcome_in (outcome_of t.fixed change.control) ≡ s.outcome → data_address (accesses_in log) ≡ when s.reaches p
     → (uses_rs1 s ≡ true → asks_a t s.op x ≡ true) → (asks_a t s.op x ≡ true → (a_entry t x).value ≡ x slots.A) → (asks_b s.op ≡ true → (b_entry t x).value ≡ x slots.B)
+    → (is_never_refused (row_of s.op) ≡ true → (s.outcome == 2) ≡ false)
     → Shows t s p x (moment_of t (front_log t walk pa s.op x log) change)
-shows t walk pa s p x log change f is ea d co plays word outcome reach asked a b =
+shows t walk pa s p x log change f is ea d co plays word outcome reach asked a b never =
     let l : List Entry = front_log t walk pa s.op x log in
     let known : Known = enlarged t.known (started t.known l) in
     let range = Rattle.rv_isa.proofs.Codec.fitting_in_range (instr_in x) is.fits in
@@ -237,6 +239,7 @@ shows t walk pa s p x log change f is ea d co plays word outcome reach asked a b
       rs2 = λ u. let both = and_parts (asks_b s.op) (not (s.outcome == 2)) u in
           register_at known 32 0 (x slots.Rs2) range.rs2 ∙ ap (λ (n : ℕ). known (Reg n)) (omega arith)
           ∙ register_told t walk pa s.op x log change co plays (b_entry t x) (in_b t walk pa s.op x log both.0) ∙ ap (λ (n : ℕ). Some n) (b both.0);
+      unrefused = never;
       ea = ea;
       reach = front_address t walk pa s.op x log f ∙ reach;
       names = refl;

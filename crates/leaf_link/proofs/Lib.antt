@@ -1,6 +1,7 @@
 pub mod Numbers
 mod Links
 mod Formats
+mod Unrefused
 mod Truths
 mod Front
 mod Law

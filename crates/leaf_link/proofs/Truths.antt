@@ -19,13 +19,14 @@ use Rattle.tpl_ast.specs.declared.template.Atom.TheVariants as atoms
 use Rattle.tpl_ast.specs.declared.template.Var.{Var}
 use Rattle.tpl_ast.specs.declared.template.Var.TheVariants as vars
 use Rattle.tpl_admit.specs.Truth.{are_same, are_different, condition, condition_on, is_among, is_apart, is_shared, is_some_true, is_some_false}
-use Rattle.tpl_admit.specs.Variables.{Moment, address_of, data_address, field, first_operand, is_jalr, is_refused, offset, operand, outcome_in, second_operand, target_of, value_of}
+use Rattle.tpl_admit.specs.Variables.{Moment, address_of, data_address, field, first_operand, first_register, is_jalr, is_refused, offset, outcome_in, read_register, second_operand, second_register, target_of, unless_refused, value_of}
 use Rattle.fd_prob.specs.declared.slot.Slot.TheVariants as slots
 use Rattle.leaf_link.specs.Turns.{Turn}
 use Rattle.leaf_link.specs.Values.{Values, instr_in, has_address, address_if}
 use Rattle.rv_isa.specs.Numbers.{op_number}
 use Rattle.leaf_link.specs.Candidates.{all_met, is_met, is_named, registers_from}
 use Rattle.tpl_ast.specs.Leaves.{same_var, var_number}
+use Rattle.leaf_link.proofs.Unrefused.{address_never, condition_never, is_never_refused, jalr_never, never_reads}
 use Rattle.leaf_link.specs.Cases.{Shape, all_judged, all_relate, all_tests, is_judged, is_relative, is_value_named, relates, tests, uses, uses_condition, uses_rs1, uses_rs2, value_at}
 
 abbrev pub when : Bool → ℕ → Option ℕ
@@ -52,40 +53,67 @@ pub record Shows (t : Turn) (s : Shape) (pa : ℕ) (x : Values) (m : Moment) : T
   pub outcome : outcome_in m.done.outcome ≡ s.outcome
   pub rs1 : uses_rs1 s ≡ true → slice_index_or m.regs (x slots.Rs1) None ≡ Some (x slots.A)
   pub rs2 : uses_rs2 s ≡ true → slice_index_or m.regs (x slots.Rs2) None ≡ Some (x slots.B)
+  pub unrefused : is_never_refused (row_of s.op) ≡ true → (s.outcome == 2) ≡ false
   pub ea : x slots.Ea ≡ address_if (has_address (row_of s.op)) (x slots.A) (x slots.Imm)
   pub reach : data_address m.done.accesses ≡ when s.reaches pa
   pub names : m.names ≡ t.names
   pub others : m.others ≡ t.others
 
-operand_shown : (reads refused two : Bool) (o : Option ℕ) (v : ℕ) → refused ≡ two → ((reads && not two) ≡ true → o ≡ Some v) → (if reads && not refused then o else None) ≡ when (reads && not two) v
+read_shown : (reads two : Bool) (o : Option ℕ) (v : ℕ) → (reads && not two) ≡ true → o ≡ Some v → (if reads then o else None) ≡ Some v
+read_shown true two o v h e = e
+read_shown false two o v h e = absurd (cc)
+
+first_read : (t : Turn) (s : Shape) (pa : ℕ) (x : Values) (m : Moment) → Shows t s pa x m → uses_rs1 s ≡ true → first_register m ≡ Some (x slots.A)
+first_read t s pa x m h u =
+    ap (λ (o : Option Instr). read_register reads_rs1 (λ i. i.rs1) m o) h.read
+    ∙ ap (λ (op : Op). if reads_rs1 (row_of op) then slice_index_or m.regs (x slots.Rs1) None else None) h.op_is
+    ∙ read_shown (reads_rs1 (row_of s.op)) (s.outcome == 2) (slice_index_or m.regs (x slots.Rs1) None) (x slots.A) u (h.rs1 u)
+
+second_read : (t : Turn) (s : Shape) (pa : ℕ) (x : Values) (m : Moment) → Shows t s pa x m → uses_rs2 s ≡ true → second_register m ≡ Some (x slots.B)
+second_read t s pa x m h u =
+    ap (λ (o : Option Instr). read_register reads_rs2 (λ i. i.rs2) m o) h.read
+    ∙ ap (λ (op : Op). if reads_rs2 (row_of op) then slice_index_or m.regs (x slots.Rs2) None else None) h.op_is
+    ∙ read_shown (reads_rs2 (row_of s.op)) (s.outcome == 2) (slice_index_or m.regs (x slots.Rs2) None) (x slots.B) u (h.rs2 u)
+
+-- an operation that rests on rs1 and is never refused uses it
+never_uses : (t : Turn) (s : Shape) (pa : ℕ) (x : Values) (m : Moment) → Shows t s pa x m → is_never_refused (row_of s.op) ≡ true → uses_rs1 s ≡ true
+never_uses t s pa x m h n = and_from (reads_rs1 (row_of s.op)) (not (s.outcome == 2)) (never_reads (row_of s.op) n) (ap not (h.unrefused n))
+
+condition_uses : (t : Turn) (s : Shape) (pa : ℕ) (x : Values) (m : Moment) → Shows t s pa x m → is_branch s.op ≡ true → (uses_rs1 s ≡ true) × (uses_rs2 s ≡ true)
+condition_uses t s pa x m h b =
+    let n = condition_never (row_of s.op) b in
+    (never_uses t s pa x m h n.0, and_from (reads_rs2 (row_of s.op)) (not (s.outcome == 2)) n.1 (ap not (h.unrefused n.0)))
+
+operand_shown : (reads refused two : Bool) (o : Option ℕ) (v : ℕ) → refused ≡ two → ((reads && not two) ≡ true → o ≡ Some v) → (if refused then None else (if reads then o else None)) ≡ when (reads && not two) v
 operand_shown true true true o v e h = refl
 operand_shown true false false o v e h = h refl
-operand_shown false refused two o v e h = refl
+operand_shown false true two o v e h = refl
+operand_shown false false two o v e h = refl
 operand_shown true true false o v e h = absurd (cc)
 operand_shown true false true o v e h = absurd (cc)
 
 first_shown : (t : Turn) (s : Shape) (pa : ℕ) (x : Values) (m : Moment) → Shows t s pa x m → first_operand m ≡ when (uses_rs1 s) (x slots.A)
 first_shown t s pa x m h =
-    ap (λ (o : Option Instr). operand reads_rs1 (λ i. i.rs1) m o) h.read
-    ∙ ap (λ (op : Op). if reads_rs1 (row_of op) && not (is_refused m.done.outcome) then slice_index_or m.regs (x slots.Rs1) None else None) h.op_is
+    ap (λ (o : Option Instr). unless_refused m.done.outcome (read_register reads_rs1 (λ i. i.rs1) m o)) h.read
+    ∙ ap (λ (op : Op). if is_refused m.done.outcome then None else (if reads_rs1 (row_of op) then slice_index_or m.regs (x slots.Rs1) None else None)) h.op_is
     ∙ operand_shown (reads_rs1 (row_of s.op)) (is_refused m.done.outcome) (s.outcome == 2) (slice_index_or m.regs (x slots.Rs1) None) (x slots.A) (refused_is m.done.outcome ∙ ap (λ (n : ℕ). n == 2) h.outcome) h.rs1
 
 second_shown : (t : Turn) (s : Shape) (pa : ℕ) (x : Values) (m : Moment) → Shows t s pa x m → second_operand m ≡ when (uses_rs2 s) (x slots.B)
 second_shown t s pa x m h =
-    ap (λ (o : Option Instr). operand reads_rs2 (λ i. i.rs2) m o) h.read
-    ∙ ap (λ (op : Op). if reads_rs2 (row_of op) && not (is_refused m.done.outcome) then slice_index_or m.regs (x slots.Rs2) None else None) h.op_is
+    ap (λ (o : Option Instr). unless_refused m.done.outcome (read_register reads_rs2 (λ i. i.rs2) m o)) h.read
+    ∙ ap (λ (op : Op). if is_refused m.done.outcome then None else (if reads_rs2 (row_of op) then slice_index_or m.regs (x slots.Rs2) None else None)) h.op_is
     ∙ operand_shown (reads_rs2 (row_of s.op)) (is_refused m.done.outcome) (s.outcome == 2) (slice_index_or m.regs (x slots.Rs2) None) (x slots.B) (refused_is m.done.outcome ∙ ap (λ (n : ℕ). n == 2) h.outcome) h.rs2
 
-ea_shown : (b u : Bool) (a imm ea : ℕ) → ea ≡ address_if b a imm → (if b then offset imm (when u a) else None) ≡ when (b && u) ea
-ea_shown true true a imm ea h = ap (λ (n : ℕ). Some n) (sym h)
-ea_shown true false a imm ea h = refl
-ea_shown false u a imm ea h = refl
+ea_shown : (b u : Bool) (o : Option ℕ) (a imm ea : ℕ) → (b ≡ true → u ≡ true) → (u ≡ true → o ≡ Some a) → ea ≡ address_if b a imm → (if b then offset imm o else None) ≡ when (b && u) ea
+ea_shown true true o a imm ea k l h = ap (λ (p : Option ℕ). offset imm p) (l refl) ∙ ap (λ (n : ℕ). Some n) (sym h)
+ea_shown true false o a imm ea k l h = let z = k refl in absurd (cc)
+ea_shown false u o a imm ea k l h = refl
 
-target_shown : (r j u : Bool) (near a imm : ℕ) → (if r then Some near else (if j then option_map even (offset imm (when u a)) else None)) ≡ when (r || (j && u)) (if r then near else even ((a + imm) % 2 ^ 32))
-target_shown true j u near a imm = refl
-target_shown false true true near a imm = refl
-target_shown false true false near a imm = refl
-target_shown false false u near a imm = refl
+target_shown : (r j u : Bool) (o : Option ℕ) (near a imm : ℕ) → (j ≡ true → u ≡ true) → (u ≡ true → o ≡ Some a) → (if r then Some near else (if j then option_map even (offset imm o) else None)) ≡ when (r || (j && u)) (if r then near else even ((a + imm) % 2 ^ 32))
+target_shown true j u o near a imm k l = refl
+target_shown false true true o near a imm k l = ap (λ (p : Option ℕ). option_map even (offset imm p)) (l refl)
+target_shown false true false o near a imm k l = let z = k refl in absurd (cc)
+target_shown false false u o near a imm k l = refl
 
 -- the value of each variable
 pub shown : (t : Turn) (s : Shape) (pa : ℕ) (x : Values) (m : Moment) → Shows t s pa x m → (v : Var) → value_of v m ≡ when (uses s v) (value_at s t.fixed.pc pa x v)
@@ -97,44 +125,38 @@ shown t s pa x m h vars.Imm = ap (λ (o : Option Instr). field has_imm (λ i. i.
 shown t s pa x m h vars.Csr = ap (λ (o : Option Instr). field has_csr (λ i. i.csr) o) h.read ∙ ap (λ (op : Op). when (has_csr (row_of op)) (x slots.Csr)) h.op_is
 shown t s pa x m h vars.Ea =
     ap (λ (o : Option Instr). address_of m o) h.read
-    ∙ ap (λ (op : Op). if is_load (row_of op) || is_store (row_of op) then offset (x slots.Imm) (first_operand m) else None) h.op_is
-    ∙ ap (λ (o : Option ℕ). if has_address (row_of s.op) then offset (x slots.Imm) o else None) (first_shown t s pa x m h)
-    ∙ ea_shown (has_address (row_of s.op)) (uses_rs1 s) (x slots.A) (x slots.Imm) (x slots.Ea) h.ea
+    ∙ ap (λ (op : Op). if is_load (row_of op) || is_store (row_of op) then offset (x slots.Imm) (first_register m) else None) h.op_is
+    ∙ ea_shown (has_address (row_of s.op)) (uses_rs1 s) (first_register m) (x slots.A) (x slots.Imm) (x slots.Ea) (λ b. never_uses t s pa x m h (address_never (row_of s.op) b)) (first_read t s pa x m h) h.ea
 shown t s pa x m h vars.A = first_shown t s pa x m h
 shown t s pa x m h vars.B = second_shown t s pa x m h
 shown t s pa x m h vars.Pa = h.reach
 shown t s pa x m h vars.Target =
     ap (λ (o : Option Instr). target_of m o) h.read
-    ∙ ap (λ (op : Op). if is_relative op then Some ((m.done.pc + x slots.Imm) % 2 ^ 32) else (if is_jalr op then option_map even (offset (x slots.Imm) (first_operand m)) else None)) h.op_is
-    ∙ ap (λ (n : ℕ). if is_relative s.op then Some ((n + x slots.Imm) % 2 ^ 32) else (if is_jalr s.op then option_map even (offset (x slots.Imm) (first_operand m)) else None)) h.pc
-    ∙ ap (λ (o : Option ℕ). if is_relative s.op then Some ((t.fixed.pc + x slots.Imm) % 2 ^ 32) else (if is_jalr s.op then option_map even (offset (x slots.Imm) o) else None)) (first_shown t s pa x m h)
-    ∙ target_shown (is_relative s.op) (is_jalr s.op) (uses_rs1 s) ((t.fixed.pc + x slots.Imm) % 2 ^ 32) (x slots.A) (x slots.Imm)
+    ∙ ap (λ (op : Op). if is_relative op then Some ((m.done.pc + x slots.Imm) % 2 ^ 32) else (if is_jalr op then option_map even (offset (x slots.Imm) (first_register m)) else None)) h.op_is
+    ∙ ap (λ (n : ℕ). if is_relative s.op then Some ((n + x slots.Imm) % 2 ^ 32) else (if is_jalr s.op then option_map even (offset (x slots.Imm) (first_register m)) else None)) h.pc
+    ∙ target_shown (is_relative s.op) (is_jalr s.op) (uses_rs1 s) (first_register m) ((t.fixed.pc + x slots.Imm) % 2 ^ 32) (x slots.A) (x slots.Imm) (λ j. never_uses t s pa x m h (jalr_never s.op j)) (first_read t s pa x m h)
 shown t s pa x m h vars.Outcome = ap (λ (n : ℕ). Some n) h.outcome
 
-condition_when : (i : Instr) (u w : Bool) (a b : ℕ) → condition (Some i) (when u a) (when w b) ≡ (if is_branch i.op && (u && w) then Some (is_taken i.op a b) else None)
-condition_when i true true a b = go (is_branch i.op)
-  where
-    go : (r : Bool) → (if r then Some (is_taken i.op a b) else None) ≡ (if r && true then Some (is_taken i.op a b) else None)
-    go true = refl
-    go false = refl
-condition_when i true false a b = go (is_branch i.op)
-  where
-    go : (r : Bool) → None ≡ (if r && false then Some (is_taken i.op a b) else None)
-    go true = refl
-    go false = refl
-condition_when i false w a b = go (is_branch i.op)
-  where
-    go : (r : Bool) → None ≡ (if r && false then Some (is_taken i.op a b) else None)
-    go true = refl
-    go false = refl
+-- what no branch has
+condition_none : (i : Instr) (o p : Option ℕ) → is_branch i.op ≡ false → condition (Some i) o p ≡ None
+condition_none i None p n = refl
+condition_none i (Some a) None n = refl
+condition_none i (Some a) (Some b) n = ap (λ (c : Bool). if c then Some (is_taken i.op a b) else None) n
+
+condition_when : (i : Instr) (r u w : Bool) (o p : Option ℕ) (a b : ℕ) → is_branch i.op ≡ r → (r ≡ true → (u ≡ true) × (w ≡ true)) → (u ≡ true → o ≡ Some a) → (w ≡ true → p ≡ Some b) → condition (Some i) o p ≡ (if r && (u && w) then Some (is_taken i.op a b) else None)
+condition_when i false u w o p a b e both one two = condition_none i o p e
+condition_when i true true true o p a b e both one two =
+    ap (λ (z : Option ℕ). condition (Some i) z p) (one refl) ∙ ap (λ (z : Option ℕ). condition (Some i) (Some a) z) (two refl)
+    ∙ ap (λ (c : Bool). if c then Some (is_taken i.op a b) else None) e
+condition_when i true true false o p a b e both one two = let z = (both refl).1 in absurd (cc)
+condition_when i true false w o p a b e both one two = let z = (both refl).0 in absurd (cc)
 
 condition_shown : (t : Turn) (s : Shape) (pa : ℕ) (x : Values) (m : Moment) → Shows t s pa x m → condition_on m ≡ (if uses_condition s then Some (is_taken s.op (x slots.A) (x slots.B)) else None)
 condition_shown t s pa x m h =
-    ap (λ (o : Option Instr). condition o (first_operand m) (second_operand m)) h.read
-    ∙ ap (λ (o : Option ℕ). condition (Some (instr_in x)) o (second_operand m)) (first_shown t s pa x m h)
-    ∙ ap (λ (o : Option ℕ). condition (Some (instr_in x)) (when (uses_rs1 s) (x slots.A)) o) (second_shown t s pa x m h)
-    ∙ condition_when (instr_in x) (uses_rs1 s) (uses_rs2 s) (x slots.A) (x slots.B)
-    ∙ ap (λ (op : Op). if is_branch op && (uses_rs1 s && uses_rs2 s) then Some (is_taken op (x slots.A) (x slots.B)) else None) h.op_is
+    ap (λ (o : Option Instr). condition o (first_register m) (second_register m)) h.read
+    ∙ condition_when (instr_in x) (is_branch s.op) (uses_rs1 s) (uses_rs2 s) (first_register m) (second_register m) (x slots.A) (x slots.B)
+    (ap (λ (op : Op). is_branch op) h.op_is) (condition_uses t s pa x m h) (first_read t s pa x m h) (second_read t s pa x m h)
+    ∙ ap (λ (op : Op). if uses_condition s then Some (is_taken op (x slots.A) (x slots.B)) else None) h.op_is
 
 -- VARIABLES BY THEIR NUMBERS
 var_at : ℕ → Var

@@ -1,6 +1,7 @@
 // The step of an answer.
 ghost use Rattle.std.specs.Prelude.{◌≡◌, ◌<◌, length, OnOk, OnErr, IfOk};
 ghost use Rattle.rv_script.specs.declared.place.Place.{Place as APlace};
+ghost use Rattle.rv_hart.specs.Clauses.{IsFitRecord};
 ghost use Rattle.part_state.specs.State.{here};
 ghost use Rattle.leaf_link.specs.Answers.{values_in};
 ghost use Rattle.leaf_link.specs.Placing.{IsInstruction, value_at};
@@ -77,6 +78,7 @@ fn give_and_step(part: &mut Part, hart: u8, x: &Assignment) -> Result<Record, Ou
     requires hart { hart < length part.old.now.harts }
     requires found { IsFound hart (here part.old) (values_in x.now) }
     ensures taken { IfOk result (λ r. IsTakenBy hart (values_in x.now) r (here part.old) (here part.new)) }
+    ensures fit { IfOk result IsFitRecord }
     ensures still { OnOk result (IsStill (here part.old) (here part.new)) }
     ensures kept { AreKept part.old part.new }
 {
@@ -93,6 +95,7 @@ pub fn take(part: &mut Part, hart: u8, x: &Assignment) -> Result<Record, OutOfMe
     requires hart { hart < length part.old.now.harts }
     requires found { IsFound hart (here part.old) (values_in x.now) }
     ensures taken { IfOk result (λ r. IsTakenBy hart (values_in x.now) r (here part.old) (here part.new)) }
+    ensures fit { IfOk result IsFitRecord }
     ensures still { OnOk result (IsStill (here part.old) (here part.new)) }
     ensures kept { OnOk result (AreKept part.old part.new) }
     ensures refused { OnErr result (part.new ≡ part.old) }

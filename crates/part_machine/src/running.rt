@@ -8,6 +8,7 @@ ghost use Rattle.rv_script.specs.declared.access.Access.{Access as AnAccess};
 ghost use Rattle.rv_script.specs.Folds.{Answer.Does};
 ghost use Rattle.rv_hart.specs.declared.record.Change.{Change as AChange};
 ghost use Rattle.rv_hart.specs.Changes.{IsSoundWrite};
+ghost use Rattle.rv_hart.specs.Clauses.{IsFitRecord};
 ghost use Rattle.rv_hart.specs.Effects.{IsInWord, seen_after};
 ghost use Rattle.foot_map.specs.Touches.{has};
 ghost use Rattle.part_machine.specs.Notes.{AreNotes, IsKnownAt, with_seen};
@@ -156,6 +157,7 @@ fn do_step(harts: &mut Vec<Hart>, k: u8, memory: &mut PartMem) -> Record
         → (n : ℕ) → part_at memory.new n ≡ seen_after xs (part_at memory.old) n }
     ensures record { (xs : List AnAccess) (c : AChange) → next_in (slice_index_or (map bare harts.old.items) k no_hart) (part_at memory.old) ≡ Does xs c
         → result ≡ record_in (slice_index_or (map bare harts.old.items) k no_hart) (part_at memory.old) xs c }
+    ensures fit { IsFitRecord result }
 {
     match step(&mut harts[k as usize], memory) {
         Stepped::Did(done) => done,
@@ -222,6 +224,7 @@ impl Running {
         ensures done { OnOk result ((xs : List AnAccess) (c : AChange) → next_of hart (whole_of self.old) ≡ Does xs c
             → (whole_of self.new ≡ stepped hart xs c (whole_of self.old)) × AreNotes hart xs (part_at self.old.memory) (has self.old.feet) (has self.new.feet) notes.new × IsSoundWrite c.rd × All IsInWord xs) }
         ensures record { IfOk result (λ r. (xs : List AnAccess) (c : AChange) → next_of hart (whole_of self.old) ≡ Does xs c → r ≡ record_in (hart_of hart (whole_of self.old)) (part_at self.old.memory) xs c) }
+        ensures fit { IfOk result IsFitRecord }
         ensures refused { OnErr result (whole_of self.new ≡ whole_of self.old) }
     {
         let done = next_record(&self.harts, hart, &self.memory);

@@ -5,6 +5,7 @@ ghost use Rattle.std.specs.Prelude.{List};
 ghost use Rattle.rv_script.specs.declared.access.Access.{Access as AnAccess};
 ghost use Rattle.rv_script.specs.Folds.{Answer.Does};
 ghost use Rattle.rv_hart.specs.declared.record.Change.{Change as AChange};
+ghost use Rattle.rv_hart.specs.Clauses.{IsFitRecord};
 ghost use Rattle.rv_csr.specs.Table.{is_legal_at};
 ghost use Rattle.rv_csr.specs.State.{is_untouched};
 ghost use Rattle.rv_mem.specs.declared.words.Seen.TheVariants.{Untouched};
@@ -369,6 +370,7 @@ impl Logged {
         ensures kept { IsKept self.new }
         ensures now { OnOk result ((xs : List AnAccess) (c : AChange) → next_of hart (now_of self.old) ≡ Does xs c → now_of self.new ≡ stepped hart xs c (now_of self.old)) }
         ensures record { IfOk result (λ r. (xs : List AnAccess) (c : AChange) → next_of hart (now_of self.old) ≡ Does xs c → r ≡ record_in (hart_of hart (now_of self.old)) (now_of self.old).memory xs c) }
+        ensures fit { IfOk result IsFitRecord }
         ensures earlier { OnOk result ((history self.new).earlier ≡ (history self.old).earlier ++ now_of self.old ∷ []) }
         ensures refused { OnErr result (history self.new ≡ history self.old) }
     {

@@ -4,6 +4,7 @@ ghost use Rattle.rv_script.specs.declared.access.Access.{Access as AnAccess};
 ghost use Rattle.rv_script.specs.Folds.{Answer.Does};
 ghost use Rattle.rv_mem.specs.Part.{part_at};
 ghost use Rattle.rv_hart.specs.declared.record.Change.{Change as AChange};
+ghost use Rattle.rv_hart.specs.Clauses.{IsFitRecord};
 ghost use Rattle.foot_map.specs.Races.{IsFootprint};
 ghost use Rattle.tpl_admit.specs.declared.certificate.Cert.{Cert as ACert};
 ghost use Rattle.tpl_admit.specs.Races.{footprints_of};
@@ -205,6 +206,7 @@ impl Part {
         requires clear { IsClear hart (here self.old) }
         ensures now { OnOk result ((xs : List AnAccess) (c : AChange) → next_of hart (here self.old) ≡ Does xs c → here self.new ≡ stepped hart xs c (here self.old)) }
         ensures record { IfOk result (λ r. (xs : List AnAccess) (c : AChange) → next_of hart (here self.old) ≡ Does xs c → r ≡ record_in (hart_of hart (here self.old)) (here self.old).memory xs c) }
+        ensures fit { IfOk result IsFitRecord }
         ensures earlier { OnOk result (self.new.earlier ≡ self.old.earlier ++ self.old.now ∷ []) }
         ensures refused { OnErr result (self.new ≡ self.old) }
     {

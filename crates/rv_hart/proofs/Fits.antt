@@ -1,8 +1,7 @@
 -- What a step records can stand in a file, and what it lacks can be given.
 use Rattle.std.proofs.Common.{◌≡◌, ℕ, ◌%◌, zero, suc, Bool, List, Option, Some, None, sym, subst, arith}
+use Rattle.std.specs.List.{AllByRecursion}
 use Rattle.std.specs.Option.{option_or}
-use Rattle.rv_csr.specs.declared.privilege.Priv.{Priv}
-use Rattle.rv_csr.specs.State.{CsrValues}
 use Rattle.rv_script.specs.declared.access.Access.{Access}
 use Rattle.rv_script.specs.declared.place.Place.{Place}
 use Rattle.rv_script.specs.declared.place.Place.TheVariants.{Reg, Csr, Word}
@@ -10,25 +9,13 @@ use Rattle.rv_script.specs.Folds.{Answer.Does, Answer.Missing as Lacks, Known, T
 use Rattle.rv_script.specs.Script.{access_of, place_of}
 use Rattle.rv_script.proofs.Results.{lacked, noted_all}
 use Rattle.rv_hart.specs.declared.record.Change.{Change}
-use Rattle.rv_hart.specs.declared.record.Control.{Control}
-use Rattle.rv_hart.specs.declared.record.Control.TheVariants.{Stay, Write, Trap, Mret, Sret}
-use Rattle.rv_hart.specs.declared.record.Record.{Record}
 use Rattle.rv_hart.specs.Asked.{IsAskable, IsNeedable}
-use Rattle.rv_hart.specs.Changes.{IsSoundChange, IsSoundControl, outcome_of}
-use Rattle.rv_hart.specs.Clauses.{CanBeGiven, HasCause, IsFitRecord}
+use Rattle.rv_hart.specs.Clauses.{CanBeGiven}
 use Rattle.rv_hart.specs.Effects.{IsAccess}
 use Rattle.rv_hart.specs.Fixed.{Fixed}
 use Rattle.rv_hart.specs.Machine.{script}
 use Rattle.rv_hart.specs.Sighted.{answer_seen, told_with}
-use Rattle.rv_hart.specs.Whole.{record_of}
 use Rattle.rv_hart.proofs.Askable.{access_fits, asks_places, needable}
-
-caused : (from : Priv) (csrs : CsrValues) (f : Fixed) (c : Control) → IsSoundControl from csrs c → HasCause (outcome_of f c)
-caused from csrs f Stay h = tt
-caused from csrs f (Write register value) h = tt
-caused from csrs f (Trap cause value) h = h.0
-caused from csrs f Mret h = tt
-caused from csrs f Sret h = tt
 
 -- x0 is known
 given_place : (ram : ℕ → Bool) (known : Known) (place : Place) → known (Reg 0) ≡ Some 0 → IsNeedable ram place → known place ≡ None → CanBeGiven ram place
@@ -42,13 +29,9 @@ none_known : (sight value : Option ℕ) → option_or sight value ≡ None → v
 none_known None value h = h
 none_known (Some v) value h = absurd (cc h)
 
--- a record of what was done
-pub fit_done : (sights : Teller) (f : Fixed) (known : Known) (from : Priv) (csrs : CsrValues) (accesses : List Access) (c : Change) (r : Record) → f.pc % 4 ≡ 0
-    → Does accesses c ≡ answer_seen sights known (script f) → r ≡ record_of f accesses c → IsSoundChange from csrs c → IsFitRecord r
-fit_done sights f known from csrs accesses c r aligned does is sound = subst IsFitRecord (sym is) (record {
-  accesses = noted_all (IsAskable f.ram) IsAccess access_of (told_with sights known) (access_fits f.ram) (script f) (asks_places f aligned) accesses c (sym does);
-  outcome = caused from csrs f c.control sound.control;
-})
+-- the accesses of what was done
+pub fit_accesses : (sights : Teller) (f : Fixed) (known : Known) (accesses : List Access) (c : Change) → f.pc % 4 ≡ 0 → Does accesses c ≡ answer_seen sights known (script f) → AllByRecursion IsAccess accesses
+fit_accesses sights f known accesses c aligned does = noted_all (IsAskable f.ram) IsAccess access_of (told_with sights known) (access_fits f.ram) (script f) (asks_places f aligned) accesses c (sym does)
 
 -- a place that is missing
 pub fit_lacked : (sights : Teller) (f : Fixed) (known : Known) (place : Place) → f.pc % 4 ≡ 0 → known (Reg 0) ≡ Some 0 → Lacks place ≡ answer_seen sights known (script f) → CanBeGiven f.ram place × (known place ≡ None)

@@ -1,6 +1,6 @@
 -- What a step on known places says of whole harts and memories. The words that end in With are of a step that sees sights, and a place whose
 -- word has one counts as known; the same words without With are of the step without sights.
-use Rattle.std.specs.Prelude.{◌≡◌, ◌↔◌, ℕ, ◌%◌, ◌<◌, ◌≤◌, Bool, true, false, ◌&&◌, ◌||◌, nat_lt, All, IsTrue, IsSome, List, Option, Some, None}
+use Rattle.std.specs.Prelude.{◌≡◌, ◌↔◌, ℕ, ◌%◌, ◌^◌, ◌<◌, ◌≤◌, Bool, true, false, ◌&&◌, ◌||◌, nat_lt, All, IsTrue, IsSome, List, length, Option, Some, None}
 use Rattle.std.specs.List.{AllByRecursion}
 use Rattle.std.specs.Option.{option_or, unwrap_or, is_some}
 use Rattle.rv_isa.specs.declared.operation.Op.{Op}
@@ -143,15 +143,25 @@ CanBeGiven ram (Reg n) = (1 ≤ n) × (n < 32)
 CanBeGiven ram (Csr addr) = is_lazy addr ≡ true
 CanBeGiven ram (Word addr) = (addr % 4 ≡ 0) × (is_in_ram ram addr ≡ true)
 
--- a trap has one of the causes
-abbrev pub HasCause : Outcome → Type 0
-HasCause Retired = Unit {0}
-HasCause (Trap cause value to) = is_cause cause ≡ true
+-- a trap has one of the causes, and its trap value is a word
+abbrev pub IsFitOutcome : Outcome → Type 0
+IsFitOutcome Retired = Unit {0}
+IsFitOutcome (Trap cause value to) = (is_cause cause ≡ true) × (value < 2 ^ 32)
 
--- what can stand in a file
+-- no register is written, or one of x1 to x31 with a word
+abbrev pub IsFitWrite : Option (ℕ × ℕ) → Type 0
+IsFitWrite None = Unit {0}
+IsFitWrite (Some rd) = (1 ≤ rd.0) × (rd.0 < 32) × (rd.1 < 2 ^ 32)
+
+-- what can stand in a file: words of 32 bits, and at most eight accesses
 pub record IsFitRecord (r : Record) : Type 0 where
+  pub pc : r.pc < 2 ^ 32
+  pub word : r.word < 2 ^ 32
+  pub next_pc : r.next_pc < 2 ^ 32
+  pub outcome : IsFitOutcome r.outcome
+  pub rd : IsFitWrite r.rd
   pub accesses : AllByRecursion IsAccess r.accesses
-  pub outcome : HasCause r.outcome
+  pub count : length r.accesses ≤ 8
 
 -- what was done can stand in a file, and a start can give a value to what is missing, which has none
 abbrev pub IsFitStep : Fixed → Known → Stepped → Type 0

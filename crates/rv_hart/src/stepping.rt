@@ -1,5 +1,6 @@
 // The step of a hart.
 ghost use Rattle.std.specs.Prelude.{◌≡◌, ◌<◌, ◌≤◌, ◌/◌, true, ◌%◌, ◌+◌, ◌^◌, ℕ, [], All, length, None, Some, IsTrue};
+ghost use Rattle.std.specs.List.{AllByRecursion};
 ghost use Rattle.std.specs.Option.{ForSome};
 ghost use Rattle.rv_csr.specs.State.{IsLegal};
 ghost use Rattle.rv_script.specs.Folds.{answer_on, prefixed};
@@ -9,9 +10,9 @@ ghost use Rattle.rv_mem.specs.declared.words.Seen.{Seen as ASeen};
 ghost use Rattle.rv_hart.specs.Changes.{IsSoundChange, csrs_after, outcome_of, privilege_after};
 ghost use Rattle.rv_hart.specs.Whole.{record_of};
 ghost use Rattle.rv_hart.specs.View.{known, fixed_of, looked, shown, pc_after, regs_after, change_in, control_in, accesses_in};
-ghost use Rattle.rv_hart.specs.Effects.{IsInWord, seen_after};
+ghost use Rattle.rv_hart.specs.Effects.{IsAccess, IsInWord, seen_after};
 ghost use Rattle.rv_hart.specs.Sighted.{answer_seen, sighted};
-ghost use Rattle.rv_hart.specs.Clauses.{IsMachineStep, IsMachineStepWith, IsLocalStep, IsLocalStepWith, IsAfter, IsAfterWith, IsFitStep, IsSound, IsSoundStep};
+ghost use Rattle.rv_hart.specs.Clauses.{IsMachineStep, IsMachineStepWith, IsLocalStep, IsLocalStepWith, IsAfter, IsAfterWith, IsFitOutcome, IsFitRecord, IsFitStep, IsSound, IsSoundStep};
 
 use crate::looked::Looked;
 use crate::reaching::{fetch_view, reach};
@@ -63,9 +64,10 @@ fn look_at<M: Sighted>(h: &Hart, m: &M, log: &mut Accesses) -> Looked
 }
 
 /// How a step ends.
-fn outcome_of(h: &Hart, change: &Change) -> Outcome
-    requires { IsSoundChange h.now.privilege h.now.csrs change.now }
-    ensures { (at : ℕ → ASeen) → result ≡ outcome_of (fixed_of h.now at) change.now.control }
+fn outcome_of(h: &Hart, change: Change) -> Outcome
+    requires { IsSoundChange h.now.privilege h.now.csrs change }
+    ensures outcome { (at : ℕ → ASeen) → result ≡ outcome_of (fixed_of h.now at) change.control }
+    ensures fit { IsFitOutcome result }
 {
     match change.control {
         Control::Trap { cause, value } => Outcome::Trap {
@@ -77,16 +79,26 @@ fn outcome_of(h: &Hart, change: &Change) -> Outcome
     }
 }
 
-/// The record of a step.
-fn record_of(h: &Hart, change: &Change, accesses: Accesses) -> Record
-    requires { IsSoundChange h.now.privilege h.now.csrs change.now }
-    ensures record { (at : ℕ → ASeen) → result ≡ record_of (fixed_of h.now at) accesses change.now }
-    ensures next_pc { result.next_pc ≡ change.now.next_pc }
-    ensures rd { result.rd ≡ change.now.rd }
-    ensures accesses { result.accesses ≡ accesses }
+/// Where a hart stands.
+fn pc_of(h: &Hart) -> u32
+    ensures { result ≡ h.now.pc }
 {
+    h.pc
+}
+
+/// The record of a step.
+fn record_of(h: &Hart, change: Change, accesses: Accesses) -> Record
+    requires { IsSoundChange h.now.privilege h.now.csrs change }
+    ensures record { (at : ℕ → ASeen) → result ≡ record_of (fixed_of h.now at) accesses change }
+    ensures next_pc { result.next_pc ≡ change.next_pc }
+    ensures rd { result.rd ≡ change.rd }
+    ensures accesses { result.accesses ≡ accesses }
+    ensures fit { AllByRecursion IsAccess accesses → IsFitRecord result }
+{
+    // There are at most eight.
+    let _count = accesses.len();
     Record {
-        pc: h.pc,
+        pc: pc_of(h),
         privilege: h.privilege,
         word: change.word,
         outcome: outcome_of(h, change),
@@ -112,7 +124,7 @@ fn observe<M: Words, S: Sights>(h: &Hart, m: &M, s: &S) -> (Stepped, Option<Chan
         sights: s,
     };
     match look_at(h, &seen, &mut accesses) {
-        Looked::Does(change) => (Stepped::Did(record_of(h, &change, accesses)), Some(change)),
+        Looked::Does(change) => (Stepped::Did(record_of(h, change, accesses)), Some(change)),
         Looked::Missing(place) => (Stepped::Missing(place), None),
         Looked::Outside => (Stepped::Outside, None),
     }

@@ -9,7 +9,7 @@ use Rattle.rv_hart.specs.declared.record.Record.{Record}
 use Rattle.rv_hart.specs.Machine.{is_taken}
 use Rattle.tpl_ast.specs.declared.template.Atom.{Atom}
 use Rattle.tpl_ast.specs.declared.template.Atom.TheVariants as atoms
-use Rattle.tpl_admit.specs.Variables.{Moment, data_address, first_operand, instruction_in, is_data, second_operand, value_of}
+use Rattle.tpl_admit.specs.Variables.{Moment, data_address, first_register, instruction_in, is_data, second_register, value_of}
 
 -- a value is in a set, or not; a variable without a value is neither
 abbrev pub is_among : List ℕ → Option ℕ → Bool
@@ -29,13 +29,13 @@ abbrev pub are_different : Option ℕ → Option ℕ → Bool
 are_different (Some x) (Some y) = not (x == y)
 are_different _ _ = false
 
--- the condition of a branch whose operands have values
+-- the condition of a branch whose registers have values
 abbrev pub condition : Option Instr → Option ℕ → Option ℕ → Option Bool
 condition (Some i) (Some a) (Some b) = if is_branch i.op then Some (is_taken i.op a b) else None
 condition _ _ _ = None
 
 abbrev pub condition_on : Moment → Option Bool
-condition_on m = condition (instruction_in m.done) (first_operand m) (second_operand m)
+condition_on m = condition (instruction_in m.done) (first_register m) (second_register m)
 
 abbrev pub is_some_true : Option Bool → Bool
 is_some_true None = false

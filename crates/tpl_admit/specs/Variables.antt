@@ -40,17 +40,28 @@ abbrev pub is_refused : Outcome → Bool
 is_refused Retired = false
 is_refused (Trap cause value to) = cause == 2
 
--- the value of a register before the step, where the instruction uses it
-abbrev pub operand : (Row → Bool) → (Instr → ℕ) → Moment → Option Instr → Option ℕ
-operand reads get m None = None
-operand reads get m (Some i) = if reads (row_of i.op) && not (is_refused m.done.outcome) then slice_index_or m.regs (get i) None else None
+-- the value of a register before the step, where the instruction reads it
+abbrev pub read_register : (Row → Bool) → (Instr → ℕ) → Moment → Option Instr → Option ℕ
+read_register reads get m None = None
+read_register reads get m (Some i) = if reads (row_of i.op) then slice_index_or m.regs (get i) None else None
 
--- the values of rs1 and rs2
+-- what rs1 and rs2 hold before the step
+abbrev pub first_register : Moment → Option ℕ
+first_register m = read_register reads_rs1 (λ i. i.rs1) m (instruction_in m.done)
+
+abbrev pub second_register : Moment → Option ℕ
+second_register m = read_register reads_rs2 (λ i. i.rs2) m (instruction_in m.done)
+
+-- an operand, where the instruction isn't refused
+abbrev pub unless_refused : Outcome → Option ℕ → Option ℕ
+unless_refused o value = if is_refused o then None else value
+
+-- the variables a and b
 abbrev pub first_operand : Moment → Option ℕ
-first_operand m = operand reads_rs1 (λ i. i.rs1) m (instruction_in m.done)
+first_operand m = unless_refused m.done.outcome (first_register m)
 
 abbrev pub second_operand : Moment → Option ℕ
-second_operand m = operand reads_rs2 (λ i. i.rs2) m (instruction_in m.done)
+second_operand m = unless_refused m.done.outcome (second_register m)
 
 abbrev pub offset : ℕ → Option ℕ → Option ℕ
 offset imm None = None
@@ -59,7 +70,7 @@ offset imm (Some a) = Some ((a + imm) % 2 ^ 32)
 -- the virtual address of a load or store
 abbrev pub address_of : Moment → Option Instr → Option ℕ
 address_of m None = None
-address_of m (Some i) = if is_load (row_of i.op) || is_store (row_of i.op) then offset i.imm (first_operand m) else None
+address_of m (Some i) = if is_load (row_of i.op) || is_store (row_of i.op) then offset i.imm (first_register m) else None
 
 abbrev pub is_data : Role → Bool
 is_data Fetch = false
@@ -81,7 +92,7 @@ abbrev pub target_of : Moment → Option Instr → Option ℕ
 target_of m None = None
 target_of m (Some i) =
     if is_branch i.op || is_jump (row_of i.op) then Some ((m.done.pc + i.imm) % 2 ^ 32)
-    else (if is_jalr i.op then option_map even (offset i.imm (first_operand m)) else None)
+    else (if is_jalr i.op then option_map even (offset i.imm (first_register m)) else None)
 
 -- retire is 255
 abbrev pub outcome_in : Outcome → ℕ

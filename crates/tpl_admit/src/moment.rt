@@ -7,7 +7,7 @@ ghost use Rattle.rv_hart.specs.Machine.{is_taken};
 ghost use Rattle.tpl_admit.specs.Moments.{moment};
 ghost use Rattle.tpl_admit.specs.Starts.{found};
 ghost use Rattle.tpl_admit.specs.Truth.{are_different, are_same, condition_on, holds, is_among, is_apart, is_shared, is_some_false, is_some_true, record_touches, touches, trace_touches};
-ghost use Rattle.tpl_admit.specs.Variables.{address_of, data_address, first_operand, instruction_in, is_data, is_refused, offset, op_in, outcome_in, second_operand, target_of, value_of};
+ghost use Rattle.tpl_admit.specs.Variables.{address_of, data_address, first_operand, first_register, instruction_in, is_data, is_refused, offset, op_in, outcome_in, second_operand, second_register, target_of, value_of};
 
 use dom_set::Set;
 use rv_hart::{Outcome, Record};
@@ -204,27 +204,49 @@ impl<'m> Moment<'m> {
         }
     }
 
-    /// The value of rs1, where the instruction uses it.
-    fn first_operand(&self) -> Option<u32>
-        ensures { result ≡ first_operand (moment self.now) }
+    /// What rs1 holds before the step, where the instruction reads it.
+    fn first_register(&self) -> Option<u32>
+        ensures { result ≡ first_register (moment self.now) }
     {
         let i = self.instruction()?;
-        if i.op.reads_rs1() && !is_refused(self.done.outcome) {
+        if i.op.reads_rs1() {
             self.register(i.rs1)
         } else {
             None
         }
     }
 
-    /// The value of rs2, where the instruction uses it.
-    fn second_operand(&self) -> Option<u32>
-        ensures { result ≡ second_operand (moment self.now) }
+    /// What rs2 holds before the step, where the instruction reads it.
+    fn second_register(&self) -> Option<u32>
+        ensures { result ≡ second_register (moment self.now) }
     {
         let i = self.instruction()?;
-        if i.op.reads_rs2() && !is_refused(self.done.outcome) {
+        if i.op.reads_rs2() {
             self.register(i.rs2)
         } else {
             None
+        }
+    }
+
+    /// The variable a: rs1's value, where the instruction isn't refused.
+    fn first_operand(&self) -> Option<u32>
+        ensures { result ≡ first_operand (moment self.now) }
+    {
+        if is_refused(self.done.outcome) {
+            None
+        } else {
+            self.first_register()
+        }
+    }
+
+    /// The variable b: rs2's value, where the instruction isn't refused.
+    fn second_operand(&self) -> Option<u32>
+        ensures { result ≡ second_operand (moment self.now) }
+    {
+        if is_refused(self.done.outcome) {
+            None
+        } else {
+            self.second_register()
         }
     }
 
@@ -234,7 +256,7 @@ impl<'m> Moment<'m> {
     {
         let i = self.instruction()?;
         if i.op.is_load() || i.op.is_store() {
-            offset(i.imm, self.first_operand())
+            offset(i.imm, self.first_register())
         } else {
             None
         }
@@ -250,7 +272,7 @@ impl<'m> Moment<'m> {
         }
         match i.op {
             Op::Jalr => {
-                let target = offset(i.imm, self.first_operand())?;
+                let target = offset(i.imm, self.first_register())?;
                 Some(target - target % 2)
             }
             _ => None,
@@ -308,13 +330,13 @@ impl<'m> Moment<'m> {
         }
     }
 
-    /// Whether a branch goes to its target, where its operands have values.
+    /// Whether a branch goes to its target, where its registers have values.
     fn condition(&self) -> Option<bool>
         ensures { result ≡ condition_on (moment self.now) }
     {
         let i = self.instruction()?;
-        let a = self.first_operand()?;
-        let b = self.second_operand()?;
+        let a = self.first_register()?;
+        let b = self.second_register()?;
         if i.op.is_branch() {
             Some(decide(i.op, a, b))
         } else {

@@ -114,7 +114,7 @@ add_longest n s l (o ∷ os) = ap (λ (m : ℕ). record { block = o.block; lengt
 
 -- ---- the lines of an item add its length
 
-abbrev IsCounted : Item → Type 0
+abbrev pub IsCounted : Item → Type 0
 IsCounted i = (os : List Open) → counted_all (lines_of_item i) os ≡ add_length (length_of_item i) os
 
 items_counted : (es : List (Proved IsCounted)) (block : Block) (n : ℕ) → n ≤ 2 ^ 64 - 1 → (os : List Open)
@@ -193,7 +193,7 @@ step x (layers.Seq body) is = subst (λ (z : Item-F Item). IsCounted (roll-Item 
 step x (layers.Repeat times body) is = subst (λ (z : Item-F Item). IsCounted (roll-Item z)) is (counted_by _ (repeat_counted times body.items))
 step x (layers.Choose line ways) is = subst (λ (z : Item-F Item). IsCounted (roll-Item z)) is (counted_by _ (choice_counted _ _ _ (λ v. refl) (λ v. refl) (λ w. refl) ways.items))
 
-counted_item : (i : Item) → IsCounted i
+pub counted_item : (i : Item) → IsCounted i
 counted_item = ind-Item IsCounted step
 
 -- ---- bodies

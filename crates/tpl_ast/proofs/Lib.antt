@@ -15,6 +15,8 @@ pub mod Given
 pub mod Pieces
 pub mod Stacks
 pub mod Wished
+pub mod Named
+pub mod Ordered
 pub mod Sound
 pub mod Readers
 pub mod Lists

@@ -30,6 +30,7 @@ use Rattle.tpl_ast.specs.Words.{csr_of}
 use Rattle.tpl_ast.proofs.Frames.{AreFours, FramesKept, RamKept, all_appended, all_mapped, count_added, covers_back, covers_both, flags_added, fours_are, frames_added, frames_more, one_longer, ram_kept, swapped, vectors_kept, words_added, words_more}
 use Rattle.tpl_ast.proofs.Given.{GivenKept, csr_given, medeleg_given, mstatus_given, none_given, places_given, register_given, satp_given}
 use Rattle.tpl_ast.proofs.Kept.{begun, body_counted, counted, counted_all, counted_both, harts_counted, kept_length, lines_length, lines_lengths, one_more_hart}
+use Rattle.tpl_ast.proofs.Ordered.{names_in_order}
 use Rattle.tpl_ast.proofs.Pieces.{data_is_long}
 use Rattle.tpl_ast.proofs.Short.{IsShort, OnSome, both_true}
 use Rattle.tpl_ast.proofs.Stacks.{and_true, body_picks, body_stands, fit_more, line_fits, lines_fit}
@@ -619,6 +620,7 @@ templates_keep_limits text t p =
       names = subst (λ (s : Said). AllByRecursion IsShortName s.names) end.says kept.rest.names.short;
       names_count = subst (λ (s : Said). length s.names ≤ 256) end.says kept.rest.names.count;
       values = subst (λ (s : Said). AllByRecursion HasValues s.names) end.says kept.rest.names.values;
+      order = names_in_order t.names t.harts end.reached line names harts;
       some_harts = omega (arith, count, ended_last line before);
       harts = omega (arith, count, at_most_four end.next.place (length end.next.harts) end.next.body end.next.blocks kept.harts.fits);
       states = states_told t.harts (subst (λ (s : Said). AllByRecursion (λ h. IsState h.start) s.harts) end.says kept.rest.states);

@@ -87,7 +87,7 @@ below_atom k Taken h = refl
 below_atom k NotTaken h = refl
 below_atom k Shared h = refl
 
-all_below : (k : Known) (ws : List WishPhrase) → are_known k ws → list_all (is_name_below (length k.names)) (atoms_of (map (wish_of k) ws)) ≡ true
+pub all_below : (k : Known) (ws : List WishPhrase) → are_known k ws → list_all (is_name_below (length k.names)) (atoms_of (map (wish_of k) ws)) ≡ true
 all_below k [] h = refl
 all_below k (w ∷ ws) h =
     let a = either_false (is_atom_unknown k w.atom) _ h in

@@ -16,6 +16,7 @@ pub mod Expansion
 pub mod States
 pub mod Leaves
 pub mod Choices
+pub mod Naming
 pub mod Templates
 pub mod Laws
 pub mod Limits

@@ -14,6 +14,7 @@ use Rattle.tpl_ast.specs.declared.template.Template.{Template}
 use Rattle.tpl_ast.specs.Choices.{all_true, all_ways, is_fit, weight_of}
 use Rattle.tpl_ast.specs.Leaves.{is_leaf}
 use Rattle.tpl_ast.specs.Lengths.{length_of_harts}
+use Rattle.tpl_ast.specs.Naming.{AreNamesInOrder}
 use Rattle.tpl_ast.specs.Parsing.{holds, is_number_among, size_of}
 use Rattle.tpl_ast.specs.States.{AreStartWords, IsState}
 use Rattle.tpl_ast.specs.Limits.{data_bound, last_end, longest_name, most_flags, most_harts, most_memory, most_names, most_pool, most_records, most_regions, most_tables, most_text, most_times, most_ways, most_weight}
@@ -113,6 +114,7 @@ pub record KeepsLimits (bytes : List ℕ) (t : Template) : Type 0 where
   pub names : AllByRecursion IsShortName t.names
   pub names_count : length t.names ≤ most_names
   pub values : AllByRecursion HasValues t.names
+  pub order : AreNamesInOrder t.names t.harts
   pub some_harts : 1 ≤ length t.harts
   pub harts : length t.harts ≤ most_harts
   pub states : AllByRecursion (λ (h : HartDecl). IsState h.start) t.harts

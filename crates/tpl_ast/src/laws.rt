@@ -22,8 +22,9 @@ pub fn size_law()
 
 /// Does nothing. Its contract says what holds of every template: how long its text is; that RAM is whole frames, in
 /// regions apart, of at most 64 MiB; that frames are in RAM, each once; what its flag bytes, vectors, words, names and
-/// starts are; what its leaves, repeats and choices are, and that an alternative of each choice can be picked; and how
-/// many of each there are.
+/// starts are; that names are numbered and used in the order of the text, and that no label stands in a repeat; what
+/// its leaves, repeats and choices are, and that an alternative of each choice can be picked; and how many of each
+/// there are.
 pub fn template_law()
     ensures { TemplatesKeepLimits }
 {}

@@ -1,3 +1,4 @@
 pub mod Insertions
 pub mod Aligns
 pub mod Multiples
+pub mod Searches

@@ -2,3 +2,4 @@ pub mod Growing
 pub mod Finding
 pub mod Places
 pub mod State
+pub mod Ordered

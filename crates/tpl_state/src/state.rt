@@ -1,6 +1,7 @@
 // What the lines so far have said.
-ghost use Rattle.std.specs.Prelude.{◌≤◌, length};
+ghost use Rattle.std.specs.Prelude.{◌≡◌, ◌≤◌, length, true};
 ghost use Rattle.tpl_ast.specs.Limits.{most_names};
+ghost use Rattle.tpl_state.specs.Ordered.{is_ascending};
 
 use crate::body::Growing;
 use crate::names::Names;
@@ -44,4 +45,6 @@ pub struct State {
     /// Its body.
     pub body: Growing,
     ghost few: { length names ≤ most_names },
+    ghost words_ascend: { is_ascending words.items ≡ true },
+    ghost given_ascends: { is_ascending given.items ≡ true },
 }

@@ -1,6 +1,6 @@
 use Rattle.std.proofs.Common.{Some, refl, sym}
 use Rattle.fd_solve.specs.declared.leaf.Taken.{Taken}
-use Rattle.fd_solve.proofs.Biases.{none_next, sound_next, taken_dropped, taken_kept, told_dropped, told_kept}
+use Rattle.fd_solve.proofs.Biases.{none_next, sound_next, taken_dropped, taken_kept, told_dropped, told_kept, within_next}
 use Rattle.fd_solve.proofs.leaf.Taken.take.Goals as goal
 
 pub known_next-requires-clause-sound : goal.known_next-requires-clause-sound
@@ -8,6 +8,9 @@ known_next-requires-clause-sound c = sound_next c.args.p.now c.args.biases.now c
 
 pub known_next-requires-clause-none : goal.known_next-requires-clause-none
 known_next-requires-clause-none c = none_next c.args.p.now c.args.biases.now c.args.nodes c.args.self.now c.args.bias.now c.requires.entries c.requires.more c.requires.next c.push.new.self.items c.requires.problem c.requires.told c.in_ok-push.ensures.items
+
+pub known_next-requires-clause-within : goal.known_next-requires-clause-within
+known_next-requires-clause-within c = within_next c.args.p.now c.args.biases.now c.args.nodes c.args.self.now c.args.bias.now c.requires.entries c.requires.more c.requires.next c.push.new.self.items c.requires.told c.in_ok-push.ensures.items
 
 pub returns-in-None-clause-taken : goal.returns-in-None-clause-taken
 returns-in-None-clause-taken c =

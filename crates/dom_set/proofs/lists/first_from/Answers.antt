@@ -1,0 +1,16 @@
+use Rattle.std.proofs.Common.{◌≡◌, ℕ, ◌+◌, ◌||◌, Bool, take, Option, Some, None, sym, ap, ◌∙◌}
+use Rattle.std.proofs.lemmas.List.Folds.{list_any_more}
+use Rattle.dom_set.specs.declared.piece.Piece.{Piece}
+use Rattle.dom_set.specs.Pieces.{in_piece, holds, IsFirstFrom}
+use Rattle.dom_set.proofs.lists.first_from.Goals as goal
+
+first_same : (t u : ℕ → Bool) (from : ℕ) (o : Option ℕ) → ((x : ℕ) → t x ≡ u x) → IsFirstFrom t from o → IsFirstFrom u from o
+first_same t u from None same none = λ x le. sym (same x) ∙ none x le
+first_same t u from (Some v) same is = (sym (same v) ∙ is.0, is.1, λ x le lt. sym (same x) ∙ is.2 x le lt)
+
+pub loop-p-preserved : goal.loop-p-preserved
+loop-p-preserved c =
+    let before : ℕ → Bool = holds (take c.loop-p.p-index c.args.pieces.now) in
+    first_same (λ x. before x || in_piece c.p-item.result x) (holds (take (c.loop-p.p-index + 1) c.args.pieces.now)) c.args.from c.nearer-nearest.result
+    (λ x. ap (λ (q : Piece). before x || in_piece q x) c.p-item.is ∙ sym (list_any_more (λ q. in_piece q x) c.args.pieces.now c.loop-p.p-index c.p-item.result c.loop-p-test.true))
+    (c.nearer-nearest.ensures before c.loop-p.invariant)
