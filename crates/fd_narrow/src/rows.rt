@@ -23,7 +23,7 @@ pub enum Part {
     Word,
 }
 
-const PARTS: [Part; 4] = [Part::Address, Part::Root, Part::Leaf, Part::Word];
+const PARTS: [Part; 4] = [Part::Root, Part::Leaf, Part::Word, Part::Address];
 
 impl Part {
     /// The variable that is in the part's set.

@@ -29,9 +29,6 @@ fn common(alloc: Global, a: &Set, b: &Set) -> Result<Option<Set>, OutOfMemory>
 fn common_row(alloc: Global, a: &Quad, b: &Quad) -> Result<Option<Quad>, OutOfMemory>
     ensures { IfOk result (IsCommonRow a.now b.now) }
 {
-    let Some(ea) = common(alloc, &a.ea, &b.ea)? else {
-        return Ok(None);
-    };
     let Some(root) = common(alloc, &a.root, &b.root)? else {
         return Ok(None);
     };
@@ -39,6 +36,9 @@ fn common_row(alloc: Global, a: &Quad, b: &Quad) -> Result<Option<Quad>, OutOfMe
         return Ok(None);
     };
     let Some(word) = common(alloc, &a.word, &b.word)? else {
+        return Ok(None);
+    };
+    let Some(ea) = common(alloc, &a.ea, &b.ea)? else {
         return Ok(None);
     };
     Ok(Some(Quad {

@@ -11,11 +11,15 @@ use Rattle.fd_prob.specs.Joining.{IsRestated}
 use Rattle.fd_prob.specs.Relations.{holds, value_of}
 use Rattle.rv_isa.specs.Numbers.{op_numbered}
 use Rattle.fd_solve.specs.Search.{IsMadeOf, LeastOrNone}
+use Rattle.fd_solve.specs.Stronger.{IsAlike}
 use Rattle.fd_solve.proofs.Orders.{as_well}
 
-module _ (c made : Case) (is : IsRestated c made) where
-  pub case_restated : IsCase c → IsCase made
-  case_restated whole = record {
+pub restated : (c made : Case) → IsRestated c made → IsAlike c made
+restated c made is = record { op = is.op; doms = is.doms; rels = is.rels }
+
+module _ (c made : Case) (is : IsAlike c made) where
+  pub case_alike : IsCase c → IsCase made
+  case_alike whole = record {
     op = omega (arith, is.op, whole.op);
     domains = ap length is.doms ∙ whole.domains;
   }
@@ -44,5 +48,5 @@ module _ (c made : Case) (is : IsRestated c made) where
     },
   )
 
-  pub least_restated : (ps : List ℕ) (o : Option Assignment) → LeastOrNone ps (IsMadeOf made) o → LeastOrNone ps (IsMadeOf c) o
-  least_restated ps o least = as_well ps (IsMadeOf made) (IsMadeOf c) there back o least
+  pub least_alike : (ps : List ℕ) (o : Option Assignment) → LeastOrNone ps (IsMadeOf made) o → LeastOrNone ps (IsMadeOf c) o
+  least_alike ps o least = as_well ps (IsMadeOf made) (IsMadeOf c) there back o least

@@ -5,6 +5,8 @@ pub mod Cuts
 pub mod Lists
 pub mod OneOperation
 pub mod Joining
+pub mod JoinedTargets
+pub mod Strengthening
 pub mod AllOperations
 pub mod Allowed
 pub mod Pivoting

@@ -9,3 +9,5 @@ pub mod Taking
 pub mod Free
 pub mod Easier
 pub mod Shrinking
+pub mod Stronger
+pub mod Targets

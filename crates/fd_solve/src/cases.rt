@@ -7,6 +7,7 @@ ghost use Rattle.fd_solve.specs.Search.{IsMadeOf, IsMadeOfAny, LeastOrNone};
 use crate::marked::{Marked, marked_case};
 use crate::order::lesser;
 use crate::search::{search, with_value};
+use crate::stronger::{can_be_stronger, stronger};
 use dom_set::OutOfMemory;
 use fd_narrow::Domains;
 use fd_prob::{Assignment, Case, Slot};
@@ -30,6 +31,23 @@ fn least_of(
     Ok(least)
 }
 
+/// The least assignment that is of the case, by a search of the case with relations from which more follows at once.
+fn solve_joined(
+    alloc: Global,
+    case: &Case,
+    pivots: &[u32; 14],
+) -> Result<Option<Assignment>, OutOfMemory>
+    requires { IsCase case.now }
+    ensures { IfOk result (LeastOrNone pivots.now (IsMadeOf case.now)) }
+{
+    if can_be_stronger(case) {
+        let stronger = stronger(alloc, case)?;
+        let least = least_of(alloc, &stronger, pivots)?;
+        return Ok(least);
+    }
+    least_of(alloc, case, pivots)
+}
+
 /// The least assignment that is of the case. Several relations of rows are joined first: each of them alone would
 /// leave values that the others rule out, and they would be tried one by one.
 fn solve_case(
@@ -42,10 +60,10 @@ fn solve_case(
 {
     if case.has_several_rows() {
         let joined = case.joined(alloc)?;
-        let least = least_of(alloc, &joined, pivots)?;
+        let least = solve_joined(alloc, &joined, pivots)?;
         return Ok(least);
     }
-    least_of(alloc, case, pivots)
+    solve_joined(alloc, case, pivots)
 }
 
 /// The least assignment that is of the case at a place, with what the marked biases add to it.

@@ -21,6 +21,8 @@ mod order;
 mod pivots;
 mod place;
 mod search;
+mod stronger;
+mod targets;
 
 pub use answers::{LeafAnswer, Solved};
 pub use dom_set::OutOfMemory;

@@ -10,7 +10,7 @@ use Rattle.tpl_ast.specs.declared.template.Item.TheFolds.{fold-roll-Item}
 use Rattle.tpl_ast.specs.Choices.{all_true, all_ways, are_ways_fit, can_pick, fit_in, is_fit, weight_of}
 use Rattle.gen_search.specs.Search.{of_hart}
 use Rattle.gen_search.specs.Fit.{AreFit}
-use Rattle.gen_search.specs.Places.{copies}
+use Rattle.gen_search.specs.Search.{copies}
 use Rattle.gen_search.proofs.Weights.{both_true}
 
 pub seq_fit : (body : Vec Item Global) → is_fit (views.Seq body) ≡ all_true (map is_fit body.items)

@@ -7,8 +7,8 @@ use Rattle.tpl_ast.specs.declared.template.Item.{Item}
 use Rattle.gen_search.proofs.Tries.{no_try}
 use Rattle.gen_search.specs.declared.choice.Choice.{Choice}
 use Rattle.gen_search.specs.declared.draws.Tally.{Tally}
-use Rattle.gen_search.specs.Search.{Rules, Outcome, Dead, Finished, GaveUp, or_else}
-use Rattle.gen_search.specs.Places.{AreMarked, AreOpen, AreTried, IsInside, IsOpen, come_back, untried, unwound}
+use Rattle.gen_search.specs.Search.{Rules, Outcome, Dead, Finished, GaveUp, Tries, none_left, OrElse, is_dead, is_finished, is_given_up}
+use Rattle.gen_search.specs.Places.{AreMarked, AreOpen, AreTried, ComesBack, Inside, IsInside, IsOpen, laid, untried}
 use Rattle.gen_search.specs.Wholes.{wholes, kept}
 
 pub get_taken : {A : Type 0} (n : ℕ) (xs : List A) (m : ℕ) → m < n → slice_get (take n xs) m ≡ slice_get xs m
@@ -60,41 +60,47 @@ open_before (d ∷ cs) c are = let o = open_before cs c are.1 in ((are.0, o.0), 
 
 -- ---- outcomes inside of open choices
 
-module _ (W : Type 0) (rules : Rules W) (turns : ℕ) where
-  pub unwound_last : (ws : List W) (cs : List Choice) (c : Choice) (o : Outcome W) → unwound rules turns ws (cs ++ (c ∷ [])) o ≡ unwound rules turns ws cs (or_else o (come_back rules turns (untried c) c.place (slice_get ws c.mark)))
-  unwound_last ws [] c o = refl
-  unwound_last ws (d ∷ cs) c o = ap (λ (p : Outcome W). or_else p (come_back rules turns (untried d) d.place (slice_get ws d.mark))) (unwound_last ws cs c o)
+or_more : {W : Type 0} (a b : Outcome W → Type 0) (next : Tally → Outcome W → Type 0) → ((o : Outcome W) → a o → b o) → (o : Outcome W) → OrElse a next o → OrElse b next o
+or_more a b next more _ (is_finished is) = is_finished (more _ is)
+or_more a b next more _ (is_given_up is) = is_given_up (more _ is)
+or_more a b next more _ (is_dead is goes) = is_dead (more _ is) goes
+
+module _ {W : Type 0} (rules : Rules W) (turns : ℕ) where
+  -- where more outcomes are led to
+  pub inside_more : (ws : List W) (cs : List Choice) (a b : Outcome W → Type 0) → ((o : Outcome W) → a o → b o) → (o : Outcome W) → Inside rules turns ws cs a o → Inside rules turns ws cs b o
+  inside_more ws [] a b more o is = more o is
+  inside_more ws (c ∷ cs) a b more o is = or_more (Inside rules turns ws cs a) (Inside rules turns ws cs b) (ComesBack rules turns (untried c) c.place (slice_get ws c.mark)) (inside_more ws cs a b more) o is
+
+  pub inside_append : (ws : List W) (cs ds : List Choice) (a : Outcome W → Type 0) → Inside rules turns ws (cs ++ ds) a ≡ Inside rules turns ws cs (Inside rules turns ws ds a)
+  inside_append ws [] ds a = refl
+  inside_append ws (c ∷ cs) ds a = ap (λ (b : Outcome W → Type 0). OrElse b (ComesBack rules turns (untried c) c.place (slice_get ws c.mark))) (inside_append ws cs ds a)
 
   -- wholes that are kept
-  pub unwound_kept : (old new : List W) (low : ℕ) (cs : List Choice) (high : ℕ) (o : Outcome W) → take (length old) new ≡ old → high < length old → AreMarked low cs high → unwound rules turns new cs o ≡ unwound rules turns old cs o
-  unwound_kept old new low [] high o same lt marked = refl
-  unwound_kept old new low (d ∷ cs) high o same lt marked =
+  pub inside_kept : (old new : List W) (low : ℕ) (cs : List Choice) (high : ℕ) (a : Outcome W → Type 0) → take (length old) new ≡ old → high < length old → AreMarked low cs high → Inside rules turns new cs a ≡ Inside rules turns old cs a
+  inside_kept old new low [] high a same lt marked = refl
+  inside_kept old new low (d ∷ cs) high a same lt marked =
       let m : d.mark < length old = omega (arith, lt, marked_le d.mark cs high marked.1) in
-      λ i. or_else (unwound_kept old new d.mark cs high o same lt marked.1 i) (come_back rules turns (untried d) d.place (get_kept old new d.mark same m i))
+      λ i. OrElse (inside_kept old new d.mark cs high a same lt marked.1 i) (ComesBack rules turns (untried d) d.place (get_kept old new d.mark same m i))
 
-  pub unwound_finished : (ws : List W) (cs : List Choice) (whole : W) (t : Tally) → unwound rules turns ws cs (Finished whole t) ≡ Finished whole t
-  unwound_finished ws [] whole t = refl
-  unwound_finished ws (d ∷ cs) whole t = ap (λ (p : Outcome W). or_else p (come_back rules turns (untried d) d.place (slice_get ws d.mark))) (unwound_finished ws cs whole t)
+  pub back_kept : (old new : List W) (low : ℕ) (cs : List Choice) (high : ℕ) (a : Outcome W → Type 0) (o : Outcome W) → take (length old) new ≡ old → high < length old → AreMarked low cs high → Inside rules turns new cs a o → Inside rules turns old cs a o
+  back_kept old new low cs high a o same lt marked goes = subst (λ (s : Outcome W → Type 0). s o) (inside_kept old new low cs high a same lt marked) goes
 
-  pub unwound_gave_up : (ws : List W) (cs : List Choice) (t : Tally) → unwound rules turns ws cs (GaveUp t) ≡ GaveUp t
-  unwound_gave_up ws [] t = refl
-  unwound_gave_up ws (d ∷ cs) t = ap (λ (p : Outcome W). or_else p (come_back rules turns (untried d) d.place (slice_get ws d.mark))) (unwound_gave_up ws cs t)
+  pub inside_finished : (ws : List W) (cs : List Choice) (a : Outcome W → Type 0) (whole : W) (t : Tally) → a (Finished whole t) → Inside rules turns ws cs a (Finished whole t)
+  inside_finished ws [] a whole t is = is
+  inside_finished ws (d ∷ cs) a whole t is = is_finished (inside_finished ws cs a whole t is)
 
-  pub unwound_append : (ws : List W) (cs ds : List Choice) (o : Outcome W) → unwound rules turns ws (cs ++ ds) o ≡ unwound rules turns ws cs (unwound rules turns ws ds o)
-  unwound_append ws [] ds o = refl
-  unwound_append ws (c ∷ cs) ds o = ap (λ (p : Outcome W). or_else p (come_back rules turns (untried c) c.place (slice_get ws c.mark))) (unwound_append ws cs ds o)
+  pub inside_gave_up : (ws : List W) (cs : List Choice) (a : Outcome W → Type 0) (t : Tally) → a (GaveUp t) → Inside rules turns ws cs a (GaveUp t)
+  inside_gave_up ws [] a t is = is
+  inside_gave_up ws (d ∷ cs) a t is = is_given_up (inside_gave_up ws cs a t is)
 
-  come_tried : (c : Choice) (whole : Option W) (t : Tally) → c.picked < length c.ways.now → length c.ways.now ≤ c.tried → come_back rules turns (untried c) c.place whole t ≡ Dead t
+  come_tried : (c : Choice) (whole : Option W) (t : Tally) → c.picked < length c.ways.now → length c.ways.now ≤ c.tried → ComesBack rules turns (untried c) c.place whole t (Dead t)
   come_tried c None t below over = refl
-  come_tried c (Some whole) t below over =
-      ap (λ (us : List (ℕ × Vec Item Global)). come_back rules turns us c.place (Some whole) t) (no_try c.picked c.ways.now c.tried below over)
+  come_tried c (Some whole) t below over = subst (λ (us : List (ℕ × Vec Item Global)). Tries rules turns c.place.hart us (laid c.place) whole t (Dead t)) (sym (no_try c.picked c.ways.now c.tried below over)) none_left
 
   -- choices of which all alternatives were tried are dead
-  pub unwound_tried : (ws : List W) (cs : List Choice) (t : Tally) → AreOpen cs → AreTried cs → unwound rules turns ws cs (Dead t) ≡ Dead t
-  unwound_tried ws [] t are tried = refl
-  unwound_tried ws (c ∷ cs) t are tried =
-      ap (λ (p : Outcome W). or_else p (come_back rules turns (untried c) c.place (slice_get ws c.mark))) (unwound_tried ws cs t are.1 tried.1)
-      ∙ come_tried c (slice_get ws c.mark) t are.0.picked tried.0
+  pub inside_tried : (ws : List W) (cs : List Choice) (a : Outcome W → Type 0) (t : Tally) → AreOpen cs → AreTried cs → a (Dead t) → Inside rules turns ws cs a (Dead t)
+  inside_tried ws [] a t are tried is = is
+  inside_tried ws (c ∷ cs) a t are tried is = is_dead (inside_tried ws cs a t are.1 tried.1 is) (come_tried c (slice_get ws c.mark) t are.0.picked tried.0)
 
 -- ---- a whole that was come back to
 
@@ -127,21 +133,24 @@ marked_inside low [] c inner high marked = (marked.0, marked_le c.mark inner hig
 marked_inside low (d ∷ cs) c inner high marked = let m = marked_inside d.mark cs c inner high marked.1 in ((marked.0, m.0), m.1)
 
 -- going back to the innermost choice that is open
-module _ (W : Type 0) (rules : Rules W) (turns : ℕ) where
-  pub dead_inside : (xs : List W) (x : W) (ys : List W) (y : W) (all cs : List Choice) (c : Choice) (low : ℕ) (t : Tally) → IsInside all cs c → AreOpen all → AreMarked low all (length xs)
+module _ {W : Type 0} (rules : Rules W) (turns : ℕ) where
+  pub dead_inside : (xs : List W) (x : W) (ys : List W) (y : W) (all cs : List Choice) (c : Choice) (low : ℕ) (t : Tally) (p : Outcome W) → IsInside all cs c → AreOpen all → AreMarked low all (length xs)
       → ys ++ (y ∷ []) ≡ take (c.mark + 1) (xs ++ (x ∷ []))
-      → unwound rules turns (ys ++ (y ∷ [])) cs (come_back rules turns (untried c) c.place (Some y) t) ≡ unwound rules turns (xs ++ (x ∷ [])) all (Dead t)
-  dead_inside xs x ys y all cs c low t inside are marked is =
+      → Inside rules turns (ys ++ (y ∷ [])) cs (ComesBack rules turns (untried c) c.place (Some y) t) p → Inside rules turns (xs ++ (x ∷ [])) all (λ o. o ≡ Dead t) p
+  dead_inside xs x ys y all cs c low t p inside are marked is goes =
+      let ws : List W = xs ++ (x ∷ []) in
+      let dead : Outcome W → Type 0 = λ o. o ≡ Dead t in
       let os = open_inside cs c inside.inner (subst AreOpen inside.are are) in
       let ms = marked_inside low cs c inside.inner (length xs) (subst (λ (ds : List Choice). AreMarked low ds (length xs)) inside.are marked) in
       let long : length ys ≡ c.mark = rolled_length xs x ys y c.mark is ms.1 in
       let within : c.mark < length (ys ++ (y ∷ [])) = omega (arith, long, wholes_length ys y) in
-      let back : Outcome W = come_back rules turns (untried c) c.place (Some y) t in
-      sym (unwound_kept W rules turns (ys ++ (y ∷ [])) (xs ++ (x ∷ [])) low cs c.mark back (rolled_kept xs x ys y c.mark is ms.1) within ms.0)
-      ∙ ap (λ (o : Option W). unwound rules turns (xs ++ (x ∷ [])) cs (come_back rules turns (untried c) c.place o t)) (sym (rolled_whole xs x ys y c.mark is ms.1))
-      ∙ ap (λ (o : Outcome W). unwound rules turns (xs ++ (x ∷ [])) cs (or_else o (come_back rules turns (untried c) c.place (slice_get (xs ++ (x ∷ [])) c.mark)))) (sym (unwound_tried W rules turns (xs ++ (x ∷ [])) inside.inner t os.2 inside.tried))
-      ∙ sym (unwound_append W rules turns (xs ++ (x ∷ [])) cs (c ∷ inside.inner) (Dead t))
-      ∙ ap (λ (ds : List Choice). unwound rules turns (xs ++ (x ∷ [])) ds (Dead t)) (sym inside.are)
+      let back : Outcome W → Type 0 = ComesBack rules turns (untried c) c.place (Some y) t in
+      let kept : Inside rules turns ws cs back p = subst (λ (s : Outcome W → Type 0). s p) (sym (inside_kept rules turns (ys ++ (y ∷ [])) ws low cs c.mark back (rolled_kept xs x ys y c.mark is ms.1) within ms.0)) goes in
+      let stood : Some y ≡ slice_get ws c.mark = sym (rolled_whole xs x ys y c.mark is ms.1) in
+      let inner : Inside rules turns ws inside.inner dead (Dead t) = inside_tried rules turns ws inside.inner dead t os.2 inside.tried refl in
+      let more : (o : Outcome W) → back o → Inside rules turns ws (c ∷ inside.inner) dead o = λ o b. is_dead inner (subst (λ (w : Option W). ComesBack rules turns (untried c) c.place w t o) stood b) in
+      let opened : Inside rules turns ws cs (Inside rules turns ws (c ∷ inside.inner) dead) p = inside_more rules turns ws cs back (Inside rules turns ws (c ∷ inside.inner) dead) more p kept in
+      subst (λ (ds : List Choice). Inside rules turns ws ds dead p) (sym inside.are) (subst (λ (s : Outcome W → Type 0). s p) (sym (inside_append rules turns ws cs (c ∷ inside.inner) dead)) opened)
 
 pub inside_open : (all cs : List Choice) (c : Choice) → IsInside all cs c → AreOpen all → AreOpen cs × IsOpen c
 inside_open all cs c inside are = let o = open_inside cs c inside.inner (subst AreOpen inside.are are) in (o.0, o.1)

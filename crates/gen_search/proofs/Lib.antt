@@ -1,4 +1,3 @@
-pub mod Pieces
 pub mod Blocks
 pub mod Weights
 pub mod Drawn
@@ -10,6 +9,9 @@ pub mod Results
 pub mod Items
 pub mod Ready
 pub mod LeafTurns
+pub mod Each
+pub mod Opened
+pub mod Once
 pub mod Lawful
 pub mod Forward
 pub mod Templates

@@ -13,11 +13,12 @@ use Rattle.gen_search.specs.declared.choice.Choice.{Choice}
 use Rattle.gen_search.specs.declared.draws.Tally.{Tally}
 use Rattle.gen_search.specs.declared.place.Place.{Place}
 use Rattle.gen_search.specs.declared.walk.Walk.{Walk}
-use Rattle.gen_search.specs.Search.{of_hart}
-use Rattle.gen_search.specs.Places.{AreMarked, IsInside, copies}
+use Rattle.gen_search.specs.Search.{IsLeaf, leaf, fault, copies, of_hart}
+use Rattle.gen_search.specs.Places.{AreMarked, IsInside}
 use Rattle.gen_search.specs.Ready.{AllowsAll, AreAllowed, AreChoicesReady, AreReady, IsChoiceReady, joined, joined_ways, parts_in, parts_of, parts_of_body, parts_of_ways}
 use Rattle.gen_search.specs.Ready.{CanComeBack}
 use Rattle.gen_search.specs.Wholes.{wholes, kept}
+use Rattle.gen_search.proofs.Each.{Each}
 use Rattle.gen_search.proofs.Kept.{get_kept, last_whole, marked_le, wholes_length}
 use Rattle.gen_search.proofs.Results.{same_some}
 use Rattle.gen_search.proofs.Ways.{tried_on}
@@ -102,16 +103,52 @@ module _ (can : ℕ → Item → Type 0) where
       subst (AreAllowed can hart) (ap parts_of chooses ∙ choose_parts line ways ∙ ap parts_of_ways (sym same)) (next_ready hart item before behind is are).0
 
   pub leaf_ready : (hart line : ℕ) (item : Item) (wishes : Vec Wish Global) (before behind : List (ℕ × Item)) → before ≡ (hart, item) ∷ behind → item ≡ variants.Leaf line wishes → AreReady can before → can hart item
-  leaf_ready hart line item wishes before behind is leaf are =
-      subst (can hart) (sym leaf) (subst (AreAllowed can hart) (ap parts_of leaf ∙ leaf_parts line wishes) (next_ready hart item before behind is are).0).0
+  leaf_ready hart line item wishes before behind is same are =
+      subst (can hart) (sym same) (subst (AreAllowed can hart) (ap parts_of same ∙ leaf_parts line wishes) (next_ready hart item before behind is are).0).0
 
   pub fault_ready : (hart line : ℕ) (item : Item) (causes : List ℕ) (before behind : List (ℕ × Item)) → before ≡ (hart, item) ∷ behind → item ≡ variants.FetchFault line causes → AreReady can before → can hart item
-  fault_ready hart line item causes before behind is fault are =
-      subst (can hart) (sym fault) (subst (AreAllowed can hart) (ap parts_of fault ∙ fault_parts line causes) (next_ready hart item before behind is are).0).0
+  fault_ready hart line item causes before behind is same are =
+      subst (can hart) (sym same) (subst (AreAllowed can hart) (ap parts_of same ∙ fault_parts line causes) (next_ready hart item before behind is are).0).0
 
   pub label_ready : (hart name : ℕ) (item : Item) (before behind : List (ℕ × Item)) → before ≡ (hart, item) ∷ behind → item ≡ variants.Label name → AreReady can before → can hart (variants.Label name)
   label_ready hart name item before behind is label are =
       (subst (AreAllowed can hart) (ap parts_of label ∙ label_parts name) (next_ready hart item before behind is are).0).0
+
+  -- ---- what comes first
+
+  pub first_leaf : (hart line : ℕ) (item : Item) (todo : List (ℕ × Item)) → IsLeaf item line → AreReady can ((hart, item) ∷ todo) → can hart item
+  first_leaf hart line item todo (leaf l wishes) are = (subst (AreAllowed can hart) (leaf_parts l wishes) are.0).0
+  first_leaf hart line item todo (fault l causes) are = (subst (AreAllowed can hart) (fault_parts l causes) are.0).0
+
+  pub first_label : (hart name : ℕ) (todo : List (ℕ × Item)) → AreReady can ((hart, variants.Label name) ∷ todo) → can hart (variants.Label name)
+  first_label hart name todo are = (subst (AreAllowed can hart) (label_parts name) are.0).0
+
+  pub body_before : (hart : ℕ) (body : Vec Item Global) (todo : List (ℕ × Item)) → AreAllowed can hart (parts_of_body body.items) → AreReady can todo → AreReady can (of_hart hart body.items ++ todo)
+  body_before hart body todo allowed are = ready_append (of_hart hart body.items) todo (ready_body hart body.items allowed) are
+
+  pub first_seq : (hart : ℕ) (body : Vec Item Global) (todo : List (ℕ × Item)) → AreReady can ((hart, views.Seq body) ∷ todo) → AreReady can (of_hart hart body.items ++ todo)
+  first_seq hart body todo are = body_before hart body todo (subst (AreAllowed can hart) (seq_parts body) are.0) are.1
+
+  pub first_repeat : (hart times : ℕ) (body : Vec Item Global) (todo : List (ℕ × Item)) → AreReady can ((hart, views.Repeat times body) ∷ todo) → AreReady can (copies times (of_hart hart body.items) ++ todo)
+  first_repeat hart times body todo are =
+      ready_append (copies times (of_hart hart body.items)) todo (ready_copies times (of_hart hart body.items) (ready_body hart body.items (subst (AreAllowed can hart) (repeat_parts times body) are.0))) are.1
+
+  each_allowed : (hart : ℕ) (ways : List (ℕ × Vec Item Global)) → AreAllowed can hart (parts_of_ways ways) → Each (λ body. AreAllowed can hart (parts_of_body body.items)) ways
+  each_allowed hart [] are = tt
+  each_allowed hart (w ∷ ws) are = let both = allowed_parts hart (parts_of_body w.1.items) (parts_of_ways ws) are in (both.0, each_allowed hart ws both.1)
+
+  pub first_choose : (hart line : ℕ) (ways : Vec (ℕ × Vec Item Global) Global) (todo : List (ℕ × Item)) → AreReady can ((hart, views.Choose line ways) ∷ todo) → Each (λ body. AreAllowed can hart (parts_of_body body.items)) ways.items
+  first_choose hart line ways todo are = each_allowed hart ways.items (subst (AreAllowed can hart) (choose_parts line ways) are.0)
+
+-- what can be taken stays so
+module _ (W : Type 0) (can : W → ℕ → Item → Type 0) (old new : W) (still : AllowsAll can old new) where
+  pub allowed_still : (hart : ℕ) (items : List Item) → AreAllowed (can old) hart items → AreAllowed (can new) hart items
+  allowed_still hart [] are = tt
+  allowed_still hart (i ∷ is) are = (still hart i are.0, allowed_still hart is are.1)
+
+  pub ready_still : (todo : List (ℕ × Item)) → AreReady (can old) todo → AreReady (can new) todo
+  ready_still [] are = tt
+  ready_still (x ∷ xs) are = (allowed_still x.0 (parts_of x.1) are.0, ready_still xs are.1)
 
 -- ---- choices that are come back to
 

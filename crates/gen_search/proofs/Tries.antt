@@ -19,7 +19,7 @@ numbered_at {A = A} n (w ∷ ws) (suc i) d lt =
 pub cyclic_length : {A : Type 0} (p : ℕ) (xs : List A) → p ≤ length xs → length (cyclically p xs) ≡ length xs
 cyclic_length p xs le = length-append (drop p xs) (take p xs) ∙ omega (arith, length-drop p xs, length-take p xs)
 
-near_or_far : (j n : ℕ) → (j < n) ⊎ (n ≤ j)
+pub near_or_far : (j n : ℕ) → (j < n) ⊎ (n ≤ j)
 near_or_far j zero = inr (omega arith)
 near_or_far zero (suc n) = inl (omega arith)
 near_or_far (suc j) (suc n) = elim (near_or_far j n) [ inl h ↦ inl (omega (arith, h)) | inr h ↦ inr (omega (arith, h)) ]

@@ -1,5 +1,5 @@
 -- Where a walk stands, as the code keeps it.
-use Rattle.std.specs.Prelude.{◌≡◌, ℕ, zero, suc, ◌+◌, ◌*◌, ◌≤◌, ◌<◌, ◌^◌, true, List, [], ◌∷◌, ◌++◌, length, map, drop, Option, Some, None, Vec}
+use Rattle.std.specs.Prelude.{◌≡◌, ℕ, ◌+◌, ◌*◌, ◌≤◌, ◌<◌, ◌^◌, true, List, [], ◌∷◌, ◌++◌, length, drop, Option, Some, None, Vec}
 use Rattle.std.specs.Global.{Global}
 use Rattle.std.specs.List.{slice_get}
 use Rattle.tpl_ast.specs.declared.template.HartDecl.{HartDecl}
@@ -8,15 +8,10 @@ use Rattle.gen_search.specs.declared.place.Block.{Block}
 use Rattle.gen_search.specs.declared.place.Place.{Place}
 use Rattle.gen_search.specs.declared.choice.Choice.{Choice}
 use Rattle.gen_search.specs.declared.draws.Tally.{Tally}
-use Rattle.gen_search.specs.Search.{Rules, Piece, Outcome, Dead, in_order, piece_of, rest_of, or_else, tries, numbered, cyclically, of_hart, all_items}
+use Rattle.gen_search.specs.Search.{Rules, Outcome, Dead, OrElse, Tries, numbered, cyclically, of_hart, all_items, copies}
 use Rattle.tpl_ast.specs.Choices.{are_ways_fit}
 use Rattle.gen_search.specs.Fit.{AreFit}
 use Rattle.gen_search.specs.Steps.{steps_of_body}
-
--- items a number of times, one time after another
-abbrev pub copies : {A : Type 0} → ℕ → List A → List A
-copies zero xs = []
-copies (suc n) xs = xs ++ copies n xs
 
 -- ---- what is left to do
 
@@ -49,23 +44,19 @@ steps_left p = steps_of_blocks p.blocks.items + steps_of_harts p.later.now
 
 -- ---- open choices
 
--- an alternative as a piece of a hart's body
-abbrev pub way_piece : {W : Type 0} → Rules W → ℕ → ℕ → (ℕ × Vec Item Global) → ℕ × Piece W
-way_piece rules turns hart w = (w.0, in_order (map (piece_of rules turns hart) w.1.items))
-
 -- the alternatives that were not tried yet, with their numbers
 abbrev pub untried : Choice → List (ℕ × Vec Item Global)
 untried c = drop c.tried (cyclically c.picked (numbered 0 c.ways.now))
 
--- the alternatives that are left, from the whole that stood before the choice
-abbrev pub come_back : {W : Type 0} → Rules W → ℕ → List (ℕ × Vec Item Global) → Place → Option W → Tally → Outcome W
-come_back rules turns ways place None t = Dead t
-come_back rules turns ways place (Some whole) t = tries rules (map (way_piece rules turns place.hart) ways) (rest_of rules turns (laid place)) whole t
+-- what the alternatives that are left end with, from the whole that stood before the choice
+abbrev pub ComesBack : {W : Type 0} → Rules W → ℕ → List (ℕ × Vec Item Global) → Place → Option W → Tally → Outcome W → Type 0
+ComesBack rules turns ways place None t o = o ≡ Dead t
+ComesBack rules turns ways place (Some whole) t o = Tries rules turns place.hart ways (laid place) whole t o
 
--- an outcome inside of open choices, the outermost first, whose wholes have their marks for numbers
-abbrev pub unwound : {W : Type 0} → Rules W → ℕ → List W → List Choice → Outcome W → Outcome W
-unwound rules turns ws [] o = o
-unwound rules turns ws (c ∷ cs) o = or_else (unwound rules turns ws cs o) (come_back rules turns (untried c) c.place (slice_get ws c.mark))
+-- what some outcomes lead to inside of open choices, the outermost first, whose wholes have their marks for numbers
+abbrev pub Inside : {W : Type 0} → Rules W → ℕ → List W → List Choice → (Outcome W → Type 0) → Outcome W → Type 0
+Inside rules turns ws [] first = first
+Inside rules turns ws (c ∷ cs) first = OrElse (Inside rules turns ws cs first) (ComesBack rules turns (untried c) c.place (slice_get ws c.mark))
 
 -- marks ascend, from a number up to another
 abbrev pub AreMarked : ℕ → List Choice → ℕ → Type 0

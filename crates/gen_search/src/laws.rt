@@ -1,20 +1,19 @@
 // Laws of the search.
 ghost use Rattle.gen_search.specs.Fit.{TemplatesCanBeSearched};
-ghost use Rattle.gen_search.specs.Laws.{DrawsAreInOrder, HasOneResult, HasSomeResult, OneWayIsTaken, ResultsAreBounded, TriesGoOn, WalksGoByItems};
+ghost use Rattle.gen_search.specs.Laws.{DrawsAreInOrder, HasOneResult, HasSomeResult, OneWayIsTaken, ResultsAreBounded, TriesGoOn};
 
 use crate::PartialTest;
 
-/// Does nothing. Its contract says that a search has one result at most, and one where an alternative of each choice can
-/// be picked, which then tells of at most so many leaf turns; that a walk goes by the items that are left; that a choice
-/// of one alternative is that alternative; and that alternatives are tried one after another.
-#[tactic(auto, using(crate::proofs::Lawful::one_result, crate::proofs::Lawful::by_items, crate::proofs::Lawful::one_way, crate::proofs::Lawful::tries_go_on))]
+/// Does nothing. Its contract says that a search has one result at most where each leaf turn that can be taken has one
+/// answer at most, and one where each has one and an alternative of each choice can be picked; that a result tells of at
+/// most so many leaf turns; that a choice of one alternative is that alternative; and that alternatives are tried one after
+/// another.
 pub fn search_laws<P: PartialTest>()
-    ensures one_result { HasOneResult P.Whole }
-    ensures some_result { HasSomeResult P.Whole }
-    ensures bounded { ResultsAreBounded P.Whole }
-    ensures items { WalksGoByItems P.Whole }
-    ensures one_way { OneWayIsTaken P.Whole }
-    ensures tries { TriesGoOn P.Whole }
+    ensures one_result { HasOneResult P.can_take P.rules }
+    ensures some_result { HasSomeResult P.can_take P.rules }
+    ensures bounded { ResultsAreBounded P.rules }
+    ensures one_way { OneWayIsTaken P.rules }
+    ensures tries { TriesGoOn P.rules }
 {}
 
 /// Does nothing. Its contract says that an alternative of each choice of a template can be picked.

@@ -16,11 +16,11 @@ pub enum Turn {
 }
 
 /// A test that is being made. Contracts see it as a whole and the list of its earlier wholes, to each of which it can
-/// go back. What its changes make of a whole is told by rules, the same for all tests of the type. Where a change finds no
-/// memory, nothing is said of the whole that stands then.
+/// go back. What its changes make of a whole is told by rules, the same for all tests of the type: of a leaf turn they tell
+/// which answers it may have. Where a change finds no memory, nothing is said of the whole that stands then.
 pub trait PartialTest {
     ghost use Rattle.std.specs.Prelude.{ℕ, List};
-    ghost use Rattle.gen_search.specs.Search.{Rules};
+    ghost use Rattle.gen_search.specs.Search.{IsLeaf, Rules};
     ghost use Rattle.tpl_ast.specs.declared.template.Item.{Item};
     ghost use Rattle.tpl_ast.specs.declared.template.Item.TheVariants.{Label};
     ghost use Rattle.gen_search.specs.Ready.{AllowsAll};
@@ -35,8 +35,8 @@ pub trait PartialTest {
     /// How many leaf turns were made on it.
     ghost turned: { Self → ℕ };
 
-    /// Whether rules say what a leaf turn, a label and an alternative that is taken make of a whole.
-    ghost follows: { Rules Self.Whole → Type 0 };
+    /// Which answers a leaf turn has on a whole, and what a label and an alternative that is taken make of it.
+    ghost rules: { Rules Self.Whole };
 
     /// What has to be so of a whole for a leaf or a label of a hart, counted from 0, to be taken on it.
     ghost can_take: { Self.Whole → ℕ → Item → Type 0 };
@@ -54,8 +54,9 @@ pub trait PartialTest {
     /// Makes a leaf turn for a leaf (a `Leaf` or a `FetchFault`) of a hart, counted from 0, with its 16 draws. After a dead
     /// one the wholes before it still stand, and perhaps others behind them.
     fn turn(&mut self, hart: usize, leaf: &Item, draws: &[u32; 16]) -> Result<Turn, OutOfMemory>
-        requires { can_take (whole self.old) hart leaf.now }
-        ensures answer { IfOk result (λ t. (rules : Rules Self.Whole) → follows rules → answered t (whole self.new) (rules.turn hart leaf.now draws.now (whole self.old))) }
+        requires leaf { (line : ℕ) × IsLeaf leaf.now line }
+        requires can { can_take (whole self.old) hart leaf.now }
+        ensures answer { IfOk result (λ t. rules.turn hart leaf.now draws.now (whole self.old) (answered t (whole self.new))) }
         ensures turned { IfOk result (λ _. turned self.new ≡ turned self.old + 1) }
         ensures at_most { turned self.new ≤ turned self.old + 1 }
         ensures still { IfOk result (λ _. AllowsAll can_take (whole self.old) (whole self.new)) }
@@ -64,14 +65,14 @@ pub trait PartialTest {
     /// Binds the name of a label, by its number, to the pc of a hart.
     fn bind_label(&mut self, hart: usize, name: u32) -> Result<(), OutOfMemory>
         requires { can_take (whole self.old) hart (Label name) }
-        ensures whole { IfOk result (λ _. (rules : Rules Self.Whole) → follows rules → whole self.new ≡ rules.label hart name (whole self.old)) }
+        ensures whole { IfOk result (λ _. whole self.new ≡ rules.label hart name (whole self.old)) }
         ensures turned { turned self.new ≡ turned self.old }
         ensures still { IfOk result (λ _. AllowsAll can_take (whole self.old) (whole self.new)) }
         ensures kept { IfOk result (λ _. kept (earlier self.old) (whole self.old) (earlier self.new) (whole self.new)) };
 
     /// Notes the alternative of a choice that is taken, counted from 0.
     fn take_choice(&mut self, way: u32) -> Result<(), OutOfMemory>
-        ensures whole { IfOk result (λ _. (rules : Rules Self.Whole) → follows rules → whole self.new ≡ rules.way way (whole self.old)) }
+        ensures whole { IfOk result (λ _. whole self.new ≡ rules.way way (whole self.old)) }
         ensures turned { turned self.new ≡ turned self.old }
         ensures still { IfOk result (λ _. AllowsAll can_take (whole self.old) (whole self.new)) }
         ensures kept { IfOk result (λ _. kept (earlier self.old) (whole self.old) (earlier self.new) (whole self.new)) };

@@ -1,11 +1,11 @@
 // The search.
-ghost use Rattle.std.specs.Prelude.{◌≡◌, ◌<◌, ◌≤◌, ◌+◌, ◌^◌, ℕ, length, IfOk, IfSome, MatchOption, Some, map, slice_get, true};
-ghost use Rattle.gen_search.specs.Search.{Rules, SearchResult, Searches, ComesTo, Dead, Finished, choice, rest_of, walk_from};
+ghost use Rattle.std.specs.Prelude.{◌≡◌, ◌<◌, ◌≤◌, ◌+◌, ◌^◌, ℕ, length, IfOk, IfSome, MatchOption, Some, slice_get, true};
+ghost use Rattle.gen_search.specs.Search.{Finished, IsLeaf, Outcome, SearchResult, Searches};
 ghost use Rattle.tpl_ast.specs.Choices.{are_ways_fit, can_pick};
 ghost use Rattle.gen_search.specs.Fit.{CanSearch};
 ghost use Rattle.gen_search.specs.Steps.{longest_steps};
-ghost use Rattle.gen_search.specs.Places.{AreMarked, AreOpen, IsOpen, come_back, untried, unwound, steps_left, laid, way_piece};
-ghost use Rattle.gen_search.specs.Walks.{IsWell, ahead, leaf_ahead, with_draws};
+ghost use Rattle.gen_search.specs.Places.{AreMarked, AreOpen, ComesBack, Inside, IsOpen, untried, steps_left};
+ghost use Rattle.gen_search.specs.Walks.{Ahead, ChoiceAhead, DeadAhead, IsWell, LeafAhead, Leads, with_draws};
 ghost use Rattle.gen_search.specs.Answers.{AnswerIs, CountsTurns};
 ghost use Rattle.gen_search.specs.Ready.{AllowsAll, AreAllowed, BodiesAreReady, CanComeBack, IsChoiceReady, IsReady, parts_of_ways};
 ghost use Rattle.gen_search.specs.Wholes.{wholes};
@@ -47,7 +47,7 @@ fn take_way<'t, P: PartialTest>(
     requires stands { choice.mark ≡ length (P.earlier part.old) }
     requires others { AreOpen walk.old.choices.items }
     requires marked { AreMarked walk.old.start walk.old.choices.items choice.mark }
-    ensures same { IfOk result (λ _. (rules : Rules P.Whole) → P.follows rules → (turns : ℕ) → ahead rules turns (wholes (P.earlier part.new) (P.whole part.new)) (P.whole part.new) walk.new ≡ unwound rules turns (wholes (P.earlier part.old) (P.whole part.old)) walk.old.choices.items (come_back rules turns (untried choice.entry) choice.entry.place (Some (P.whole part.old)) walk.old.tally)) }
+    ensures same { IfOk result (λ _. (turns : ℕ) (o : Outcome P.Whole) → Ahead P.rules turns (wholes (P.earlier part.new) (P.whole part.new)) (P.whole part.new) walk.new o → Inside P.rules turns (wholes (P.earlier part.old) (P.whole part.old)) walk.old.choices.items (ComesBack P.rules turns (untried choice.entry) choice.entry.place (Some (P.whole part.old)) walk.old.tally) o) }
     ensures well { IfOk result (λ _. IsWell (length (P.earlier part.new)) walk.new) }
     ensures steps { IfOk result (λ _. steps_left walk.new.place ≤ 2 + longest_steps choice.entry.ways.now + steps_left choice.entry.place) }
     ensures ready { IfOk result (λ _. (first : P.Whole) → AllowsAll P.can_take first (P.whole part.old) → CanComeBack P.can_take first (wholes (P.earlier part.old) (P.whole part.old)) walk.old → IsChoiceReady P.can_take first (wholes (P.earlier part.old) (P.whole part.old)) choice.entry → IsReady P.can_take first (wholes (P.earlier part.new) (P.whole part.new)) (P.whole part.new) walk.new) }
@@ -84,7 +84,7 @@ fn choose<'t, P: PartialTest>(
     requires well { IsWell (length (P.earlier part.old)) walk.old }
     requires can_pick { can_pick ways.now ≡ true }
     requires ways { are_ways_fit ways.now ≡ true }
-    ensures same { IfOk result (λ _. (rules : Rules P.Whole) → P.follows rules → (turns : ℕ) → ahead rules turns (wholes (P.earlier part.new) (P.whole part.new)) (P.whole part.new) walk.new ≡ unwound rules turns (wholes (P.earlier part.old) (P.whole part.old)) walk.old.choices.items (choice rules (map (way_piece rules turns walk.old.place.hart) ways.now) (rest_of rules turns (laid walk.old.place)) (P.whole part.old) walk.old.tally)) }
+    ensures same { IfOk result (λ _. (turns : ℕ) (o : Outcome P.Whole) → Ahead P.rules turns (wholes (P.earlier part.new) (P.whole part.new)) (P.whole part.new) walk.new o → ChoiceAhead P.rules turns (wholes (P.earlier part.old) (P.whole part.old)) (P.whole part.old) walk.old ways.now o) }
     ensures well { IfOk result (λ _. IsWell (length (P.earlier part.new)) walk.new) }
     ensures steps { IfOk result (λ _. steps_left walk.new.place ≤ 2 + longest_steps ways.now + steps_left walk.old.place) }
     ensures ready { IfOk result (λ _. (first : P.Whole) → IsReady P.can_take first (wholes (P.earlier part.old) (P.whole part.old)) (P.whole part.old) walk.old → AreAllowed (P.can_take first) walk.old.place.hart (parts_of_ways ways.now) → IsReady P.can_take first (wholes (P.earlier part.new) (P.whole part.new)) (P.whole part.new) walk.new) }
@@ -114,7 +114,8 @@ fn to_leaf<'t, P: PartialTest>(
 ) -> Result<Option<Leaf<'t>>, OutOfMemory>
     requires well { IsWell (length (P.earlier part.old)) walk.old }
     requires ready { (first : P.Whole) × IsReady P.can_take first (wholes (P.earlier part.old) (P.whole part.old)) (P.whole part.old) walk.old }
-    ensures done { IfOk result (λ o. MatchOption o ((rules : Rules P.Whole) → P.follows rules → (turns : ℕ) → ahead rules turns (wholes (P.earlier part.old) (P.whole part.old)) (P.whole part.old) walk.old ≡ Finished (P.whole part.new) walk.new.tally) (λ leaf. (rules : Rules P.Whole) → P.follows rules → (turns : ℕ) → ahead rules turns (wholes (P.earlier part.old) (P.whole part.old)) (P.whole part.old) walk.old ≡ leaf_ahead rules turns (wholes (P.earlier part.new) (P.whole part.new)) (P.whole part.new) walk.new leaf)) }
+    ensures done { IfOk result (λ found. MatchOption found ((turns : ℕ) → Ahead P.rules turns (wholes (P.earlier part.old) (P.whole part.old)) (P.whole part.old) walk.old (Finished (P.whole part.new) walk.new.tally)) (λ leaf. (turns : ℕ) (o : Outcome P.Whole) → LeafAhead P.rules turns (wholes (P.earlier part.new) (P.whole part.new)) (P.whole part.new) walk.new leaf o → Ahead P.rules turns (wholes (P.earlier part.old) (P.whole part.old)) (P.whole part.old) walk.old o)) }
+    ensures leaf { IfOk result (λ o. IfSome o (λ leaf. IsLeaf leaf.item.now leaf.line)) }
     ensures well { IfOk result (λ o. IfSome o (λ _. IsWell (length (P.earlier part.new)) walk.new)) }
     ensures ready { IfOk result (λ o. IfSome o (λ leaf. (first : P.Whole) → IsReady P.can_take first (wholes (P.earlier part.old) (P.whole part.old)) (P.whole part.old) walk.old → IsReady P.can_take first (wholes (P.earlier part.new) (P.whole part.new)) (P.whole part.new) walk.new × P.can_take first walk.new.place.hart leaf.item.now)) }
     ensures tally { walk.new.tally ≡ with_draws walk.new.tally.draws walk.old.tally }
@@ -146,7 +147,7 @@ fn go_back<'t, P: PartialTest>(
     requires marked { AreMarked walk.old.start walk.old.choices.items (length (P.earlier part.old)) }
     requires harts { CanSearch walk.old.harts.now }
     requires few { length walk.old.harts.now < 2 ^ 32 }
-    ensures same { IfOk result (λ _. (rules : Rules P.Whole) → P.follows rules → (turns : ℕ) (first : P.Whole) (r : SearchResult P.Whole) → slice_get (wholes (P.earlier part.old) (P.whole part.old)) walk.old.start ≡ Some first → ComesTo P.Whole (walk_from rules turns walk.old.harts.now first) (ahead rules turns (wholes (P.earlier part.new) (P.whole part.new)) (P.whole part.new) walk.new) r → ComesTo P.Whole (walk_from rules turns walk.old.harts.now first) (unwound rules turns (wholes (P.earlier part.old) (P.whole part.old)) walk.old.choices.items (Dead walk.old.tally)) r) }
+    ensures same { IfOk result (λ _. (turns : ℕ) (first : P.Whole) (r : SearchResult P.Whole) → slice_get (wholes (P.earlier part.old) (P.whole part.old)) walk.old.start ≡ Some first → Leads P.rules turns walk.old.harts.now first (Ahead P.rules turns (wholes (P.earlier part.new) (P.whole part.new)) (P.whole part.new) walk.new) r → Leads P.rules turns walk.old.harts.now first (DeadAhead P.rules turns (wholes (P.earlier part.old) (P.whole part.old)) walk.old) r) }
     ensures well { IfOk result (λ _. IsWell (length (P.earlier part.new)) walk.new) }
     ensures ready { IfOk result (λ _. (first : P.Whole) → CanComeBack P.can_take first (wholes (P.earlier part.old) (P.whole part.old)) walk.old → IsReady P.can_take first (wholes (P.earlier part.new) (P.whole part.new)) (P.whole part.new) walk.new) }
     ensures tally { walk.new.tally ≡ walk.old.tally }
@@ -178,11 +179,12 @@ fn take_turn<'t, P: PartialTest>(
 ) -> Result<(), OutOfMemory>
     requires well { IsWell (length (P.earlier part.old)) walk.old }
     requires ready { (first : P.Whole) × IsReady P.can_take first (wholes (P.earlier part.old) (P.whole part.old)) (P.whole part.old) walk.old × P.can_take first walk.old.place.hart leaf.item.now }
+    requires leaf { IsLeaf leaf.item.now leaf.line }
     requires harts { CanSearch walk.old.harts.now }
     requires few { length walk.old.harts.now < 2 ^ 32 }
     requires counted { walk.old.tally.none_fits + walk.old.tally.spent ≤ walk.old.tally.turns }
     requires more { walk.old.tally.turns + 1 < 2 ^ 64 }
-    ensures same { IfOk result (λ _. (rules : Rules P.Whole) → P.follows rules → (turns : ℕ) (first : P.Whole) (r : SearchResult P.Whole) → walk.old.tally.turns < turns → slice_get (wholes (P.earlier part.old) (P.whole part.old)) walk.old.start ≡ Some first → ComesTo P.Whole (walk_from rules turns walk.old.harts.now first) (ahead rules turns (wholes (P.earlier part.new) (P.whole part.new)) (P.whole part.new) walk.new) r → ComesTo P.Whole (walk_from rules turns walk.old.harts.now first) (leaf_ahead rules turns (wholes (P.earlier part.old) (P.whole part.old)) (P.whole part.old) walk.old leaf.entry) r) }
+    ensures same { IfOk result (λ _. (turns : ℕ) (first : P.Whole) (r : SearchResult P.Whole) → walk.old.tally.turns < turns → slice_get (wholes (P.earlier part.old) (P.whole part.old)) walk.old.start ≡ Some first → Leads P.rules turns walk.old.harts.now first (Ahead P.rules turns (wholes (P.earlier part.new) (P.whole part.new)) (P.whole part.new) walk.new) r → Leads P.rules turns walk.old.harts.now first (LeafAhead P.rules turns (wholes (P.earlier part.old) (P.whole part.old)) (P.whole part.old) walk.old leaf.entry) r) }
     ensures well { IfOk result (λ _. IsWell (length (P.earlier part.new)) walk.new) }
     ensures ready { IfOk result (λ _. (first : P.Whole) → IsReady P.can_take first (wholes (P.earlier part.old) (P.whole part.old)) (P.whole part.old) walk.old → IsReady P.can_take first (wholes (P.earlier part.new) (P.whole part.new)) (P.whole part.new) walk.new) }
     ensures turns { walk.new.tally.turns ≡ walk.old.tally.turns + 1 }
@@ -224,7 +226,7 @@ pub fn search<P: PartialTest>(
     requires can_search { CanSearch harts.now }
     requires few { length harts.now < 2 ^ 32 }
     requires ready { BodiesAreReady (P.can_take (P.whole part.old)) harts.now }
-    ensures searches { IfOk result (λ a. (rules : Rules P.Whole) → P.follows rules → (r : SearchResult P.Whole) × Searches rules harts.now seed turns (P.whole part.old) r × AnswerIs r (P.whole part.new) a × CountsTurns r turns (P.turned part.old) (P.turned part.new)) }
+    ensures searches { IfOk result (λ a. (r : SearchResult P.Whole) × Searches P.rules harts.now seed turns (P.whole part.old) r × AnswerIs r (P.whole part.new) a × CountsTurns r turns (P.turned part.old) (P.turned part.new)) }
     ensures first { IfOk result (λ _. slice_get (wholes (P.earlier part.new) (P.whole part.new)) (length (P.earlier part.old)) ≡ Some (P.whole part.old)) }
     ensures turns { P.turned part.new ≤ P.turned part.old + turns }
 {

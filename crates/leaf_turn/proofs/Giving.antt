@@ -1,5 +1,5 @@
 -- Places of an answer that are given one by one.
-use Rattle.std.proofs.Common.{◌≡◌, ℕ, zero, suc, Option, None, slice_index_or, slice_set, ◌-◌, ◌<◌, ◌≤◌, ◌⊎◌, List, [], ◌∷◌, ◌++◌, length, length-set, Some, refl, sym, ap, ◌∙◌, subst, inl, inr, arith}
+use Rattle.std.proofs.Common.{◌≡◌, ℕ, ◌+◌, zero, suc, Option, None, slice_index_or, slice_set, ◌-◌, ◌<◌, ◌≤◌, ◌⊎◌, List, [], ◌∷◌, ◌++◌, length, length-set, Some, refl, sym, ap, ◌∙◌, subst, inl, inr, arith}
 use Rattle.std.proofs.Math.Path.{fun_ext}
 use Rattle.rv_script.specs.declared.access.Access.{Access}
 use Rattle.rv_script.specs.declared.place.Place.{Place}
@@ -31,10 +31,10 @@ use Rattle.leaf_link.specs.Values.{Values}
 use Rattle.leaf_link.specs.Placing.{IsInstruction, StaysOrTraps, StepsStayOrTrap, ValuesAreByPlaces, ValuesAreInstructions, value_at}
 use Rattle.leaf_link.specs.Problems.{key_of}
 use Rattle.turn_laws.specs.Ahead.{AreAmong, IsUnderway, LogsAreShort, OneMoreIsGiven, PlacesAreNext, unknown_in}
-use Rattle.turn_laws.specs.Laws.{CandidatesAreSteps, FixedPartsStay, IsTaken, OthersStay}
+use Rattle.turn_laws.specs.Laws.{CandidatesAreSteps, FixedPartsStay, GivenPlacesAreKnown, GivenTestsAreTests, IsTaken, OthersStay}
 use Rattle.turn_laws.specs.Given.{CanGive, all_given, given_to, known_at, turn_at}
 use Rattle.leaf_turn.specs.Answers.{AreAsked, AreGiven, IsFound, IsStill, IsTakenBy, new_at}
-use Rattle.leaf_link.specs.Candidates.{accesses_in}
+use Rattle.leaf_link.specs.Candidates.{accesses_in, registers_from}
 
 -- some of the places are given, and so many at most are left
 pub record AreGoing (k : ℕ) (x : Values) (left : ℕ) (old now : Whole) : Type 0 where
@@ -240,3 +240,25 @@ still k x r old new others law f t =
           ∙ set_satp given.harts k (bare_after t.change (hart_of k given)) no_hart (control_satp (hart_of k given).privilege (hart_of k given).pc t.change.control (hart_of k given).csrs (stays_or_traps k x r old new law f t)) j
           ∙ all_satp k places old j;
     }
+
+-- ---- the registers before the step
+
+listed : (xs : List (Option ℕ)) (f : Known) (first n : ℕ) → length xs ≡ n → ((i : ℕ) → i < n → slice_index_or xs i None ≡ f (Reg (first + i))) → xs ≡ registers_from f first n
+listed [] f first zero same is = refl
+listed [] f first (suc n) same is = absurd (omega (arith, same))
+listed (x ∷ xs) f first zero same is = absurd (omega (arith, same))
+listed (x ∷ xs) f first (suc n) same is =
+    ap (λ (y : Option ℕ). y ∷ xs) (is 0 (omega arith) ∙ ap (λ (m : ℕ). f (Reg m)) (omega arith))
+    ∙ ap (λ (ys : List (Option ℕ)). f (Reg first) ∷ ys) (listed xs f (suc first) n (omega (arith, same)) (λ i less. is (suc i) (omega (arith, less)) ∙ ap (λ (m : ℕ). f (Reg m)) (omega arith)))
+
+-- those of the test on which the places were given are what was known, with what was given
+pub registers_before : (k : ℕ) (x : Values) (old given : Whole) (regs : List (Option ℕ)) → GivenPlacesAreKnown → GivenTestsAreTests → OthersStay → IsTest old → k < length old.harts → AreGiven k x old given
+    → regs ≡ (hart_of k given).regs → regs ≡ registers_from (enlarged (known_at k old) (new_at k old x)) 0 32
+registers_before k x old given regs known tests others test l g is =
+    let after : Whole = all_given k g.places old in
+    let fit = (tests k g.places old test l g.can).fit k (harts_stay k x old after others g.places refl l) in
+    let same : given_to g.places ≡ new_at k old x = fun_ext g.listed in
+    is ∙ ap (λ (w : Whole). (hart_of k w).regs) g.now
+    ∙ listed (hart_of k after).regs (enlarged (known_at k old) (new_at k old x)) 0 32 fit.size
+    (λ i less. known k g.places old test l g.can (Reg i) less ∙ ap (λ (new : Known). enlarged (known_at k old) new (Reg i)) same
+    ∙ ap (λ (m : ℕ). enlarged (known_at k old) (new_at k old x) (Reg m)) (omega arith))

@@ -18,5 +18,5 @@ pub use error::OutOfMemory;
 pub use known::known_is_words;
 pub use laws::{answers_are_found, rows_are_there, takings_are_one};
 pub use stand::{names_of, stand_of};
-pub use taking::take;
+pub use taking::{Step, take};
 pub use wishes::{biases_of, mandatory_of};

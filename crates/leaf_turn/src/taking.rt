@@ -6,7 +6,10 @@ ghost use Rattle.part_state.specs.State.{here};
 ghost use Rattle.leaf_link.specs.Answers.{values_in};
 ghost use Rattle.leaf_link.specs.Placing.{IsInstruction, value_at};
 ghost use Rattle.leaf_link.specs.Values.{instr_in};
-ghost use Rattle.leaf_turn.specs.Answers.{AreGiven, AreKept, IsFound, IsStill, IsTakenBy};
+ghost use Rattle.rv_script.specs.Logs.{enlarged};
+ghost use Rattle.leaf_link.specs.Candidates.{registers_from};
+ghost use Rattle.turn_laws.specs.Given.{known_at};
+ghost use Rattle.leaf_turn.specs.Answers.{AreGiven, AreKept, IsFound, IsStill, IsTakenBy, new_at};
 
 use crate::OutOfMemory;
 use fd_prob::{Assignment, Slot};
@@ -74,11 +77,20 @@ fn give(part: &mut Part, hart: u8, x: &Assignment) -> Result<(), OutOfMemory>
     }
 }
 
-fn give_and_step(part: &mut Part, hart: u8, x: &Assignment) -> Result<Record, OutOfMemory>
+/// The step of an answer.
+#[derive(Drop)]
+pub struct Step {
+    pub record: Record,
+    /// The registers before the step, those that it started among them.
+    pub before: [Option<u32>; 32],
+}
+
+fn give_and_step(part: &mut Part, hart: u8, x: &Assignment) -> Result<Step, OutOfMemory>
     requires hart { hart < length part.old.now.harts }
     requires found { IsFound hart (here part.old) (values_in x.now) }
-    ensures taken { IfOk result (λ r. IsTakenBy hart (values_in x.now) r (here part.old) (here part.new)) }
-    ensures fit { IfOk result IsFitRecord }
+    ensures taken { IfOk result (λ s. IsTakenBy hart (values_in x.now) s.record (here part.old) (here part.new)) }
+    ensures before { IfOk result (λ s. s.before ≡ registers_from (enlarged (known_at hart (here part.old)) (new_at hart (here part.old) (values_in x.now))) 0 32) }
+    ensures fit { IfOk result (λ s. IsFitRecord s.record) }
     ensures still { OnOk result (IsStill (here part.old) (here part.new)) }
     ensures kept { AreKept part.old part.new }
 {
@@ -87,22 +99,25 @@ fn give_and_step(part: &mut Part, hart: u8, x: &Assignment) -> Result<Record, Ou
     values_are_by_places();
     part.is_test();
     give(part, hart, x)?;
-    Ok(part.advance(hart)?)
+    let before = part.hart(hart).regs;
+    let record = part.advance(hart)?;
+    Ok(Step { record, before })
 }
 
 /// Starts the places of an answer and takes its step. A refusal changes nothing.
-pub fn take(part: &mut Part, hart: u8, x: &Assignment) -> Result<Record, OutOfMemory>
+pub fn take(part: &mut Part, hart: u8, x: &Assignment) -> Result<Step, OutOfMemory>
     requires hart { hart < length part.old.now.harts }
     requires found { IsFound hart (here part.old) (values_in x.now) }
-    ensures taken { IfOk result (λ r. IsTakenBy hart (values_in x.now) r (here part.old) (here part.new)) }
-    ensures fit { IfOk result IsFitRecord }
+    ensures taken { IfOk result (λ s. IsTakenBy hart (values_in x.now) s.record (here part.old) (here part.new)) }
+    ensures before { IfOk result (λ s. s.before ≡ registers_from (enlarged (known_at hart (here part.old)) (new_at hart (here part.old) (values_in x.now))) 0 32) }
+    ensures fit { IfOk result (λ s. IsFitRecord s.record) }
     ensures still { OnOk result (IsStill (here part.old) (here part.new)) }
     ensures kept { OnOk result (AreKept part.old part.new) }
     ensures refused { OnErr result (part.new ≡ part.old) }
 {
     let mark = part.mark();
     match give_and_step(part, hart, x) {
-        Ok(record) => Ok(record),
+        Ok(step) => Ok(step),
         Err(error) => {
             part.rollback(mark);
             Err(error)

@@ -103,6 +103,10 @@ here_for s p is kept = ap (λ (t : State). here t) (sym is) ∙ here_is p kept
 pub here_test : (s : State) (p : Logged) → state_in (history p) ≡ s → IsKept p → IsTest (here s)
 here_test s p is kept = subst IsTest (sym (here_for s p is kept)) (now_test _ (now_of p) kept.tests)
 
+-- the test is told by its whole
+pub told_by_whole : (s : State) (p : Logged) → state_in (history p) ≡ s → IsKept p → s.now ≡ data_of (here s)
+told_by_whole s p is kept = sym (ap (λ (t : State). t.now) is) ∙ ap data_of (sym (here_for s p is kept))
+
 -- a change
 pub changed_here : (f : Whole → Whole) (s : State) (p p' : Logged) → state_in (history p) ≡ s → IsKept p → IsKept p' → now_of p' ≡ f (now_of p) → here (state_in (history p')) ≡ f (here s)
 changed_here f s p p' is kept kept' e = here_is p' kept' ∙ e ∙ ap f (sym (here_for s p is kept))

@@ -168,10 +168,12 @@ impl Logged {
 
     /// A name's value, where it has one.
     pub fn name(&self, name: u32) -> Option<u32>
-        requires { name < length (now_of self.now).names }
         ensures { result ≡ slice_index_or (now_of self.now).names name None }
     {
-        self.machine.names[name as usize]
+        match self.machine.names.get(name as usize) {
+            Some(value) => *value,
+            None => None,
+        }
     }
 
     /// The value of a place, where it is known.

@@ -20,7 +20,7 @@ ghost use Rattle.tpl_admit.specs.WellFormed.{IsWellFormed};
 ghost use Rattle.part_state.specs.Beginning.{IsBegun};
 ghost use Rattle.part_state.specs.Told.{Tells, FitsFile};
 ghost use Rattle.rv_mem.specs.Ram.{in_ram};
-ghost use Rattle.part_state.specs.State.{tests, here};
+ghost use Rattle.part_state.specs.State.{data_of, here, tests};
 
 use crate::OutOfMemory;
 use crate::logged::Logged;
@@ -106,9 +106,8 @@ impl Part {
         self.inner.records(hart)
     }
 
-    /// A name's value, where it has one.
+    /// A name's value; None where it has none, as of a name that the template lacks.
     pub fn name(&self, name: u32) -> Option<u32>
-        requires { name < length self.now.now.names }
         ensures { result ≡ slice_index_or self.now.now.names name None }
     {
         self.inner.name(name)
@@ -126,6 +125,13 @@ impl Part {
     /// Does nothing. Its contract says what is always so: this is a test so far, in the meaning of `IsPartialTest`, with harts as the machine has them.
     pub fn is_test(&self)
         ensures { IsTest (here self.now) }
+    {
+        let _inner = &self.inner;
+    }
+
+    /// Does nothing. Its contract says that the test is told by what its whole tells.
+    pub fn is_told(&self)
+        ensures { self.now.now ≡ data_of (here self.now) }
     {
         let _inner = &self.inner;
     }

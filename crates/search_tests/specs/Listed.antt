@@ -1,11 +1,11 @@
 -- A test that is kept as the list of its changes, as wholes.
-use Rattle.std.specs.Prelude.{ℕ, ◌%◌, Bool, List, [], ◌∷◌, ◌++◌, map, nat_eq, ◌==◌, ◌&&◌, ◌||◌, if◌then◌else◌, slice_index}
+use Rattle.std.specs.Prelude.{◌≡◌, ℕ, ◌%◌, Bool, List, [], ◌∷◌, ◌++◌, map, nat_eq, ◌==◌, ◌&&◌, ◌||◌, if◌then◌else◌, slice_index}
 use Rattle.std.specs.List.{list_any}
 use Rattle.tpl_ast.specs.declared.template.Item.{Item}
 use Rattle.tpl_ast.specs.declared.template.Item.TheOpen.{Item-F}
 use Rattle.tpl_ast.specs.declared.template.Item.TheOpen as layers
 use Rattle.tpl_ast.specs.declared.template.Item.TheFolds.{fold-Item}
-use Rattle.gen_search.specs.Search.{Rules, Taken, NoneFits, Spent}
+use Rattle.gen_search.specs.Search.{Rules, Turned, Taken, NoneFits, Spent}
 use Rattle.search_tests.specs.declared.listed.Change.{Change}
 use Rattle.search_tests.specs.declared.listed.Change.TheVariants as changes
 use Rattle.search_tests.specs.declared.listed.ListedWhole.{ListedWhole}
@@ -45,11 +45,14 @@ abbrev pub fits_nothing : List ℕ → List ℕ → ℕ → List ℕ → Bool
 fits_nothing dead odd line draws = is_among dead line || (is_among odd line && nat_eq (slice_index draws 0 % 2) 1)
 
 -- a leaf's line and first draw decide, and a leaf that is taken is noted with its draws
+abbrev pub turned_by : ℕ → Item → List ℕ → ListedWhole → Turned ListedWhole
+turned_by hart leaf draws w =
+    if fits_nothing w.dead w.odd (line_of leaf) draws then NoneFits
+    else (if is_among w.large (line_of leaf) then Spent else Taken (with_change w (changes.Leaf hart (line_of leaf) draws)))
+
 abbrev pub rules_of : Rules ListedWhole
 rules_of = record {
-  turn = λ hart leaf draws w.
-      if fits_nothing w.dead w.odd (line_of leaf) draws then NoneFits
-      else (if is_among w.large (line_of leaf) then Spent else Taken (with_change w (changes.Leaf hart (line_of leaf) draws)));
+  turn = λ hart leaf draws w answer. answer ≡ turned_by hart leaf draws w;
   label = λ hart name w. with_change w (changes.Label hart name);
   way = λ n w. with_change w (changes.Way n);
 }

@@ -11,4 +11,4 @@ mod rows;
 mod searches;
 
 pub use fits::can_search;
-pub use listed::{Change, ListedTest, ListedWhole};
+pub use listed::{Change, ListedTest, ListedWhole, listed_law};

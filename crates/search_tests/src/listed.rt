@@ -1,5 +1,6 @@
 // A test that is kept as the list of its changes.
 ghost use Rattle.std.specs.Prelude.{◌≡◌, ◌++◌, [], ◌∷◌, IfOk};
+ghost use Rattle.gen_search.specs.Laws.{HasOneAnswer, HasSomeAnswer, StillAllows};
 ghost use Rattle.search_tests.specs.Listed.{earlier_of, fits_nothing, is_among, line_of, rules_of, whole_of};
 
 use gen_search::{OutOfMemory, PartialTest, Turn};
@@ -99,7 +100,7 @@ impl PartialTest for ListedTest {
 
     ghost turned = { λ s. s.turns };
 
-    ghost follows = { λ rules. rules ≡ rules_of };
+    ghost rules = { rules_of };
 
     ghost can_take = { λ whole hart item. Unit {0} };
 
@@ -139,3 +140,11 @@ impl PartialTest for ListedTest {
         Ok(())
     }
 }
+
+/// Does nothing. Its contract says that each leaf turn of a listed test has one answer, so that a search on one has one
+/// result.
+pub fn listed_law()
+    ensures still { StillAllows (λ whole hart item. Unit {0}) rules_of }
+    ensures one_answer { HasOneAnswer (λ whole hart item. Unit {0}) rules_of }
+    ensures some_answer { HasSomeAnswer (λ whole hart item. Unit {0}) rules_of }
+{}

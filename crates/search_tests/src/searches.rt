@@ -1,5 +1,5 @@
 // Searches, row by row. The draws are those of another program, written after the published code of the generator.
-use crate::listed::ListedTest;
+use crate::listed::{ListedTest, listed_law};
 use crate::rows::assert_row;
 use gen_search::{draw_laws, search_laws};
 use std::alloc::{AllocError, Global};
@@ -394,6 +394,7 @@ fn all_ways_are_tried(rt: HostRuntime) -> Result<(), Fail> {
 
 #[test]
 fn laws_hold_of_a_listed_test(_rt: HostRuntime) -> Result<(), Fail> {
+    listed_law();
     search_laws::<ListedTest>();
     draw_laws();
     Ok(())

@@ -85,7 +85,7 @@ const FEW: u64 = 32;
 const MANY: usize = 8192;
 
 /// How many are, where the windows are narrow.
-const MORE: usize = 65_536;
+const MORE: usize = 1_048_576;
 
 /// How many words narrow windows have, at most.
 const NARROW: u64 = 65_536;
@@ -120,6 +120,17 @@ fn halves(alloc: Global, set: &Set) -> Result<Vec<Span>, OutOfMemory>
     Ok(parts)
 }
 
+/// The spans of the pieces of a set, those that meet as one.
+fn merged_spans(alloc: Global, set: &Set) -> Result<Vec<Span>, OutOfMemory>
+    ensures { IfOk result (λ spans. AreCovered set.now spans.items) }
+{
+    set.element_laws();
+    let spans = set.spans(alloc)?;
+    let words = words_of(alloc, &spans)?;
+    let merged = words.spans(alloc)?;
+    Ok(merged)
+}
+
 /// Ranges around the elements: one for each where they are few, and else the spans of the set, or two at most where
 /// these are too many.
 fn parts(alloc: Global, set: &Set) -> Result<Vec<Span>, OutOfMemory>
@@ -129,7 +140,7 @@ fn parts(alloc: Global, set: &Set) -> Result<Vec<Span>, OutOfMemory>
         let parts = elements(alloc, set)?;
         return Ok(parts);
     }
-    let parts = set.spans(alloc)?;
+    let parts = merged_spans(alloc, set)?;
     if parts.len() <= MANY / 2 {
         return Ok(parts);
     }
@@ -141,7 +152,7 @@ fn parts(alloc: Global, set: &Set) -> Result<Vec<Span>, OutOfMemory>
 fn windows_of(alloc: Global, domain: &Set) -> Result<Vec<Span>, OutOfMemory>
     ensures { IfOk result (λ windows. AreCovered domain.now windows.items) }
 {
-    let windows = domain.spans(alloc)?;
+    let windows = merged_spans(alloc, domain)?;
     if windows.len() <= WINDOWS {
         return Ok(windows);
     }

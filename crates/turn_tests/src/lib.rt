@@ -9,6 +9,8 @@ mod making;
 #[cfg(test)]
 mod rows;
 #[cfg(test)]
+mod searches;
+#[cfg(test)]
 mod shown;
 #[cfg(test)]
 mod turns;

@@ -30,7 +30,7 @@ fn push_written(text: &mut String, rd: Option<(u8, u32)>) -> Result<(), AllocErr
     }
 }
 
-fn push_step(text: &mut String, did: &Record) -> Result<(), AllocError> {
+pub fn push_step(text: &mut String, did: &Record) -> Result<(), AllocError> {
     let name = letter_of(did.privilege);
     let (pc, word, next) = (did.pc, did.word, did.next_pc);
     write!(text, "step {pc:08x} {name} {word:08x}")?;

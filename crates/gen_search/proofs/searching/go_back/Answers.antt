@@ -1,14 +1,13 @@
 use Rattle.std.proofs.Common.{◌≡◌, ◌≤◌, ℕ, List, length, sym, subst, ◌∙◌, arith}
 use Rattle.std.specs.List.{slice_get}
 use Rattle.gen_search.specs.declared.choice.Choice.{Choice}
-use Rattle.gen_search.specs.Search.{walk_from}
 use Rattle.gen_search.specs.Fit.{AreFit}
 use Rattle.gen_search.specs.Places.{AreMarked, AreOpen, laid}
 use Rattle.gen_search.specs.Ready.{AllowsAll, AreChoicesReady, AreReady}
 use Rattle.gen_search.specs.Wholes.{wholes}
 use Rattle.gen_search.proofs.Kept.{dead_inside, inside_marked, inside_open, marked_le, rolled_get, rolled_length, rolled_whole}
 use Rattle.gen_search.proofs.Ready.{choice_seen, choices_inside, choices_seen}
-use Rattle.gen_search.proofs.Results.{begins_again, comes_along, same_some}
+use Rattle.gen_search.proofs.Results.{begins_again, leads_on, same_some}
 use Rattle.gen_search.proofs.searching.go_back.Goals as goal
 
 pub rollback-requires : goal.rollback-requires
@@ -32,11 +31,11 @@ pub rollback-requires-in-None : goal.rollback-requires-in-None
 rollback-requires-in-None g c = marked_le c.args.walk.now.start c.args.walk.now.choices.items (length (g.P.PartialTest.earlier c.args.part.now)) c.requires.marked
 
 pub returns-in_ok-take_way-in-Some-clause-same : goal.returns-in_ok-take_way-in-Some-clause-same
-returns-in_ok-take_way-in-Some-clause-same g c = λ rules follow turns first r is comes.
-    comes_along _ (walk_from rules turns c.args.walk.now.harts.now first) r _ _
-    (c.in_ok-take_way-in-Some.ensures.same rules follow turns
-    ∙ dead_inside _ rules turns (g.P.PartialTest.earlier c.args.part.now) (g.P.PartialTest.whole c.args.part.now) (g.P.PartialTest.earlier c.rollback.new.self) (g.P.PartialTest.whole c.rollback.new.self)
-    c.args.walk.now.choices.items c.next_open.new.choices.items c.in-Some.choice c.args.walk.now.start c.args.walk.now.tally c.in-Some.ensures.1 c.requires.choices c.requires.marked c.rollback.ensures.back)
+returns-in_ok-take_way-in-Some-clause-same g c = λ turns first r is comes.
+    leads_on g.P.PartialTest.rules turns c.args.walk.now.harts.now first _ _ r
+    (λ o goes. dead_inside g.P.PartialTest.rules turns (g.P.PartialTest.earlier c.args.part.now) (g.P.PartialTest.whole c.args.part.now) (g.P.PartialTest.earlier c.rollback.new.self) (g.P.PartialTest.whole c.rollback.new.self)
+    c.args.walk.now.choices.items c.next_open.new.choices.items c.in-Some.choice c.args.walk.now.start c.args.walk.now.tally o c.in-Some.ensures.1 c.requires.choices c.requires.marked c.rollback.ensures.back
+    (c.in_ok-take_way-in-Some.ensures.same turns o goes))
     comes
 
 pub returns-in_ok-take_way-in-Some-clause-first : goal.returns-in_ok-take_way-in-Some-clause-first
@@ -47,10 +46,10 @@ returns-in_ok-take_way-in-Some-clause-first g c =
     (marked_le c.args.walk.now.start c.next_open.new.choices.items c.in-Some.choice.mark m.0)
 
 pub returns-in_ok-walk-in-None-clause-same : goal.returns-in_ok-walk-in-None-clause-same
-returns-in_ok-walk-in-None-clause-same g c = λ rules follow turns first r is comes.
+returns-in_ok-walk-in-None-clause-same g c = λ turns first r is comes.
     let le = marked_le c.args.walk.now.start c.args.walk.now.choices.items (length (g.P.PartialTest.earlier c.args.part.now)) c.requires.marked in
     let stood = rolled_whole (g.P.PartialTest.earlier c.args.part.now) (g.P.PartialTest.whole c.args.part.now) (g.P.PartialTest.earlier c.rollback-in-None.new.self) (g.P.PartialTest.whole c.rollback-in-None.new.self) c.args.walk.now.start c.rollback-in-None.ensures.back le in
-    begins_again _ rules turns c.args.walk.now.harts.now first (g.P.PartialTest.whole c.rollback-in-None.new.self)
+    begins_again g.P.PartialTest.rules turns c.args.walk.now.harts.now first (g.P.PartialTest.whole c.rollback-in-None.new.self)
     (wholes (g.P.PartialTest.earlier c.args.part.now) (g.P.PartialTest.whole c.args.part.now)) (wholes (g.P.PartialTest.earlier c.rollback-in-None.new.self) (g.P.PartialTest.whole c.rollback-in-None.new.self))
     c.args.walk.now.choices.items c.next_open.new.choices.items c.args.walk.now.start c.args.walk.now.tally (laid c.in_ok-walk-in-None.field-0) r
     c.requires.choices c.in-None.ensures.0 c.in-None.ensures.1 c.in_ok-walk-in-None.ensures.laid is stood comes

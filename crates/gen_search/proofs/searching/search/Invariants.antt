@@ -1,15 +1,15 @@
 use Rattle.std.proofs.Common.{◌≡◌, ◌≤◌, ◌+◌, ◌-◌, length, Some}
 use Rattle.std.specs.List.{slice_get}
-use Rattle.gen_search.specs.Search.{ComesTo, Rules, SearchResult, fresh, walk_from}
-use Rattle.gen_search.specs.Walks.{IsWell, ahead}
+use Rattle.gen_search.specs.Search.{SearchResult, Searches}
+use Rattle.gen_search.specs.Walks.{Ahead, IsWell, Leads}
 use Rattle.gen_search.specs.Ready.{IsReady}
 use Rattle.gen_search.specs.Wholes.{wholes}
 use Rattle.gen_search.proofs.searching.search.Given as goal
 
 abbrev pub invariant-loop-walk : goal.invariant-loop-walk
 invariant-loop-walk g l = record {
-  same : (rules : Rules g.row.P-Whole.Denot) → g.P.PartialTest.follows rules → (r : SearchResult g.row.P-Whole.Denot) → ComesTo g.row.P-Whole.Denot (walk_from rules l.turns l.fn.harts (g.P.PartialTest.whole l.fn.part)) (ahead rules l.turns (wholes (g.P.PartialTest.earlier l.part) (g.P.PartialTest.whole l.part)) (g.P.PartialTest.whole l.part) l.walk) r
-      → ComesTo g.row.P-Whole.Denot (walk_from rules l.turns l.fn.harts (g.P.PartialTest.whole l.fn.part)) (walk_from rules l.turns l.fn.harts (g.P.PartialTest.whole l.fn.part) (fresh l.seed)) r;
+  same : (r : SearchResult g.row.P-Whole.Denot) → Leads g.P.PartialTest.rules l.turns l.fn.harts (g.P.PartialTest.whole l.fn.part) (Ahead g.P.PartialTest.rules l.turns (wholes (g.P.PartialTest.earlier l.part) (g.P.PartialTest.whole l.part)) (g.P.PartialTest.whole l.part) l.walk) r
+      → Searches g.P.PartialTest.rules l.fn.harts l.seed l.turns (g.P.PartialTest.whole l.fn.part) r;
   well : IsWell (length (g.P.PartialTest.earlier l.part)) l.walk;
   ready : IsReady g.P.PartialTest.can_take (g.P.PartialTest.whole l.fn.part) (wholes (g.P.PartialTest.earlier l.part) (g.P.PartialTest.whole l.part)) (g.P.PartialTest.whole l.part) l.walk;
   counted : l.walk.tally.none_fits + l.walk.tally.spent ≤ l.walk.tally.turns;

@@ -4,10 +4,10 @@ use Rattle.std.specs.Global.{Global}
 use Rattle.std.specs.List.{slice_get}
 use Rattle.gen_search.specs.declared.choice.Choice.{Choice}
 use Rattle.tpl_ast.specs.declared.template.Item.{Item}
-use Rattle.gen_search.specs.Search.{of_hart}
+use Rattle.gen_search.specs.Search.{copies, of_hart}
 use Rattle.tpl_ast.specs.Choices.{all_true, is_fit}
 use Rattle.gen_search.specs.Steps.{longest_steps, steps_of_body}
-use Rattle.gen_search.specs.Places.{AreMarked, AreOpen, IsOpen, copies, laid, steps_left, untried}
+use Rattle.gen_search.specs.Places.{AreMarked, AreOpen, IsOpen, laid, steps_left, untried}
 use Rattle.gen_search.specs.Ready.{AreAllowed, AreChoicesReady, parts_of_body}
 use Rattle.gen_search.specs.Wholes.{wholes}
 use Rattle.gen_search.proofs.Blocks.{way_steps}
@@ -19,7 +19,7 @@ use Rattle.gen_search.proofs.Ways.{next_untried, same_laid, same_steps, tried_on
 use Rattle.gen_search.proofs.searching.take_way.Goals as goal
 
 pub returns-clause-same : goal.returns-clause-same
-returns-clause-same g c = λ rules follow turns.
+returns-clause-same g c = λ turns o.
     let k : ℕ = c.cyclic_way-way.result in
     let d : ℕ × Vec Item Global = c.index-choice-way.result in
     let old = wholes (g.P.PartialTest.earlier c.args.part.now) (g.P.PartialTest.whole c.args.part.now) in
@@ -32,8 +32,8 @@ returns-clause-same g c = λ rules follow turns.
     let items : c.deref.result.now ≡ d.1.items = c.deref.ensures.value ∙ ap (λ (w : ℕ × Vec Item Global). w.1.items) (sym c.index-choice-way.is) in
     let entered : laid c.enter.new.self ≡ copies 1 (of_hart c.args.choice.place.hart d.1.items) ++ laid c.args.choice.place =
     c.in_ok-enter.ensures.laid ∙ (λ i. copies 1 (of_hart (c.in_ok-walk.ensures.hart i) (items i)) ++ place i) in
-    way_taken _ rules turns old new (g.P.PartialTest.whole c.args.part.now) (g.P.PartialTest.whole c.take_choice.new.self) c.args.walk.now.choices.items c.open_choice.new.others.items c.args.choice k d.1 (laid c.enter.new.self) c.args.walk.now.start c.args.walk.now.tally
-    c.in_ok-take_choice.ensures.kept (omega (arith, c.requires.stands, long)) c.requires.marked stands (c.in_ok-take_choice.ensures.whole rules follow) c.in_ok-open_choice.ensures left entered
+    way_taken g.P.PartialTest.rules turns old new (g.P.PartialTest.whole c.args.part.now) (g.P.PartialTest.whole c.take_choice.new.self) c.args.walk.now.choices.items c.open_choice.new.others.items c.args.choice k d.1 (laid c.enter.new.self) c.args.walk.now.start c.args.walk.now.tally o
+    c.in_ok-take_choice.ensures.kept (omega (arith, c.requires.stands, long)) c.requires.marked stands c.in_ok-take_choice.ensures.whole c.in_ok-open_choice.ensures left entered
 
 pub returns-clause-well : goal.returns-clause-well
 returns-clause-well g c =

@@ -1,14 +1,14 @@
 use Rattle.std.proofs.Common.{◌≡◌, ℕ, ◌+◌, ◌<◌, ◌≤◌, ◌^◌, List, [], ◌∷◌, length, sym, ap, subst, ◌∙◌, arith}
 use Rattle.tpl_ast.specs.declared.template.Item.{Item}
-use Rattle.gen_search.specs.Search.{rest_of}
+use Rattle.gen_search.specs.Search.{Finished, Walks, finished}
 use Rattle.std.specs.List.{slice_get}
 use Rattle.tpl_ast.specs.Choices.{are_ways_fit, can_pick}
 use Rattle.gen_search.specs.Steps.{longest_steps, steps_of}
-use Rattle.gen_search.specs.Places.{laid, steps_left, unwound}
+use Rattle.gen_search.specs.Places.{laid, steps_left}
 use Rattle.gen_search.specs.Walks.{with_draws}
 use Rattle.gen_search.specs.Wholes.{wholes}
-use Rattle.gen_search.proofs.Items.{choice_steps, choose_entered, choose_rest, inside, label_rest, next_fit, repeat_entered, repeat_rest, seq_entered, seq_rest}
-use Rattle.gen_search.proofs.Kept.{get_kept, kept_longer, marked_le, marked_up, unwound_finished, unwound_kept, wholes_length}
+use Rattle.gen_search.proofs.Items.{choice_steps, choose_entered, choose_walks, is_a_fault, is_a_leaf, label_walks, next_fit, repeat_entered, repeat_walks, seq_entered, seq_walks}
+use Rattle.gen_search.proofs.Kept.{back_kept, get_kept, inside_finished, inside_more, kept_longer, marked_le, marked_up, wholes_length}
 use Rattle.gen_search.proofs.Ready.{choose_ready, label_ready, next_ready, repeat_ready, seq_ready, turned_back}
 use Rattle.gen_search.proofs.searching.to_leaf.Goals as goal
 
@@ -17,10 +17,11 @@ loop-item-preserved-in-Continue-branch-3 g c =
     let next : laid c.loop-item.walk.place ≡ (c.next_item.new.self.hart, c.in-Some.item.now) ∷ laid c.next_item.new.self = rw c.in-Some.is at c.in_ok-item.ensures.item in
     let known = c.loop-item.invariant in
     record {
-      same = λ rules follow turns.
-          known.same rules follow turns
-          ∙ inside _ rules turns (wholes (g.P.PartialTest.earlier c.loop-item.part) (g.P.PartialTest.whole c.loop-item.part)) c.loop-item.walk.choices.items (g.P.PartialTest.whole c.loop-item.part) c.loop-item.walk.tally _ _
-          (seq_rest _ rules turns c.next_item.new.self.hart c.in-Some.item.now c.in-Seq.body c.deref.result.now (laid c.loop-item.walk.place) (laid c.next_item.new.self) (laid c.enter.new.self) next c.in-Seq.is c.deref.ensures.value c.in_ok-enter-in-Seq.ensures.laid);
+      same = λ turns o goes.
+          known.same turns o
+          (inside_more g.P.PartialTest.rules turns (wholes (g.P.PartialTest.earlier c.loop-item.part) (g.P.PartialTest.whole c.loop-item.part)) c.loop-item.walk.choices.items _ _
+          (λ p walks. seq_walks g.P.PartialTest.rules turns c.next_item.new.self.hart c.in-Some.item.now c.in-Seq.body c.deref.result.now (laid c.loop-item.walk.place) (laid c.next_item.new.self) (laid c.enter.new.self) (g.P.PartialTest.whole c.loop-item.part) c.loop-item.walk.tally p next c.in-Seq.is c.deref.ensures.value c.in_ok-enter-in-Seq.ensures.laid walks)
+          o goes);
       well = record {
         fit = seq_entered c.next_item.new.self.hart c.in-Some.item.now c.in-Seq.body c.deref.result.now (laid c.loop-item.walk.place) (laid c.next_item.new.self) (laid c.enter.new.self) next c.in-Seq.is c.deref.ensures.value c.in_ok-enter-in-Seq.ensures.laid known.well.fit;
         counted = subst (λ (n : ℕ). n < 2 ^ 32) (sym (λ i. c.in_ok-enter-in-Seq.ensures.hart i + length (c.in_ok-enter-in-Seq.ensures.later i).now)) c.in_ok-item.ensures.counted;
@@ -46,10 +47,11 @@ loop-item-preserved-in-Continue-branch-4 g c =
     let next : laid c.loop-item.walk.place ≡ (c.next_item.new.self.hart, c.in-Some.item.now) ∷ laid c.next_item.new.self = rw c.in-Some.is at c.in_ok-item.ensures.item in
     let known = c.loop-item.invariant in
     record {
-      same = λ rules follow turns.
-          known.same rules follow turns
-          ∙ inside _ rules turns (wholes (g.P.PartialTest.earlier c.loop-item.part) (g.P.PartialTest.whole c.loop-item.part)) c.loop-item.walk.choices.items (g.P.PartialTest.whole c.loop-item.part) c.loop-item.walk.tally _ _
-          (repeat_rest _ rules turns c.next_item.new.self.hart c.in-Repeat.times c.in-Some.item.now c.in-Repeat.body c.deref-in-Repeat.result.now (laid c.loop-item.walk.place) (laid c.next_item.new.self) (laid c.enter-in-Repeat.new.self) next c.in-Repeat.is c.deref-in-Repeat.ensures.value c.in_ok-enter-in-Repeat.ensures.laid);
+      same = λ turns o goes.
+          known.same turns o
+          (inside_more g.P.PartialTest.rules turns (wholes (g.P.PartialTest.earlier c.loop-item.part) (g.P.PartialTest.whole c.loop-item.part)) c.loop-item.walk.choices.items _ _
+          (λ p walks. repeat_walks g.P.PartialTest.rules turns c.next_item.new.self.hart c.in-Repeat.times c.in-Some.item.now c.in-Repeat.body c.deref-in-Repeat.result.now (laid c.loop-item.walk.place) (laid c.next_item.new.self) (laid c.enter-in-Repeat.new.self) (g.P.PartialTest.whole c.loop-item.part) c.loop-item.walk.tally p next c.in-Repeat.is c.deref-in-Repeat.ensures.value c.in_ok-enter-in-Repeat.ensures.laid walks)
+          o goes);
       well = record {
         fit = repeat_entered c.next_item.new.self.hart c.in-Repeat.times c.in-Some.item.now c.in-Repeat.body c.deref-in-Repeat.result.now (laid c.loop-item.walk.place) (laid c.next_item.new.self) (laid c.enter-in-Repeat.new.self) next c.in-Repeat.is c.deref-in-Repeat.ensures.value c.in_ok-enter-in-Repeat.ensures.laid known.well.fit;
         counted = subst (λ (n : ℕ). n < 2 ^ 32) (sym (λ i. c.in_ok-enter-in-Repeat.ensures.hart i + length (c.in_ok-enter-in-Repeat.ensures.later i).now)) c.in_ok-item.ensures.counted;
@@ -94,11 +96,11 @@ loop-item-preserved-in-Continue-branch-5 g c =
     let next : laid c.loop-item.walk.place ≡ (c.next_item.new.self.hart, c.in-Some.item.now) ∷ laid c.next_item.new.self = rw c.in-Some.is at c.in_ok-item.ensures.item in
     let known = c.loop-item.invariant in
     record {
-      same = λ rules follow turns.
-          known.same rules follow turns
-          ∙ inside _ rules turns (wholes (g.P.PartialTest.earlier c.loop-item.part) (g.P.PartialTest.whole c.loop-item.part)) c.loop-item.walk.choices.items (g.P.PartialTest.whole c.loop-item.part) c.loop-item.walk.tally _ _
-          (choose_rest _ rules turns c.next_item.new.self.hart c.in-Choose.line c.in-Some.item.now c.in-Choose.ways c.deref-in-Choose.result.now (laid c.loop-item.walk.place) (laid c.next_item.new.self) next c.in-Choose.is c.deref-in-Choose.ensures.value)
-          ∙ sym (c.in_ok-choose-in-Choose.ensures.same rules follow turns);
+      same = λ turns o goes.
+          known.same turns o
+          (inside_more g.P.PartialTest.rules turns (wholes (g.P.PartialTest.earlier c.loop-item.part) (g.P.PartialTest.whole c.loop-item.part)) c.loop-item.walk.choices.items _ _
+          (λ p tries. choose_walks g.P.PartialTest.rules turns c.next_item.new.self.hart c.in-Choose.line c.in-Some.item.now c.in-Choose.ways c.deref-in-Choose.result.now (laid c.loop-item.walk.place) (laid c.next_item.new.self) (g.P.PartialTest.whole c.loop-item.part) c.loop-item.walk.tally p next c.in-Choose.is c.deref-in-Choose.ensures.value tries)
+          o (c.in_ok-choose-in-Choose.ensures.same turns o goes));
       well = c.in_ok-choose-in-Choose.ensures.well;
       ready = λ first start.
           let before = known.ready first start in
@@ -130,12 +132,12 @@ loop-item-preserved g c =
     let more = kept_longer (g.P.PartialTest.earlier c.loop-item.part) (g.P.PartialTest.whole c.loop-item.part) (g.P.PartialTest.earlier c.bind_label.new.self) (g.P.PartialTest.whole c.bind_label.new.self) c.in_ok-bind_label-in-Label.ensures.kept in
     let low : c.loop-item.walk.start ≤ length (g.P.PartialTest.earlier c.loop-item.part) = marked_le c.loop-item.walk.start c.loop-item.walk.choices.items (length (g.P.PartialTest.earlier c.loop-item.part)) known.well.marked in
     record {
-      same = λ rules follow turns.
-          known.same rules follow turns
-          ∙ ap (unwound rules turns old c.loop-item.walk.choices.items)
-          (label_rest _ rules turns c.next_item.new.self.hart c.in-Label.name c.in-Some.item.now (laid c.loop-item.walk.place) (laid c.next_item.new.self) (g.P.PartialTest.whole c.loop-item.part) (g.P.PartialTest.whole c.bind_label.new.self) c.loop-item.walk.tally next c.in-Label.is (c.in_ok-bind_label-in-Label.ensures.whole rules follow))
-          ∙ sym (unwound_kept _ rules turns old new c.loop-item.walk.start c.loop-item.walk.choices.items (length (g.P.PartialTest.earlier c.loop-item.part))
-          (rest_of rules turns (laid c.next_item.new.self) (g.P.PartialTest.whole c.bind_label.new.self) c.loop-item.walk.tally) c.in_ok-bind_label-in-Label.ensures.kept within known.well.marked);
+      same = λ turns o goes.
+          known.same turns o
+          (inside_more g.P.PartialTest.rules turns old c.loop-item.walk.choices.items _ _
+          (λ p walks. label_walks g.P.PartialTest.rules turns c.next_item.new.self.hart c.in-Label.name c.in-Some.item.now (laid c.loop-item.walk.place) (laid c.next_item.new.self) (g.P.PartialTest.whole c.loop-item.part) (g.P.PartialTest.whole c.bind_label.new.self) c.loop-item.walk.tally p next c.in-Label.is c.in_ok-bind_label-in-Label.ensures.whole walks)
+          o
+          (back_kept g.P.PartialTest.rules turns old new c.loop-item.walk.start c.loop-item.walk.choices.items (length (g.P.PartialTest.earlier c.loop-item.part)) _ o c.in_ok-bind_label-in-Label.ensures.kept within known.well.marked goes));
       well = record {
         fit = (next_fit c.next_item.new.self.hart c.in-Some.item.now (laid c.loop-item.walk.place) (laid c.next_item.new.self) next known.well.fit).1;
         counted = c.in_ok-item.ensures.counted;
@@ -160,11 +162,11 @@ loop-item-preserved g c =
     }
 
 pub returns-clause-done : goal.returns-clause-done
-returns-clause-done g c = λ rules follow turns.
+returns-clause-done g c = λ turns.
     let none : laid c.loop-item.walk.place ≡ [] = rw c.in_default.is at c.in_ok-item.ensures.item in
-    c.loop-item.invariant.same rules follow turns
-    ∙ ap (λ (todo : List (ℕ × Item)). unwound rules turns (wholes (g.P.PartialTest.earlier c.loop-item.part) (g.P.PartialTest.whole c.loop-item.part)) c.loop-item.walk.choices.items (rest_of rules turns todo (g.P.PartialTest.whole c.loop-item.part) c.loop-item.walk.tally)) none
-    ∙ unwound_finished _ rules turns (wholes (g.P.PartialTest.earlier c.loop-item.part) (g.P.PartialTest.whole c.loop-item.part)) c.loop-item.walk.choices.items (g.P.PartialTest.whole c.loop-item.part) c.loop-item.walk.tally
+    c.loop-item.invariant.same turns (Finished (g.P.PartialTest.whole c.loop-item.part) c.loop-item.walk.tally)
+    (inside_finished g.P.PartialTest.rules turns (wholes (g.P.PartialTest.earlier c.loop-item.part) (g.P.PartialTest.whole c.loop-item.part)) c.loop-item.walk.choices.items _ (g.P.PartialTest.whole c.loop-item.part) c.loop-item.walk.tally
+    (subst (λ (todo : List (ℕ × Item)). Walks g.P.PartialTest.rules turns todo (g.P.PartialTest.whole c.loop-item.part) c.loop-item.walk.tally (Finished (g.P.PartialTest.whole c.loop-item.part) c.loop-item.walk.tally)) (sym none) finished))
 
 pub bind_label-requires : goal.bind_label-requires
 bind_label-requires g c =
@@ -172,3 +174,9 @@ bind_label-requires g c =
     let first = c.requires.ready.0 in
     let before = c.loop-item.invariant.ready first c.requires.ready.1 in
     before.whole c.next_item.new.self.hart _ (label_ready (g.P.PartialTest.can_take first) c.next_item.new.self.hart c.in-Label.name c.in-Some.item.now (laid c.loop-item.walk.place) (laid c.next_item.new.self) next c.in-Label.is before.place)
+
+pub returns-in-Leaf-clause-leaf : goal.returns-in-Leaf-clause-leaf
+returns-in-Leaf-clause-leaf g c = is_a_leaf c.in-Leaf.line c.in-Some.item.now c.in-Leaf.wishes c.in-Leaf.is
+
+pub returns-in-FetchFault-clause-leaf : goal.returns-in-FetchFault-clause-leaf
+returns-in-FetchFault-clause-leaf g c = is_a_fault c.in-FetchFault.line c.in-Some.item.now c.in-FetchFault.causes c.in-FetchFault.is

@@ -1,16 +1,16 @@
 use Rattle.std.proofs.Common.{◌≡◌, ℕ, length}
 use Rattle.std.specs.List.{slice_get}
 use Rattle.gen_search.specs.Places.{steps_left}
-use Rattle.gen_search.specs.Search.{Rules}
-use Rattle.gen_search.specs.Walks.{IsWell, ahead, with_draws}
+use Rattle.gen_search.specs.Search.{Outcome}
+use Rattle.gen_search.specs.Walks.{Ahead, IsWell, with_draws}
 use Rattle.gen_search.specs.Ready.{IsReady}
 use Rattle.gen_search.specs.Wholes.{wholes}
 use Rattle.gen_search.proofs.searching.to_leaf.Given as goal
 
 abbrev pub invariant-loop-item : goal.invariant-loop-item
 invariant-loop-item g l = record {
-  same : (rules : Rules g.row.P-Whole.Denot) → g.P.PartialTest.follows rules → (turns : ℕ) → ahead rules turns (wholes (g.P.PartialTest.earlier l.fn.part) (g.P.PartialTest.whole l.fn.part)) (g.P.PartialTest.whole l.fn.part) l.fn.walk
-      ≡ ahead rules turns (wholes (g.P.PartialTest.earlier l.part) (g.P.PartialTest.whole l.part)) (g.P.PartialTest.whole l.part) l.walk;
+  same : (turns : ℕ) (o : Outcome g.row.P-Whole.Denot) → Ahead g.P.PartialTest.rules turns (wholes (g.P.PartialTest.earlier l.part) (g.P.PartialTest.whole l.part)) (g.P.PartialTest.whole l.part) l.walk o
+      → Ahead g.P.PartialTest.rules turns (wholes (g.P.PartialTest.earlier l.fn.part) (g.P.PartialTest.whole l.fn.part)) (g.P.PartialTest.whole l.fn.part) l.fn.walk o;
   well : IsWell (length (g.P.PartialTest.earlier l.part)) l.walk;
   ready : (first : g.row.P-Whole.Denot) → IsReady g.P.PartialTest.can_take first (wholes (g.P.PartialTest.earlier l.fn.part) (g.P.PartialTest.whole l.fn.part)) (g.P.PartialTest.whole l.fn.part) l.fn.walk
       → IsReady g.P.PartialTest.can_take first (wholes (g.P.PartialTest.earlier l.part) (g.P.PartialTest.whole l.part)) (g.P.PartialTest.whole l.part) l.walk;

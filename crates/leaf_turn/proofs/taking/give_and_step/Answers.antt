@@ -1,6 +1,8 @@
+use Rattle.std.proofs.Common.{ap}
+use Rattle.part_machine.specs.Whole.{Bare}
 use Rattle.part_state.specs.State.{here}
 use Rattle.leaf_link.specs.Answers.{values_in}
-use Rattle.leaf_turn.proofs.Giving.{ready, still, taken_by}
+use Rattle.leaf_turn.proofs.Giving.{ready, registers_before, still, taken_by}
 use Rattle.leaf_turn.proofs.Keeping.{kept_more}
 use Rattle.leaf_turn.proofs.taking.give_and_step.Goals as goal
 
@@ -12,14 +14,19 @@ advance-requires-clause-clear c = (ready c.args.hart (values_in c.args.x.now) (h
 
 pub returns-clause-taken : goal.returns-clause-taken
 returns-clause-taken c =
-    taken_by c.args.hart (values_in c.args.x.now) c.in_ok-advance.field-0 (here c.args.part.now) (here c.give.new.part) (here c.advance.new.self) c.candidates_are_steps.ensures c.given_places_are_known.ensures.fixed c.is_test.ensures
-    c.requires.hart c.requires.found c.in_ok-give.ensures.given c.in_ok-advance.ensures.now c.in_ok-advance.ensures.record
+    taken_by c.args.hart (values_in c.args.x.now) c.in_ok-record.record (here c.args.part.now) (here c.give.new.part) (here c.advance.new.self) c.candidates_are_steps.ensures c.given_places_are_known.ensures.fixed c.is_test.ensures
+    c.requires.hart c.requires.found c.in_ok-give.ensures.given c.in_ok-record.ensures.now c.in_ok-record.ensures.record
+
+pub returns-clause-before : goal.returns-clause-before
+returns-clause-before c =
+    registers_before c.args.hart (values_in c.args.x.now) (here c.args.part.now) (here c.give.new.part) _ c.given_places_are_known.ensures.known c.given_places_are_known.ensures.tests c.given_places_are_known.ensures.others
+    c.is_test.ensures c.requires.hart c.in_ok-give.ensures.given (ap (λ (b : Bare). b.regs) c.hart.ensures)
 
 pub returns-clause-kept : goal.returns-clause-kept
-returns-clause-kept c = kept_more c.args.part.now c.give.new.part c.advance.new.self c.in_ok-give.ensures.kept c.in_ok-advance.ensures.earlier
+returns-clause-kept c = kept_more c.args.part.now c.give.new.part c.advance.new.self c.in_ok-give.ensures.kept c.in_ok-record.ensures.earlier
 
 pub returns-clause-still : goal.returns-clause-still
 returns-clause-still c =
-    still c.args.hart (values_in c.args.x.now) c.in_ok-advance.field-0 (here c.args.part.now) (here c.advance.new.self) c.given_places_are_known.ensures.others c.values_are_by_places.ensures.control c.requires.found
-    (taken_by c.args.hart (values_in c.args.x.now) c.in_ok-advance.field-0 (here c.args.part.now) (here c.give.new.part) (here c.advance.new.self) c.candidates_are_steps.ensures c.given_places_are_known.ensures.fixed c.is_test.ensures
-    c.requires.hart c.requires.found c.in_ok-give.ensures.given c.in_ok-advance.ensures.now c.in_ok-advance.ensures.record)
+    still c.args.hart (values_in c.args.x.now) c.in_ok-record.record (here c.args.part.now) (here c.advance.new.self) c.given_places_are_known.ensures.others c.values_are_by_places.ensures.control c.requires.found
+    (taken_by c.args.hart (values_in c.args.x.now) c.in_ok-record.record (here c.args.part.now) (here c.give.new.part) (here c.advance.new.self) c.candidates_are_steps.ensures c.given_places_are_known.ensures.fixed c.is_test.ensures
+    c.requires.hart c.requires.found c.in_ok-give.ensures.given c.in_ok-record.ensures.now c.in_ok-record.ensures.record)

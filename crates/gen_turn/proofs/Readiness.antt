@@ -1,0 +1,158 @@
+-- The leaves and labels of a template that is built can be taken on the test that begins as it says.
+use Rattle.std.proofs.Common.{◌≡◌, ℕ, suc, ◌+◌, ◌<◌, ◌≤◌, ◌^◌, ◌&&◌, ◌==◌, Bool, true, List, [], ◌∷◌, ◌++◌, length, map, leb, ltb, None, refl, sym, ap, ◌∙◌, subst, arith}
+use Rattle.std.specs.Prelude.{Vec, slice_index_or}
+use Rattle.std.specs.Global.{Global}
+use Rattle.std.specs.List.{AllByRecursion, list_all}
+use Rattle.std.proofs.lemmas.Bool.{and_parts, eqb-true, leb-true, ltb-true}
+use Rattle.std.proofs.lemmas.List.{length-replicate}
+use Rattle.tpl_ast.specs.declared.template.Atom.{Atom}
+use Rattle.tpl_ast.specs.declared.template.HartDecl.{HartDecl}
+use Rattle.tpl_ast.specs.declared.template.Item.{Item}
+use Rattle.tpl_ast.specs.declared.template.Item.TheFolds.{fold-roll-Item, ind-Item, map-Item}
+use Rattle.tpl_ast.specs.declared.template.Item.TheOpen.{Item-F}
+use Rattle.tpl_ast.specs.declared.template.Item.TheOpen as layers
+use Rattle.tpl_ast.specs.declared.template.Item.TheViews.{roll-Item}
+use Rattle.tpl_ast.specs.declared.template.Item.TheViews as views
+use Rattle.tpl_ast.specs.declared.template.Item.TheVariants as variants
+use Rattle.tpl_ast.specs.declared.template.Template.{Template}
+use Rattle.tpl_ast.specs.declared.template.Wish.{Wish}
+use Rattle.tpl_ast.specs.Choices.{all_true, all_ways, weight_of}
+use Rattle.tpl_ast.specs.Leaves.{IsPlain, atoms_of, is_leaf, is_name_below, is_plain}
+use Rattle.tpl_ast.specs.Limits.{most_atoms}
+use Rattle.tpl_ast.specs.Templates.{IsBody, KeepsLimits, are_weights, stands, stands_in}
+use Rattle.tpl_ast.proofs.Proved.{Proved, items_back, items_of, proved}
+use Rattle.tpl_ast.specs.declared.template.HartState.{HartState}
+use Rattle.tpl_ast.specs.Laws.{LeavesAreKnown, TemplatesKeepLimits}
+use Rattle.rv_hart.specs.Fixed.{Fixed}
+use Rattle.part_machine.specs.Whole.{Whole}
+use Rattle.part_state.specs.Beginning.{IsBegun, start_in}
+use Rattle.tpl_admit.specs.Starts.{no_state}
+use Rattle.gen_search.specs.Ready.{AreAllowed, AreReady, BodiesAreReady, joined, joined_ways, parts_in, parts_of}
+use Rattle.gen_search.specs.Search.{all_items, of_hart}
+use Rattle.leaf_turn.specs.Built.{are_built}
+use Rattle.gen_turn.specs.Built.{BuiltTemplatesAreReady, are_harts_built, are_ways_built, built_in, is_item_built}
+use Rattle.gen_turn.specs.Drafts.{Drafted, drafted}
+use Rattle.gen_turn.specs.Grounds.{CanTake, IsBuilt, IsGround}
+
+-- ---- a choice
+
+ways_are : (g : ℕ × Vec Item Global → ℕ × Vec Bool Global) → ((w : ℕ × Vec Item Global) → (g w).1.items ≡ map is_item_built w.1.items) → (ws : List (ℕ × Vec Item Global)) → all_ways (map g ws) ≡ are_ways_built ws
+ways_are g inner [] = refl
+ways_are g inner (w ∷ ws) = λ i. all_true (inner w i) && ways_are g inner ws i
+
+pub choose_built : (line : ℕ) (ways : Vec (ℕ × Vec Item Global) Global) → is_item_built (views.Choose line ways) ≡ are_ways_built ways.items
+choose_built line ways = ap is_item_built (sym (variants.rolls-Choose line ways)) ∙ fold-roll-Item Bool built_in (layers.Choose line ways) ∙ ways_are _ (λ w. refl) ways.items
+
+-- ---- one item
+
+allowed_append : (can : ℕ → Item → Type 0) (k : ℕ) (xs ys : List Item) → AreAllowed can k xs → AreAllowed can k ys → AreAllowed can k (xs ++ ys)
+allowed_append can k [] ys a b = b
+allowed_append can k (x ∷ xs) ys a b = (a.0, allowed_append can k xs ys a.1 b)
+
+module _ (can : ℕ → Item → Type 0) (k n : ℕ)
+    (leaf_can : (line : ℕ) (ws : Vec Wish Global) → is_leaf n ws.items ≡ true → are_built ws.items ≡ true → can k (variants.Leaf line ws))
+    (label_can : (name : ℕ) → name < n → can k (variants.Label name)) where
+  abbrev Ready : Item → Type 0
+  Ready i = stands n i ≡ true → is_item_built i ≡ true → AreAllowed can k (parts_of i)
+
+  items_ready : (es : List (Proved Ready)) → all_true (map (stands n) (items_of es)) ≡ true → all_true (map is_item_built (items_of es)) ≡ true → AreAllowed can k (joined (map parts_of (items_of es)))
+  items_ready [] h b = tt
+  items_ready (e ∷ es) h b =
+      let stand = and_parts _ _ h in
+      let built = and_parts _ _ b in
+      allowed_append can k (parts_of e.0) (joined (map parts_of (items_of es))) (e.1 stand.0 built.0) (items_ready es stand.1 built.1)
+
+  ways_ready : (f g : ℕ × Vec Item Global → ℕ × Vec Bool Global) (p : ℕ × Vec Item Global → ℕ × Vec (List Item) Global) (h : ℕ × Vec (Proved Ready) Global → ℕ × Vec Item Global)
+      → ((v : ℕ × Vec Item Global) → (f v).1.items ≡ map (stands n) v.1.items) → ((v : ℕ × Vec Item Global) → (g v).1.items ≡ map is_item_built v.1.items) → ((v : ℕ × Vec Item Global) → (p v).1.items ≡ map parts_of v.1.items)
+      → ((w : ℕ × Vec (Proved Ready) Global) → (h w).1.items ≡ items_of w.1.items)
+      → (ws : List (ℕ × Vec (Proved Ready) Global)) → all_ways (map f (map h ws)) ≡ true → all_ways (map g (map h ws)) ≡ true → AreAllowed can k (joined_ways (map p (map h ws)))
+  ways_ready f g p h fs gs ps hs [] stand built = tt
+  ways_ready f g p h fs gs ps hs (w ∷ ws) stand built =
+      let a = and_parts _ _ stand in
+      let b = and_parts _ _ built in
+      let own = items_ready w.1.items
+      (sym (ap all_true (fs (h w) ∙ ap (map (stands n)) (hs w))) ∙ a.0)
+      (sym (ap all_true (gs (h w) ∙ ap (map is_item_built) (hs w))) ∙ b.0) in
+      allowed_append can k (joined (p (h w)).1.items) (joined_ways (map p (map h ws)))
+      (subst (λ (xs : List (List Item)). AreAllowed can k (joined xs)) (sym (ps (h w) ∙ ap (map parts_of) (hs w))) own)
+      (ways_ready f g p h fs gs ps hs ws a.1 b.1)
+
+  choice_ready : (f g : ℕ × Vec Item Global → ℕ × Vec Bool Global) (p : ℕ × Vec Item Global → ℕ × Vec (List Item) Global) (h : ℕ × Vec (Proved Ready) Global → ℕ × Vec Item Global)
+      → ((v : ℕ × Vec Item Global) → (f v).1.items ≡ map (stands n) v.1.items) → ((v : ℕ × Vec Item Global) → (g v).1.items ≡ map is_item_built v.1.items) → ((v : ℕ × Vec Item Global) → (p v).1.items ≡ map parts_of v.1.items)
+      → ((w : ℕ × Vec (Proved Ready) Global) → (h w).1.items ≡ items_of w.1.items)
+      → (ws : List (ℕ × Vec (Proved Ready) Global))
+      → leb 1 (weight_of (map f (map h ws))) && (leb (length (map f (map h ws))) 64 && (are_weights (map f (map h ws)) && all_ways (map f (map h ws)))) ≡ true
+      → all_ways (map g (map h ws)) ≡ true → AreAllowed can k (joined_ways (map p (map h ws)))
+  choice_ready f g p h fs gs ps hs ws stand built =
+      let some = and_parts (leb 1 (weight_of (map f (map h ws)))) _ stand in
+      let few = and_parts (leb (length (map f (map h ws))) 64) _ some.1 in
+      ways_ready f g p h fs gs ps hs ws (and_parts (are_weights (map f (map h ws))) _ few.1).1 built
+
+  ready_by : (z : Item-F Item) → (stands_in n (map-Item _ _ (stands n) z) ≡ true → built_in (map-Item _ _ is_item_built z) ≡ true → AreAllowed can k (parts_in (map-Item _ _ parts_of z))) → Ready (roll-Item z)
+  ready_by z same h b = subst (AreAllowed can k) (sym (fold-roll-Item (List Item) parts_in z)) (same (sym (fold-roll-Item Bool (stands_in n) z) ∙ h) (sym (fold-roll-Item Bool built_in z) ∙ b))
+
+  ready_step : (x : Item-F Item) (y : Item-F (Proved Ready)) → map-Item _ _ (λ e. e.0) y ≡ x → Ready (roll-Item x)
+  ready_step x (layers.Leaf line wishes) is = subst (λ (z : Item-F Item). Ready (roll-Item z)) is (ready_by (layers.Leaf line wishes) (λ h b. (leaf_can line wishes h b, tt)))
+  ready_step x (layers.FetchFault line causes) is = subst (λ (z : Item-F Item). Ready (roll-Item z)) is (ready_by (layers.FetchFault line causes) (λ h b. absurd (cc b)))
+  ready_step x (layers.Label name) is = subst (λ (z : Item-F Item). Ready (roll-Item z)) is (ready_by (layers.Label name) (λ h b. (label_can name (ltb-true name n h), tt)))
+  ready_step x (layers.Seq body) is = subst (λ (z : Item-F Item). Ready (roll-Item z)) is (ready_by _ (λ h b. items_ready body.items h b))
+  ready_step x (layers.Repeat times body) is = subst (λ (z : Item-F Item). Ready (roll-Item z)) is (ready_by _ (λ h b. items_ready body.items (and_parts (leb times 8192) _ h).1 b))
+  ready_step x (layers.Choose line ways) is = subst (λ (z : Item-F Item). Ready (roll-Item z)) is (ready_by _ (λ h b.
+      choice_ready _ _ _ _ (λ v. refl) (λ v. refl) (λ v. refl) (λ w. refl) ways.items h b))
+
+  item_ready : (i : Item) → Ready i
+  item_ready = ind-Item Ready ready_step
+
+  pub body_ready : (items : List Item) → all_true (map (stands n) items) ≡ true → all_true (map is_item_built items) ≡ true → AreReady can (of_hart k items)
+  body_ready [] h b = tt
+  body_ready (i ∷ items) h b = let stand = and_parts _ _ h in let built = and_parts _ _ b in (item_ready i stand.0 built.0, body_ready items stand.1 built.1)
+
+-- ---- the harts of a template
+
+ready_append : (can : ℕ → Item → Type 0) (xs ys : List (ℕ × Item)) → AreReady can xs → AreReady can ys → AreReady can (xs ++ ys)
+ready_append can [] ys a b = b
+ready_append can (x ∷ xs) ys a b = (a.0, ready_append can xs ys a.1 b)
+
+module _ (t : Template) (nodes : ℕ) (w : Whole) (keeps : KeepsLimits t.text t) (known : LeavesAreKnown) (begun : IsBegun t w) where
+  abbrev draft : Drafted
+  draft = drafted t nodes w
+
+  many_names : length w.names ≡ length t.names
+  many_names = ap length begun.names ∙ length-replicate (length t.names) None
+
+  ground : (k : ℕ) → k < length t.harts → (start_in t.harts k).satp ≡ 0 → IsGround draft k
+  ground k lt satp = record {
+    hart = subst (λ (n : ℕ). k < n) (sym begun.count) lt;
+    few = let few = keeps.harts in omega (arith, lt, few);
+    names = many_names;
+    few_names = let few = keeps.names_count in omega (arith, few);
+    vectors = keeps.vectors;
+    untranslated = ap (λ (f : Fixed). f.satp) (begun.fixed k lt) ∙ satp;
+  }
+
+  built_leaf : (ws : List Wish) → is_leaf (length t.names) ws ≡ true → are_built ws ≡ true → IsBuilt (length t.names) ws
+  built_leaf ws leaf built =
+      let few = and_parts _ _ leaf in
+      record {
+        plain = (known (length t.names) ws leaf).plain;
+        built = built;
+        below = (and_parts _ _ (and_parts _ _ few.1).1).0;
+        short = leb-true _ _ few.0;
+      }
+
+  harts_ready : (k : ℕ) (hs : List HartDecl) → k + length hs ≡ length t.harts → ((j : ℕ) → slice_index_or (map (λ d. d.start) hs) j no_state ≡ start_in t.harts (k + j))
+      → AllByRecursion (λ (h : HartDecl). IsBody (length t.names) h.body.items) hs → are_harts_built hs ≡ true → AreReady (CanTake draft) (all_items k hs)
+  harts_ready k [] size starts bodies built = tt
+  harts_ready k (h ∷ hs) size starts bodies built =
+      let own = and_parts _ _ built in
+      let parts = and_parts _ _ own.0 in
+      let is_start : h.start ≡ start_in t.harts k = starts 0 ∙ ap (start_in t.harts) (omega arith) in
+      let g : IsGround draft k = ground k (omega (arith, size)) (ap (λ (s : HartState). s.satp) (sym is_start) ∙ eqb-true h.start.satp 0 parts.0) in
+      ready_append (CanTake draft) (of_hart k h.body.items) (all_items (k + 1) hs)
+      (body_ready (CanTake draft) k (length t.names) (λ line ws leaf is. (g, built_leaf ws.items leaf is)) (λ name lt. (g, lt)) h.body.items bodies.0 parts.1)
+      (harts_ready (k + 1) hs (omega (arith, size)) (λ j. starts (suc j) ∙ ap (start_in t.harts) (omega arith)) bodies.1 own.1)
+
+pub built_are_ready : TemplatesKeepLimits → LeavesAreKnown → BuiltTemplatesAreReady
+built_are_ready keep known t nodes w parses built begun =
+    let keeps = keep t.text t parses in
+    harts_ready t nodes w keeps known begun 0 t.harts (omega arith) (λ j. ap (start_in t.harts) (omega arith)) keeps.bodies built

@@ -1,0 +1,48 @@
+-- The templates that this build takes.
+use Rattle.std.specs.Prelude.{◌≡◌, ℕ, ◌==◌, ◌&&◌, Bool, true, false, List, [], ◌∷◌, map, Vec}
+use Rattle.std.specs.Global.{Global}
+use Rattle.tpl_ast.specs.declared.template.HartDecl.{HartDecl}
+use Rattle.tpl_ast.specs.declared.template.Item.{Item}
+use Rattle.tpl_ast.specs.declared.template.Item.TheFolds.{fold-Item}
+use Rattle.tpl_ast.specs.declared.template.Item.TheOpen.{Item-F}
+use Rattle.tpl_ast.specs.declared.template.Item.TheOpen as layers
+use Rattle.tpl_ast.specs.declared.template.Template.{Template}
+use Rattle.tpl_ast.specs.Choices.{all_true, all_ways}
+use Rattle.tpl_ast.specs.Parsing.{Parses}
+use Rattle.part_machine.specs.Whole.{Whole}
+use Rattle.part_state.specs.Beginning.{IsBegun}
+use Rattle.gen_search.specs.Ready.{BodiesAreReady}
+use Rattle.leaf_turn.specs.Built.{are_built}
+use Rattle.gen_turn.specs.Drafts.{drafted}
+use Rattle.gen_turn.specs.Grounds.{CanTake}
+
+-- an item each of whose leaves is built, with the answer for each inner item in its place; `fault` leaves are not built yet
+abbrev pub built_in : Item-F Bool → Bool
+built_in (layers.Leaf line wishes) = are_built wishes.items
+built_in (layers.FetchFault line causes) = false
+built_in (layers.Seq body) = all_true body.items
+built_in (layers.Repeat times body) = all_true body.items
+built_in (layers.Choose line ways) = all_ways ways.items
+built_in (layers.Label name) = true
+
+abbrev pub is_item_built : Item → Bool
+is_item_built = fold-Item Bool built_in
+
+abbrev pub is_body_built : List Item → Bool
+is_body_built items = all_true (map is_item_built items)
+
+abbrev pub are_ways_built : List (ℕ × Vec Item Global) → Bool
+are_ways_built [] = true
+are_ways_built (w ∷ ws) = is_body_built w.1.items && are_ways_built ws
+
+-- no address of a hart is translated, and each leaf of its body is built
+abbrev pub are_harts_built : List HartDecl → Bool
+are_harts_built [] = true
+are_harts_built (h ∷ hs) = ((h.start.satp == 0) && is_body_built h.body.items) && are_harts_built hs
+
+abbrev pub is_template_built : Template → Bool
+is_template_built t = are_harts_built t.harts
+
+-- then each leaf and label of its bodies can be taken on the test that begins as it says
+abbrev pub BuiltTemplatesAreReady : Type 0
+BuiltTemplatesAreReady = (t : Template) (nodes : ℕ) (w : Whole) → Parses t.text t → is_template_built t ≡ true → IsBegun t w → BodiesAreReady (CanTake (drafted t nodes w)) t.harts

@@ -1,0 +1,16 @@
+//! Leaf turns, labels and choices on the test of a template: what the search for the test works on. A leaf turn answers
+//! the leaf where its hart stands, starts the places of the answer, takes its step, binds names, and lists the biases
+//! that were not kept. Addresses are not translated here, and of leaves only those are taken whose operations are
+//! posed.
+#![tactic(auto)]
+
+mod binding;
+mod built;
+mod draft;
+mod dropping;
+mod leaf;
+mod making;
+
+pub use built::{built_templates_are_ready, is_template_built};
+pub use draft::{Draft, DraftWhole};
+pub use making::{Generated, generate};
