@@ -5,7 +5,6 @@
 
 mod copies;
 mod fitting;
-mod items;
 mod joined;
 mod laws;
 mod pages;
@@ -17,9 +16,9 @@ mod spaces;
 pub use copies::{copy_rows, copy_sets, push_rels};
 pub use dom_set::OutOfMemory;
 pub use fitting::{all_hold, fits, fits_case};
-pub use items::Items;
 pub use laws::fitting_laws;
 pub use problem::{Assignment, Case, Extra, Problem};
 pub use relation::{Quad, Rel, holds};
 pub use slot::{SLOTS, Slot};
 pub use spaces::{allowed_case, first_case, space};
+pub use tpl_ast::Items;

@@ -6,3 +6,5 @@ pub mod Takes
 pub mod Turning
 pub mod Readiness
 pub mod Drafting
+pub mod Ending
+pub mod Made

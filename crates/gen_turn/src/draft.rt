@@ -68,10 +68,10 @@ impl<'t> Draft<'t> {
     }
 
     /// The test as it stands.
-    pub fn part(&self) -> &Part
-        ensures { result.now ≡ self.now.part }
+    pub fn into_part(self) -> Part
+        ensures { result ≡ self.entry.part }
     {
-        &self.part
+        self.part
     }
 }
 

@@ -13,4 +13,4 @@ mod making;
 
 pub use built::{built_templates_are_ready, is_template_built};
 pub use draft::{Draft, DraftWhole};
-pub use making::{Generated, generate};
+pub use making::{Found, Generated, generate};

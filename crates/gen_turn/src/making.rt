@@ -1,43 +1,92 @@
 // The search for a test of a template.
-ghost use Rattle.std.specs.Prelude.{◌≡◌, ◌≤◌, true, IfOk};
+ghost use Rattle.std.specs.Prelude.{◌≡◌, true, IfOk};
 ghost use Rattle.tpl_ast.specs.Parsing.{Parses};
 ghost use Rattle.part_state.specs.Beginning.{IsBegun};
-ghost use Rattle.gen_search.specs.Answers.{AnswerIs};
-ghost use Rattle.gen_search.specs.Search.{SearchResult, Searches};
+ghost use Rattle.part_state.specs.State.{here};
 ghost use Rattle.gen_turn.specs.Built.{is_template_built};
-ghost use Rattle.gen_turn.specs.Drafts.{drafted};
-ghost use Rattle.gen_turn.specs.Generating.{IsGenerated};
+ghost use Rattle.gen_turn.specs.Generating.{IsFound, IsGenerated};
 
 use crate::built::built_templates_are_ready;
 use crate::draft::Draft;
 use gen_search::{Answer, OutOfMemory, search};
+use part_state::Part;
 use std::alloc::Global;
+use tpl_admit::Cert;
 use tpl_ast::{Template, template_law};
 
-/// What was made of a template: the test as the search left it, and the search's answer.
+/// What was made of a template.
 #[derive(Drop)]
-pub struct Generated<'t> {
-    pub draft: Draft<'t>,
+pub enum Generated {
+    /// A test.
+    Done(Cert),
+    /// All leaf turns were made, and a further one was needed.
+    GaveUp {
+        /// Leaf turns that nothing fitted.
+        none_fits: u64,
+        /// Leaf turns of which a problem was larger than its budget.
+        spent: u64,
+        /// The line of the last dead leaf in the template's text, from 1, or 0 where none was dead.
+        last_line: u32,
+    },
+}
+
+/// The test as a search leaves it, and the search's answer.
+#[derive(Drop)]
+pub struct Found {
+    pub part: Part,
     pub answer: Answer,
 }
 
-/// Searches for a test of a template, with the draws of a seed, `nodes` for the budget of each problem, and at most
-/// `turns` leaf turns.
-pub fn generate<'t>(
+/// Searches for a test of a template.
+fn search_for(
     alloc: Global,
-    template: &'t Template,
+    template: &Template,
     seed: u64,
     nodes: u64,
     turns: u64,
-) -> Result<Generated<'t>, OutOfMemory>
+) -> Result<Found, OutOfMemory>
     requires parses { Parses template.now.text template.now }
     requires built { is_template_built template.now ≡ true }
-    ensures { IfOk result (λ g. IsGenerated template.now seed nodes turns g) }
+    ensures { IfOk result (IsFound template.now seed nodes turns) }
 {
     template_law();
     gen_search::template_law();
     built_templates_are_ready();
     let mut draft = Draft::new(alloc, template, nodes)?;
     let answer = search(alloc, &mut draft, template.harts.as_slice(), seed, turns)?;
-    Ok(Generated { draft, answer })
+    Ok(Found {
+        part: draft.into_part(),
+        answer,
+    })
+}
+
+/// Makes a test of a template that this build takes, with the draws of a seed, `nodes` for the budget of each problem, and
+/// at most `turns` leaf turns.
+pub fn generate(
+    alloc: Global,
+    template: Template,
+    seed: u64,
+    nodes: u64,
+    turns: u64,
+) -> Result<Generated, OutOfMemory>
+    requires parses { Parses template.text template }
+    requires built { is_template_built template ≡ true }
+    ensures { IfOk result (IsGenerated template seed nodes turns) }
+{
+    let Found { part, answer } = search_for(alloc, &template, seed, nodes, turns)?;
+    match answer {
+        Answer::Done => match part.finish(alloc, template) {
+            Ok(certificate) => Ok(Generated::Done(certificate)),
+            Err(_) => Err(OutOfMemory),
+        },
+        Answer::GaveUp {
+            none_fits,
+            spent,
+            last_line,
+        } => Ok(Generated::GaveUp {
+            none_fits,
+            spent,
+            last_line,
+        }),
+    }
 }

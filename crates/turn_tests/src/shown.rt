@@ -30,7 +30,7 @@ fn push_written(text: &mut String, rd: Option<(u8, u32)>) -> Result<(), AllocErr
     }
 }
 
-pub fn push_step(text: &mut String, did: &Record) -> Result<(), AllocError> {
+fn push_step(text: &mut String, did: &Record) -> Result<(), AllocError> {
     let name = letter_of(did.privilege);
     let (pc, word, next) = (did.pc, did.word, did.next_pc);
     write!(text, "step {pc:08x} {name} {word:08x}")?;
@@ -77,6 +77,22 @@ fn push_words(text: &mut String, words: &[(u32, u32)]) -> Result<(), AllocError>
     text.push('\n')
 }
 
+fn push_names(text: &mut String, names: &[(u32, u32)]) -> Result<(), AllocError> {
+    for (name, value) in names {
+        let (name, value) = (*name, *value);
+        writeln!(text, "name {name} {value:08x}")?;
+    }
+    Ok(())
+}
+
+fn push_choices(text: &mut String, choices: &[u32]) -> Result<(), AllocError> {
+    for choice in choices {
+        let choice = *choice;
+        writeln!(text, "choice {choice}")?;
+    }
+    Ok(())
+}
+
 fn push_dropped(text: &mut String, dropped: &Dropped) -> Result<(), AllocError> {
     let (step, atom) = (dropped.step, dropped.atom);
     let why = match dropped.why {
@@ -86,7 +102,7 @@ fn push_dropped(text: &mut String, dropped: &Dropped) -> Result<(), AllocError> 
     writeln!(text, "dropped {step} {atom} {why}")
 }
 
-/// Its steps, what it starts, and the biases that it drops.
+/// Its steps, what it starts, its names and choices, and the biases that it drops.
 pub fn told_of(alloc: Global, cert: &Cert) -> Result<String, AllocError> {
     let mut text = String::new(alloc);
     for trace in cert.traces.as_slice() {
@@ -98,6 +114,8 @@ pub fn told_of(alloc: Global, cert: &Cert) -> Result<String, AllocError> {
         push_start(&mut text, start)?;
     }
     push_words(&mut text, cert.words.as_slice())?;
+    push_names(&mut text, cert.names.as_slice())?;
+    push_choices(&mut text, cert.choices.as_slice())?;
     for dropped in cert.dropped.as_slice() {
         push_dropped(&mut text, dropped)?;
     }

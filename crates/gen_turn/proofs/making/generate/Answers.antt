@@ -1,41 +1,15 @@
-use Rattle.std.proofs.Common.{◌≡◌, ℕ, List, ◌<◌, ◌≤◌, ◌^◌, length, sym, ap, ◌∙◌, subst, arith}
-use Rattle.tpl_ast.specs.declared.template.HartDecl.{HartDecl}
-use Rattle.tpl_ast.specs.declared.template.Template.{Template}
-use Rattle.part_state.specs.State.{here}
-use Rattle.gen_search.specs.Ready.{BodiesAreReady}
-use Rattle.gen_search.specs.Search.{Searches}
-use Rattle.gen_turn.specs.Drafts.{drafted}
-use Rattle.gen_turn.specs.Grounds.{CanTake}
-use Rattle.gen_turn.specs.Rules.{draft_rules, shown}
+use Rattle.gen_turn.proofs.Made.{given_up, made, same_harts, same_ram}
 use Rattle.gen_turn.proofs.making.generate.Goals as goal
 
-pub search-requires-clause-few : goal.search-requires-clause-few
-search-requires-clause-few c =
-    let few = (c.template_law.ensures c.args.template.now.text c.args.template.now c.requires.parses).harts in
-    subst (λ (hs : List HartDecl). length hs < 2 ^ 32) (sym c.as_slice.ensures) (omega (arith, few))
+pub finish-requires-clause-harts : goal.finish-requires-clause-harts
+finish-requires-clause-harts c = same_harts c.args.template c.args.seed c.args.nodes c.args.turns c.in_ok-part.field-0 c.in_ok-part.ensures c.in-Done.is
 
-pub search-requires-clause-ready : goal.search-requires-clause-ready
-search-requires-clause-ready c =
-    let t = c.args.template.now in
-    let ready = c.built_templates_are_ready.ensures t c.args.nodes (here c.in_ok-draft.draft.part) c.requires.parses c.requires.built c.in_ok-draft.ensures.begun in
-    let own = subst (λ (u : Template). BodiesAreReady (CanTake (drafted u c.args.nodes (here c.in_ok-draft.draft.part))) t.harts) (sym c.in_ok-draft.ensures.template) ready in
-    let budget = subst (λ (n : ℕ). BodiesAreReady (CanTake (drafted c.in_ok-draft.draft.template.now n (here c.in_ok-draft.draft.part))) t.harts) (sym c.in_ok-draft.ensures.nodes) own in
-    subst (λ (hs : List HartDecl). BodiesAreReady (CanTake (drafted c.in_ok-draft.draft.template.now c.in_ok-draft.draft.nodes (here c.in_ok-draft.draft.part))) hs) (sym c.as_slice.ensures) budget
+pub finish-requires-clause-ram : goal.finish-requires-clause-ram
+finish-requires-clause-ram c = same_ram c.args.template c.args.seed c.args.nodes c.args.turns c.in_ok-part.field-0 c.in_ok-part.ensures c.in-Done.is
+
+pub returns-in-Ok : goal.returns-in-Ok
+returns-in-Ok c =
+    made c.args.template c.args.seed c.args.nodes c.args.turns c.in_ok-part.field-0 c.in_ok-part.ensures c.in-Ok.certificate c.in-Ok.ensures.tells c.in-Ok.ensures.sound (c.in-Ok.ensures.well_formed c.requires.parses) c.in-Done.is
 
 pub returns : goal.returns
-returns c =
-    let found = c.in_ok-answer.ensures.searches in
-    let turns = c.search.ensures.turns in
-    let none = c.in_ok-draft.ensures.turns in
-    let first = c.in_ok-draft.draft.part.now in
-    let of_harts = subst (λ (hs : List HartDecl). Searches draft_rules hs c.args.seed c.args.turns (shown c.in_ok-draft.draft.template.now c.in_ok-draft.draft.nodes first) found.0) c.as_slice.ensures found.1 in
-    let of_template = subst (λ (u : Template). Searches draft_rules c.args.template.now.harts c.args.seed c.args.turns (shown u c.in_ok-draft.draft.nodes first) found.0) c.in_ok-draft.ensures.template of_harts in
-    let of_budget = subst (λ (n : ℕ). Searches draft_rules c.args.template.now.harts c.args.seed c.args.turns (shown c.args.template.now n first) found.0) c.in_ok-draft.ensures.nodes of_template in
-    record {
-      first = first;
-      begun = c.in_ok-draft.ensures.begun;
-      result = found.0;
-      searches = of_budget;
-      answer = found.2;
-      most = omega (arith, turns, none);
-    }
+returns c = given_up c.args.template c.args.seed c.args.nodes c.args.turns c.in_ok-part.field-0 c.in_ok-part.ensures c.in-GaveUp.none_fits c.in-GaveUp.spent c.in-GaveUp.last_line c.in-GaveUp.is
