@@ -259,8 +259,24 @@ fn are_many(firsts: &[Span], others: &[Span], windows: &[Span]) -> bool {
         && count_pairs(0, most, firsts, others, windows) > most
 }
 
-/// Ranges around the elements of both sets. Where too many sums of them would matter, the set that has fewer is
-/// given two at most.
+/// How far the ranges reach, together.
+fn width(ranges: &[Span]) -> u64 {
+    let mut width: u64 = 0;
+    for range in ranges {
+        width = width.saturating_add(u64::from(range.1.saturating_sub(range.0)));
+    }
+    width
+}
+
+/// Whether the halves of a set reach less far than those of another. Then less is lost where it is taken by its halves.
+fn is_narrower(alloc: Global, set: &Set, other: &Set) -> Result<bool, OutOfMemory> {
+    let own = halves(alloc, set)?;
+    let others = halves(alloc, other)?;
+    Ok(width(&own) < width(&others))
+}
+
+/// Ranges around the elements of both sets. Where too many sums of them would matter, the set whose
+/// halves are narrower is given two at most.
 fn both_parts(
     alloc: Global,
     first: &Set,
@@ -274,7 +290,8 @@ fn both_parts(
     if !are_many(&firsts, &seconds, windows) {
         return Ok((firsts, seconds));
     }
-    if firsts.len() < seconds.len() {
+    let narrower = is_narrower(alloc, first, second)?;
+    if narrower {
         let firsts = halves(alloc, first)?;
         return Ok((firsts, seconds));
     }
@@ -460,7 +477,7 @@ pub fn sums_within(
 }
 
 /// Ranges around the elements of the first set, and around what leads to 0 when one of the second is added. Where too
-/// many sums of them would matter, the set that has fewer is given two at most.
+/// many sums of them would matter, the set whose halves are narrower is given two at most.
 fn difference_parts(
     alloc: Global,
     first: &Set,
@@ -476,7 +493,8 @@ fn difference_parts(
     if !are_many(&wholes, &others, windows) {
         return Ok((wholes, others));
     }
-    if wholes.len() < others.len() {
+    let narrower = is_narrower(alloc, first, second)?;
+    if narrower {
         let wholes = halves(alloc, first)?;
         return Ok((wholes, others));
     }
