@@ -10,6 +10,7 @@ pub mod Sets
 pub mod Tells
 pub mod Sameness
 pub mod Halving
+pub mod Stepping
 pub mod Masks
 pub mod Raising
 pub mod Ends

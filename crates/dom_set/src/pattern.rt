@@ -35,6 +35,15 @@ impl Pattern {
         }
     }
 
+    /// How many numbers below the given one match, where these are a power of two apart.
+    fn count_steps(self, x: u64) -> u64
+        requires step { IsStep self }
+        requires within { x ≤ 2 ^ 32 }
+        ensures { result ≡ total (λ y. one (matches self y)) x }
+    {
+        (x + u64::from(self.mask - self.bits)) >> self.mask.count_ones()
+    }
+
     /// How many numbers below the given one match.
     pub fn count_below(self, x: u64) -> u64
         requires { x ≤ 2 ^ 32 }
@@ -42,6 +51,9 @@ impl Pattern {
     {
         if self.mask == 0 {
             return x;
+        }
+        if self.is_step() {
+            return self.count_steps(x);
         }
         let half = self.half();
         let pairs = half.count_below(x / 2);
@@ -52,6 +64,24 @@ impl Pattern {
             pairs + last
         } else {
             pairs
+        }
+    }
+
+    /// The first number from the given one up that matches, where these are a power of two apart.
+    fn next_step(self, from: u64) -> u64
+        requires step { IsStep self }
+        requires within { from ≤ 2 ^ 32 }
+        ensures matching { matches self result ≡ true }
+        ensures reached { from ≤ result }
+        ensures first { (x : ℕ) → from ≤ x → x < result → matches self x ≡ false }
+        ensures near { result ≤ from + self.mask }
+    {
+        let low = from & u64::from(self.mask);
+        let same = from - low + u64::from(self.bits);
+        if low <= u64::from(self.bits) {
+            same
+        } else {
+            same + u64::from(self.mask) + 1
         }
     }
 
@@ -68,6 +98,9 @@ impl Pattern {
         }
         if from < END && self.matches(from as u32) {
             return from;
+        }
+        if self.is_step() {
+            return self.next_step(from);
         }
         let half = self.half();
         if self.mask % 2 == 0 {

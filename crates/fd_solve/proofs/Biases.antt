@@ -13,10 +13,13 @@ use Rattle.fd_prob.specs.Spaces.{space}
 use Rattle.fd_solve.specs.declared.leaf.Taken.{Taken}
 use Rattle.fd_solve.specs.Answers.{AreTaken, Kept, NothingFits}
 use Rattle.fd_solve.specs.Known.{IsKnown, dropping, has_none, was_spent}
-use Rattle.fd_solve.specs.Marks.{AreSound, HasFirstsOf, with_marked}
+use Rattle.fd_solve.specs.Marks.{AreSound, HasFirstsOf, base_of, with_marked}
+use Rattle.fd_solve.specs.declared.ready.Ready.{Ready}
+use Rattle.fd_solve.specs.Ready.{IsReady}
 use Rattle.fd_solve.specs.Shrinking.{shrinks}
-use Rattle.fd_solve.specs.Taking.{IsTakenBy, IsTold, base_of, kept_of}
+use Rattle.fd_solve.specs.Taking.{IsTakenBy, IsTold, kept_of}
 use Rattle.fd_solve.proofs.Existing.{some_least}
+use Rattle.fd_solve.proofs.FirstMarks.{ready_after, ready_wider}
 use Rattle.fd_solve.proofs.Lists.{drop_here, drop_past}
 use Rattle.fd_solve.proofs.Marking.{many_marked, marked_false, marked_true, whole_marked}
 use Rattle.fd_solve.proofs.FittingMarks.{nothing_more}
@@ -99,13 +102,15 @@ module _ (p : Problem) (biases : List Extra) (nodes : ℕ) (taken : Taken) where
   place_is : (after : List Bool) → after ≡ taken.marks.items ++ true ∷ [] → length after - 1 ≡ length taken.marks.items
   place_is after is = omega (arith, ap length is, length-append taken.marks.items (true ∷ []))
 
-  pub told_dropped : (after : List Bool) (new : Taken) → after ≡ taken.marks.items ++ true ∷ [] → new.marks.items ≡ slice_set after (length after - 1) false → new.firsts ≡ taken.firsts → new.known ≡ taken.known → IsTold p biases nodes taken → IsTold p biases nodes new
-  told_dropped after new is marks_are firsts_are known_is told =
+  pub told_dropped : (after : List Bool) (new : Taken) → after ≡ taken.marks.items ++ true ∷ [] → new.marks.items ≡ slice_set after (length after - 1) false → new.firsts ≡ taken.firsts → new.known ≡ taken.known → (ready : Ready) → new.ready ≡ ready → IsReady p biases after (length after - 1) ready → IsTold p biases nodes taken → IsTold p biases nodes new
+  told_dropped after new is marks_are firsts_are known_is ready ready_are ready_is told =
+      let last : new.marks.items ≡ taken.marks.items ++ false ∷ [] = marks_are ∙ ap (λ (ms : List Bool). slice_set ms (length ms - 1) false) is ∙ set_last taken.marks.items in
       let same : with_marked new.marks.items biases p ≡ whole = whole_same after new is marks_are in
       record {
         base = subst (λ (o : Option Problem). IsProblem (base_of o p)) (sym firsts_are) told.base;
         firsts = subst (λ (q : Problem). HasFirstsOf q (base_of new.firsts p)) (sym same) (subst (λ (o : Option Problem). HasFirstsOf whole (base_of o p)) (sym firsts_are) told.firsts);
         known = subst (λ (q : Problem). IsKnown q nodes new.known) (sym same) (subst (IsKnown whole nodes) (sym known_is) told.known);
+        ready = subst (IsReady p biases new.marks.items (length new.marks.items)) (sym ready_are) (ready_after p biases taken.marks.items after new.marks.items true false ready is last ready_is);
       }
 
   pub count_dropped : (after : List Bool) (new : Taken) → after ≡ taken.marks.items ++ true ∷ [] → new.marks.items ≡ slice_set after (length after - 1) false → length new.marks.items ≡ length taken.marks.items + 1
@@ -158,12 +163,13 @@ module _ (p : Problem) (biases : List Extra) (nodes : ℕ) (taken : Taken) where
             (one_dropped whole nodes (length taken.marks.items) e taken.dropped known spent kept known_next)
 
 -- with the first cases that were made and what was found out
-pub told_kept : (p : Problem) (biases : List Extra) (nodes : ℕ) (after : List Bool) (made : Problem) (known : Known) (new : Taken) → AreSound p biases after made → IsKnown (with_marked after biases p) nodes known → new.marks.items ≡ after → new.firsts ≡ Some made → new.known ≡ known → IsTold p biases nodes new
-told_kept p biases nodes after made known new sound known_is marks_are firsts_are is =
+pub told_kept : (p : Problem) (biases : List Extra) (nodes : ℕ) (after : List Bool) (made : Problem) (known : Known) (new : Taken) → AreSound p biases after made → IsKnown (with_marked after biases p) nodes known → new.marks.items ≡ after → new.firsts ≡ Some made → new.known ≡ known → IsReady p biases after (length after - 1) new.ready → IsTold p biases nodes new
+told_kept p biases nodes after made known new sound known_is marks_are firsts_are is ready =
     let same : with_marked new.marks.items biases p ≡ with_marked after biases p = ap (λ (ms : List Bool). with_marked ms biases p) marks_are in
     let base : base_of new.firsts p ≡ made = ap (λ (o : Option Problem). base_of o p) firsts_are in
     record {
       base = subst IsProblem (sym base) sound.whole;
       firsts = subst (λ (q : Problem). HasFirstsOf q (base_of new.firsts p)) (sym same) (subst (HasFirstsOf (with_marked after biases p)) (sym base) sound.firsts);
       known = subst (λ (q : Problem). IsKnown q nodes new.known) (sym same) (subst (IsKnown (with_marked after biases p) nodes) (sym is) known_is);
+      ready = subst (λ (ms : List Bool). IsReady p biases ms (length ms) new.ready) (sym marks_are) (ready_wider p biases after (length after - 1) (length after) new.ready (omega arith) ready);
     }

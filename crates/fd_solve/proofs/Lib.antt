@@ -15,6 +15,7 @@ pub mod StrictOrder
 pub mod OneAnswer
 pub mod Extensions
 pub mod Marking
+pub mod FirstMarks
 pub mod FirstCases
 pub mod Shrinking
 pub mod Existing

@@ -3,6 +3,7 @@ pub mod Dropping
 pub mod Known
 pub mod Marks
 pub mod Meeting
+pub mod Ready
 pub mod Laws
 pub mod Search
 pub mod Taking

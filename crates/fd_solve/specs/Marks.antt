@@ -1,5 +1,5 @@
 -- Problems with some of their biases.
-use Rattle.std.specs.Prelude.{◌≡◌, ℕ, ◌≤◌, ◌==◌, Bool, false, if◌then◌else◌, List, [], ◌∷◌, All, find, length, option_map, slice_index_or, Option}
+use Rattle.std.specs.Prelude.{◌≡◌, ℕ, ◌≤◌, ◌==◌, Bool, false, if◌then◌else◌, List, [], ◌∷◌, All, find, length, option_map, slice_index_or, Option, None, Some}
 use Rattle.fd_prob.specs.declared.problem.Case.{Case}
 use Rattle.fd_prob.specs.declared.problem.Extra.{Extra}
 use Rattle.fd_prob.specs.declared.problem.Problem.{Problem}
@@ -37,6 +37,11 @@ pub record HasFirstsOf (p firsts : Problem) : Type 0 where
   pub pivots : firsts.pivots ≡ p.pivots
   pub pairs : firsts.pairs ≡ p.pairs
   pub fetch : firsts.fetch ≡ p.fetch
+
+-- the problem that was made, or the given one where none was
+abbrev pub base_of : Option Problem → Problem → Problem
+base_of None p = p
+base_of (Some made) p = made
 
 -- the problem with its marked biases
 abbrev pub whole_of : Marked → Problem

@@ -1,14 +1,15 @@
 // What is known of problems, without a search where none is needed.
-ghost use Rattle.std.specs.Prelude.{◌≡◌, ◌≤◌, nat_lt, true, IfOk};
+ghost use Rattle.std.specs.Prelude.{◌≡◌, ◌<◌, ◌≤◌, ◌-◌, nat_lt, true, IfOk, OnOk, length};
 ghost use Rattle.fd_prob.specs.Spaces.{space};
 ghost use Rattle.fd_solve.specs.Answers.{IsAnswer, NothingFits};
 ghost use Rattle.fd_solve.specs.Known.{IsKnown, dropping, fitting_of, has_none, was_spent};
 ghost use Rattle.fd_solve.specs.Marks.{IsSound, whole_of};
+ghost use Rattle.fd_solve.specs.Ready.{IsReady};
 
 use crate::answers::Solved;
 use crate::marked::Marked;
 use crate::meeting::fits_marked;
-use crate::operations::{answer_of, searched};
+use crate::ready::Ready;
 use crate::search::words;
 use dom_set::OutOfMemory;
 use fd_prob::{Assignment, space};
@@ -88,14 +89,18 @@ fn is_spent(marked: &Marked, within: bool, nodes: u64) -> bool
 pub fn known_after(
     alloc: Global,
     before: &Known,
+    ready: &mut Ready,
     marked: &Marked,
     within: bool,
     nodes: u64,
 ) -> Result<Known, OutOfMemory>
     requires sound { IsSound marked.now }
+    requires last { 0 < length marked.now.marks.now }
+    requires ready { IsReady marked.now.problem.now marked.now.biases.now marked.now.marks.now (length marked.now.marks.now - 1) ready.old }
     requires none { has_none before.now ≡ true → NothingFits (whole_of marked.now) }
     requires within { within ≡ true → space (whole_of marked.now) ≤ nodes }
-    ensures { IfOk result (IsKnown (whole_of marked.now) nodes) }
+    ensures known { IfOk result (IsKnown (whole_of marked.now) nodes) }
+    ensures ready { OnOk result (IsReady marked.now.problem.now marked.now.biases.now marked.now.marks.now (length marked.now.marks.now - 1) ready.new) }
 {
     if is_spent(marked, within, nodes) {
         return Ok(Known::Answer(Solved::Spent));
@@ -109,7 +114,7 @@ pub fn known_after(
             return Ok(Known::Fits(x));
         }
     }
-    let solved = searched(alloc, marked)?;
+    let solved = ready.searched(alloc, marked, marked.marks.len() - 1)?;
     Ok(Known::Answer(solved))
 }
 
@@ -117,15 +122,17 @@ pub fn known_after(
 pub fn answer_after(
     alloc: Global,
     known: &Known,
+    ready: &mut Ready,
     marked: &Marked,
     nodes: u64,
 ) -> Result<Solved, OutOfMemory>
     requires sound { IsSound marked.now }
+    requires ready { IsReady marked.now.problem.now marked.now.biases.now marked.now.marks.now (length marked.now.marks.now) ready.old }
     requires known { IsKnown (whole_of marked.now) nodes known.now }
     ensures { IfOk result (IsAnswer (whole_of marked.now) nodes) }
 {
     match known {
         Known::Answer(solved) => Ok(*solved),
-        Known::Fits(_) => answer_of(alloc, marked, nodes),
+        Known::Fits(_) => ready.searched(alloc, marked, marked.marks.len()),
     }
 }

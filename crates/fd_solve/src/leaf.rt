@@ -6,15 +6,17 @@ ghost use Rattle.fd_prob.specs.Fitting.{IsProblem};
 ghost use Rattle.fd_prob.specs.Spaces.{space};
 ghost use Rattle.fd_solve.specs.Answers.{IsAnswer, IsLeafAnswer, NothingFits};
 ghost use Rattle.fd_solve.specs.Known.{IsKnown, has_none, was_spent};
-ghost use Rattle.fd_solve.specs.Marks.{AreSound, with_marked};
+ghost use Rattle.fd_solve.specs.Marks.{IsSound, whole_of, with_marked};
+ghost use Rattle.fd_solve.specs.Ready.{IsReady};
 ghost use Rattle.fd_solve.specs.Shrinking.{shrinks};
-ghost use Rattle.fd_solve.specs.Taking.{IsTakenBy, IsTold, base_of, kept_of};
+ghost use Rattle.fd_solve.specs.Taking.{IsTakenBy, IsTold, kept_of};
 
 use crate::answers::{LeafAnswer, Solved};
 use crate::firsts::cut_problem;
 use crate::known::{Known, answer_after, known_after};
-use crate::marked::Marked;
+use crate::marked::{Marked, base_of};
 use crate::operations::answer_alone;
+use crate::ready::Ready;
 use dom_set::OutOfMemory;
 use fd_prob::{Extra, Items, Problem, Slot};
 use std::alloc::Global;
@@ -29,6 +31,27 @@ fn shrinks(bias: &Extra) -> bool
         .all(|cut| !matches!(cut.0, Slot::Op | Slot::A))
 }
 
+/// What is known of the problem with its marked biases, of which the last one is a further bias.
+fn known_next(
+    alloc: Global,
+    before: &Known,
+    ready: &mut Ready,
+    marked: &Marked,
+    bias: &Extra,
+    nodes: u64,
+) -> Result<Known, OutOfMemory>
+    requires sound { IsSound marked.now }
+    requires last { 0 < length marked.now.marks.now }
+    requires ready { IsReady marked.now.problem.now marked.now.biases.now marked.now.marks.now (length marked.now.marks.now - 1) ready.old }
+    requires none { has_none before.now ≡ true → NothingFits (whole_of marked.now) }
+    requires within { shrinks bias.now ≡ true → was_spent before.now ≡ false → space (whole_of marked.now) ≤ nodes }
+    ensures known { IfOk result (IsKnown (whole_of marked.now) nodes) }
+    ensures ready { OnOk result (IsReady marked.now.problem.now marked.now.biases.now marked.now.marks.now (length marked.now.marks.now - 1) ready.new) }
+{
+    let within = shrinks(bias) && !before.was_spent();
+    known_after(alloc, before, ready, marked, within, nodes)
+}
+
 /// The biases that were taken so far.
 #[derive(Drop)]
 struct Taken {
@@ -38,51 +61,19 @@ struct Taken {
     firsts: Option<Problem>,
     /// What is known of the problem with the biases that were kept.
     known: Known,
+    /// The problem with the biases that were kept, as far as searches needed it.
+    ready: Ready,
     /// Those that were not kept, as the answer lists them.
     dropped: Items<(u32, bool)>,
 }
 
 impl Taken {
-    /// What stands for the first cases of the problem with the biases that were kept.
-    fn base<'a>(&'a self, p: &'a Problem) -> &'a Problem
-        ensures { result.now ≡ base_of self.now.firsts p.now }
-    {
-        match &self.firsts {
-            Some(firsts) => firsts,
-            None => p,
-        }
-    }
-
-    /// What is known of the problem with a further bias, whose mark and first cases are given.
-    fn known_next(
-        &self,
-        alloc: Global,
-        p: &Problem,
-        biases: &[Extra],
-        bias: &Extra,
-        firsts: &Problem,
-        nodes: u64,
-    ) -> Result<Known, OutOfMemory>
-        requires sound { AreSound p.now biases.now self.now.marks.items firsts.now }
-        requires none { has_none self.now.known ≡ true → NothingFits (with_marked self.now.marks.items biases.now p.now) }
-        requires within { shrinks bias.now ≡ true → was_spent self.now.known ≡ false → space (with_marked self.now.marks.items biases.now p.now) ≤ nodes }
-        ensures { IfOk result (IsKnown (with_marked self.now.marks.items biases.now p.now) nodes) }
-    {
-        let marked = Marked {
-            problem: p,
-            biases,
-            marks: &self.marks,
-            firsts,
-        };
-        let within = shrinks(bias) && !self.known.was_spent();
-        known_after(alloc, &self.known, &marked, within, nodes)
-    }
-
     /// Takes the last mark away and lists its bias, with whether the budget was spent.
     fn unmark(&mut self, spent: bool) -> Result<(), OutOfMemory>
         requires { 0 < length self.old.marks.items }
         ensures firsts { self.new.firsts ≡ self.old.firsts }
         ensures known { self.new.known ≡ self.old.known }
+        ensures ready { self.new.ready ≡ self.old.ready }
         ensures marks { OnOk result (self.new.marks.items ≡ slice_set self.old.marks.items (length self.old.marks.items - 1) false) }
         ensures dropped { OnOk result (self.new.dropped ≡ self.old.dropped ++ (length self.old.marks.items - 1, spent) ∷ []) }
     {
@@ -114,9 +105,15 @@ impl Taken {
         ensures told { OnOk result (IsTold p.now biases.now nodes self.new) }
         ensures one { OnOk result (length self.new.marks.items ≡ length self.old.marks.items + 1) }
     {
-        let firsts = cut_problem(alloc, self.base(p), bias)?;
+        let firsts = cut_problem(alloc, base_of(&self.firsts, p), bias)?;
         self.marks.push(true)?;
-        let known = self.known_next(alloc, p, biases, bias, &firsts, nodes)?;
+        let marked = Marked {
+            problem: p,
+            biases,
+            marks: &self.marks,
+            firsts: &firsts,
+        };
+        let known = known_next(alloc, &self.known, &mut self.ready, &marked, bias, nodes)?;
         match known.dropping() {
             None => {
                 self.firsts = Some(firsts);
@@ -129,7 +126,7 @@ impl Taken {
 
     /// The answer of the problem with the biases that were kept.
     fn answer(
-        &self,
+        &mut self,
         alloc: Global,
         p: &Problem,
         biases: &[Extra],
@@ -137,17 +134,18 @@ impl Taken {
     ) -> Result<Solved, OutOfMemory>
         requires problem { IsProblem p.now }
         requires entries { All (λ e. length e.cases ≡ length p.now.cases) biases.now }
-        requires room { length self.now.marks.items ≤ length biases.now }
-        requires told { IsTold p.now biases.now nodes self.now }
-        ensures { IfOk result (IsAnswer (with_marked self.now.marks.items biases.now p.now) nodes) }
+        requires room { length self.old.marks.items ≤ length biases.now }
+        requires told { IsTold p.now biases.now nodes self.old }
+        ensures solved { IfOk result (IsAnswer (with_marked self.old.marks.items biases.now p.now) nodes) }
+        ensures dropped { self.new.dropped ≡ self.old.dropped }
     {
         let marked = Marked {
             problem: p,
             biases,
             marks: &self.marks,
-            firsts: self.base(p),
+            firsts: base_of(&self.firsts, p),
         };
-        answer_after(alloc, &self.known, &marked, nodes)
+        answer_after(alloc, &self.known, &mut self.ready, &marked, nodes)
     }
 }
 
@@ -170,6 +168,7 @@ pub fn solve_leaf(
         marks: Vec::new(alloc),
         firsts: None,
         known: Known::Answer(answer_alone(alloc, p, nodes)?),
+        ready: Ready::new(),
         dropped: Items::new(alloc),
     };
     for bias in biases {

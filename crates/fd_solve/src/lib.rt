@@ -20,6 +20,7 @@ mod operations;
 mod order;
 mod pivots;
 mod place;
+mod ready;
 mod search;
 mod stronger;
 mod targets;

@@ -1,16 +1,16 @@
 // A problem with some of its biases.
 ghost use Rattle.std.specs.Prelude.{◌≡◌, ◌<◌, ◌≤◌, ◌==◌, All, IfOk, MatchOption, None, find, if◌then◌else◌, length, slice_index_or, false};
 ghost use Rattle.fd_prob.specs.Extras.{extended_case};
-ghost use Rattle.fd_prob.specs.Fitting.{IsCase};
+ghost use Rattle.fd_prob.specs.Fitting.{IsCase, IsProblem};
 ghost use Rattle.fd_prob.specs.Order.{pivot_of};
 ghost use Rattle.fd_prob.specs.declared.slot.Slot.TheVariants as slots;
-ghost use Rattle.fd_solve.specs.Marks.{IsSound, marked_case, whole_of};
+ghost use Rattle.fd_solve.specs.Marks.{IsSound, base_of, marked_case, whole_of, with_marked};
 ghost use Rattle.fd_solve.specs.Search.{ArePivots};
 
 use crate::extended::extended_case;
 use crate::pivots::pivots_of;
 use dom_set::OutOfMemory;
-use fd_prob::{Case, Extra, Problem};
+use fd_prob::{Case, Extra, Items, Problem};
 use std::alloc::Global;
 
 /// A problem with those of its biases that are marked. Its cases get what the biases add only when they are searched.
@@ -62,6 +62,56 @@ pub fn marked_case(
         made = with_bias(alloc, made, place, &biases[i], *mark)?;
     }
     Ok(made)
+}
+
+/// The cases of the problem with what the marked biases add to them.
+fn marked_cases(
+    alloc: Global,
+    p: &Problem,
+    biases: &[Extra],
+    marks: &[bool],
+) -> Result<Vec<Case>, OutOfMemory>
+    requires problem { IsProblem p.now }
+    requires entries { All (λ e. length e.cases ≡ length p.now.cases) biases.now }
+    requires room { length marks.now ≤ length biases.now }
+    ensures { IfOk result (λ made. made.items ≡ (with_marked marks.now biases.now p.now).cases) }
+{
+    let mut made = Vec::new(alloc);
+    for (place, case) in p.cases.as_slice().iter().enumerate() {
+        made.push(marked_case(alloc, case, place, biases, marks)?)?;
+    }
+    Ok(made)
+}
+
+/// The problem with what the marked biases add to it.
+pub fn with_marked(
+    alloc: Global,
+    p: &Problem,
+    biases: &[Extra],
+    marks: &[bool],
+) -> Result<Problem, OutOfMemory>
+    requires problem { IsProblem p.now }
+    requires entries { All (λ e. length e.cases ≡ length p.now.cases) biases.now }
+    requires room { length marks.now ≤ length biases.now }
+    ensures { IfOk result (λ made. made ≡ with_marked marks.now biases.now p.now) }
+{
+    let cases = marked_cases(alloc, p, biases, marks)?;
+    Ok(Problem {
+        cases: Items::from_vec(cases),
+        pivots: p.pivots,
+        pairs: p.pairs,
+        fetch: p.fetch,
+    })
+}
+
+/// The problem that was made, or the given one where none was.
+pub fn base_of<'a>(made: &'a Option<Problem>, p: &'a Problem) -> &'a Problem
+    ensures { result.now ≡ base_of made.now p.now }
+{
+    match made {
+        Some(made) => made,
+        None => p,
+    }
 }
 
 /// The pivots of all variables with an operation, from the operation's own pivot, if it has a case.

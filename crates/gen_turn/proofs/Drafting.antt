@@ -64,6 +64,8 @@ module _ (t : Template) (nodes : ℕ) where
     few_names = g.few_names;
     vectors = g.vectors;
     untranslated = same.satp k ∙ g.untranslated;
+    test = same.test g.test;
+    words = same.words k g.words;
   }
 
   pub still_allowed : (old new : Test) → IsSameGround (whole_of old) (whole_of new) → AllowsAll can_be_taken (shown t nodes old) (shown t nodes new)

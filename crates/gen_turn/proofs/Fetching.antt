@@ -27,7 +27,7 @@ nothing_found : (o : Option ℕ) → where_unknown o None ≡ None
 nothing_found (Some v) = refl
 nothing_found None = refl
 
-same_ends : (log : List Entry) (one other : Reached) → Does [] one ≡ Does log other → (log ≡ []) × (one ≡ other)
+pub same_ends : (log : List Entry) (one other : Reached) → Does [] one ≡ Does log other → (log ≡ []) × (one ≡ other)
 same_ends [] one other h = (refl, cc)
 same_ends (e ∷ log) one other h = absurd (cc)
 

@@ -16,7 +16,7 @@ use Rattle.gen_turn.specs.Turns.{bound_by_wish, bound_with, is_listed, names_bou
 
 -- ---- as many names
 
-many_with_name : (n : ℕ) (o : Option ℕ) (names : List (Option ℕ)) → length (with_name n o names) ≡ length names
+pub many_with_name : (n : ℕ) (o : Option ℕ) (names : List (Option ℕ)) → length (with_name n o names) ≡ length names
 many_with_name n None names = refl
 many_with_name n (Some v) names = elim (is_some (slice_index_or names n None)) as (λ b. length (if b then names else slice_set names n (Some v)) ≡ length names) [
   | true ↦ refl
@@ -33,7 +33,7 @@ many_with_atom values atoms.Taken names = refl
 many_with_atom values atoms.NotTaken names = refl
 many_with_atom values atoms.Shared names = refl
 
-many_by_wish : (values : Var → Option ℕ) (dropped : List (ℕ × Bool)) (bias : ℕ) (w : Wish) (names : List (Option ℕ)) → length (bound_by_wish values dropped bias w names) ≡ length names
+pub many_by_wish : (values : Var → Option ℕ) (dropped : List (ℕ × Bool)) (bias : ℕ) (w : Wish) (names : List (Option ℕ)) → length (bound_by_wish values dropped bias w names) ≡ length names
 many_by_wish values dropped bias w names = elim (w.prefer && is_listed dropped bias) as (λ b. length (if b then names else bound_with values w.atom names) ≡ length names) [
   | true ↦ refl
   | false ↦ many_with_atom values w.atom names

@@ -26,6 +26,7 @@ use Rattle.tpl_ast.specs.Laws.{LeavesAreKnown, TemplatesKeepLimits}
 use Rattle.rv_hart.specs.Fixed.{Fixed}
 use Rattle.part_machine.specs.Whole.{Whole}
 use Rattle.part_state.specs.Beginning.{IsBegun, start_in}
+use Rattle.part_state.specs.Meaning.{IsTest}
 use Rattle.tpl_admit.specs.Starts.{no_state}
 use Rattle.gen_search.specs.Ready.{AreAllowed, AreReady, BodiesAreReady, joined, joined_ways, parts_in, parts_of}
 use Rattle.gen_search.specs.Search.{all_items, of_hart}
@@ -33,6 +34,7 @@ use Rattle.leaf_turn.specs.Built.{are_built}
 use Rattle.gen_turn.specs.Built.{BuiltTemplatesAreReady, are_harts_built, are_ways_built, built_in, is_item_built}
 use Rattle.gen_turn.specs.Drafts.{Drafted, drafted}
 use Rattle.gen_turn.specs.Grounds.{CanTake, IsBuilt, IsGround}
+use Rattle.gen_turn.proofs.FirstWords.{first_words}
 
 -- ---- a choice
 
@@ -113,7 +115,7 @@ ready_append : (can : ℕ → Item → Type 0) (xs ys : List (ℕ × Item)) → 
 ready_append can [] ys a b = b
 ready_append can (x ∷ xs) ys a b = (a.0, ready_append can xs ys a.1 b)
 
-module _ (t : Template) (nodes : ℕ) (w : Whole) (keeps : KeepsLimits t.text t) (known : LeavesAreKnown) (begun : IsBegun t w) where
+module _ (t : Template) (nodes : ℕ) (w : Whole) (keeps : KeepsLimits t.text t) (known : LeavesAreKnown) (begun : IsBegun t w) (test : IsTest w) where
   abbrev draft : Drafted
   draft = drafted t nodes w
 
@@ -128,6 +130,8 @@ module _ (t : Template) (nodes : ℕ) (w : Whole) (keeps : KeepsLimits t.text t)
     few_names = let few = keeps.names_count in omega (arith, few);
     vectors = keeps.vectors;
     untranslated = ap (λ (f : Fixed). f.satp) (begun.fixed k lt) ∙ satp;
+    test = test;
+    words = first_words t w keeps begun test k lt;
   }
 
   built_leaf : (ws : List Wish) → is_leaf (length t.names) ws ≡ true → are_built ws ≡ true → IsBuilt (length t.names) ws
@@ -138,6 +142,7 @@ module _ (t : Template) (nodes : ℕ) (w : Whole) (keeps : KeepsLimits t.text t)
         built = built;
         below = (and_parts _ _ (and_parts _ _ few.1).1).0;
         short = leb-true _ _ few.0;
+        once = (known (length t.names) ws leaf).once;
       }
 
   harts_ready : (k : ℕ) (hs : List HartDecl) → k + length hs ≡ length t.harts → ((j : ℕ) → slice_index_or (map (λ d. d.start) hs) j no_state ≡ start_in t.harts (k + j))
@@ -153,6 +158,6 @@ module _ (t : Template) (nodes : ℕ) (w : Whole) (keeps : KeepsLimits t.text t)
       (harts_ready (k + 1) hs (omega (arith, size)) (λ j. starts (suc j) ∙ ap (start_in t.harts) (omega arith)) bodies.1 own.1)
 
 pub built_are_ready : TemplatesKeepLimits → LeavesAreKnown → BuiltTemplatesAreReady
-built_are_ready keep known t nodes w parses built begun =
+built_are_ready keep known t nodes w parses built begun test =
     let keeps = keep t.text t parses in
-    harts_ready t nodes w keeps known begun 0 t.harts (omega arith) (λ j. ap (start_in t.harts) (omega arith)) keeps.bodies built
+    harts_ready t nodes w keeps known begun test 0 t.harts (omega arith) (λ j. ap (start_in t.harts) (omega arith)) keeps.bodies built

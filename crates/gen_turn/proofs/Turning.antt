@@ -41,7 +41,7 @@ module _ (t : Template) (nodes k : ℕ) (w : Whole) (ws : List Wish) (draws : Li
   abbrev setting : Setting
   setting = setting_of t (all_tests (turn_with draft (λ v. true) k) (mandatory_of ws) vars.A)
 
-  plain : is_translated (fetch_view turn.fixed) ≡ false
+  pub plain : is_translated (fetch_view turn.fixed) ≡ false
   plain = and_false _ _ (ap (λ (n : ℕ). leb 0x8000_0000 n) untranslated)
 
   pub spent : nodes < 1 → IsDone draft k ws draws Spent

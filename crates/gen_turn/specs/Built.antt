@@ -11,6 +11,7 @@ use Rattle.tpl_ast.specs.Choices.{all_true, all_ways}
 use Rattle.tpl_ast.specs.Parsing.{Parses}
 use Rattle.part_machine.specs.Whole.{Whole}
 use Rattle.part_state.specs.Beginning.{IsBegun}
+use Rattle.part_state.specs.Meaning.{IsTest}
 use Rattle.gen_search.specs.Ready.{BodiesAreReady}
 use Rattle.leaf_turn.specs.Built.{are_built}
 use Rattle.gen_turn.specs.Drafts.{drafted}
@@ -45,4 +46,4 @@ is_template_built t = are_harts_built t.harts
 
 -- then each leaf and label of its bodies can be taken on the test that begins as it says
 abbrev pub BuiltTemplatesAreReady : Type 0
-BuiltTemplatesAreReady = (t : Template) (nodes : ℕ) (w : Whole) → Parses t.text t → is_template_built t ≡ true → IsBegun t w → BodiesAreReady (CanTake (drafted t nodes w)) t.harts
+BuiltTemplatesAreReady = (t : Template) (nodes : ℕ) (w : Whole) → Parses t.text t → is_template_built t ≡ true → IsBegun t w → IsTest w → BodiesAreReady (CanTake (drafted t nodes w)) t.harts

@@ -2,10 +2,12 @@
 use Rattle.std.specs.Prelude.{◌≡◌, ℕ, length}
 use Rattle.part_machine.specs.Whole.{Whole}
 use Rattle.part_state.specs.Beginning.{IsBegun}
-use Rattle.part_state.specs.State.{Test, whole}
+use Rattle.part_state.specs.Meaning.{IsTest}
+use Rattle.part_state.specs.State.{Test, data_of, whole}
 use Rattle.part_state.specs.Told.{FitsFile, Tells}
 use Rattle.tpl_ast.specs.declared.template.Template.{Template}
 use Rattle.tpl_admit.specs.declared.certificate.Cert.{Cert}
+use Rattle.tpl_admit.specs.Admission.{Admits}
 use Rattle.tpl_admit.specs.Validity.{IsSound}
 use Rattle.tpl_admit.specs.WellFormed.{IsWellFormed}
 use Rattle.gen_search.specs.declared.draws.Tally.{Tally}
@@ -16,19 +18,22 @@ use Rattle.gen_turn.specs.declared.making.Generated.{Generated}
 use Rattle.gen_turn.specs.declared.making.Generated.TheVariants as made
 use Rattle.gen_turn.specs.Rules.{Shown, draft_rules, shown}
 
--- from the test that begins as the template says, the search with these draws and budgets has this result
+-- from the test that begins as the template says, which is told by its whole, the search with these draws and budgets has this result
 pub record Comes (t : Template) (seed nodes turns : ℕ) (result : SearchResult Shown) : Type 0 where
   pub first : Test
   pub begun : IsBegun t (whole first)
+  pub test : IsTest (whole first)
+  pub told : first ≡ data_of (whole first)
   pub searches : Searches draft_rules t.harts seed turns (shown t nodes first) result
 
--- a certificate is that of the test in which the search is done; it is sound, and well-formed where it fits a file
+-- a certificate is that of the test in which the search is done; it is sound, its template admits it, and it is well-formed where it fits a file
 pub record IsOfTest (t : Template) (seed nodes turns : ℕ) (c : Cert) : Type 0 where
   pub last : Shown
   pub tally : Tally
   pub comes : Comes t seed nodes turns (Done last tally)
   pub tells : Tells t (whole last.now) c
   pub sound : IsSound c
+  pub admits : Admits c
   pub well_formed : FitsFile c → IsWellFormed c
 
 -- the search gave up, with these numbers

@@ -1,16 +1,26 @@
 -- Which leaves and labels this build can take.
 use Rattle.std.specs.Prelude.{◌≡◌, ℕ, ◌^◌, ◌<◌, ◌≤◌, true, List, length}
 use Rattle.std.specs.List.{AllByRecursion, list_all}
+use Rattle.rv_csr.specs.declared.access.CsrAccess.{CsrAccess}
 use Rattle.tpl_ast.specs.declared.template.Item.{Item}
 use Rattle.tpl_ast.specs.declared.template.Item.TheVariants as items
 use Rattle.tpl_ast.specs.declared.template.Wish.{Wish}
-use Rattle.tpl_ast.specs.Leaves.{IsPlain, atoms_of, is_name_below}
+use Rattle.tpl_ast.specs.Leaves.{IsPlain, NamedOnce, atoms_of, is_name_below}
 use Rattle.tpl_ast.specs.Limits.{most_atoms}
-use Rattle.part_machine.specs.Whole.{Whole, hart_of}
+use Rattle.part_machine.specs.Whole.{Whole, fixed_in, hart_of}
+use Rattle.part_state.specs.Meaning.{IsTest}
+use Rattle.leaf_link.specs.Values.{fixed_value}
+use Rattle.leaf_link.specs.Ways.{AreWords}
 use Rattle.leaf_turn.specs.Built.{are_built}
 use Rattle.leaf_turn.specs.Grounds.{IsUntranslated}
 use Rattle.turn_laws.specs.Ahead.{AreVectors}
+use Rattle.turn_laws.specs.Given.{known_at}
 use Rattle.gen_turn.specs.Drafts.{Drafted}
+
+-- what is known of hart k and of memory is words, and so are the hart's CSRs that are always known
+pub record IsOfWords (k : ℕ) (w : Whole) : Type 0 where
+  pub known : AreWords (known_at k w)
+  pub fixed : (access : CsrAccess) → fixed_value (fixed_in (hart_of k w) w.memory) access < 2 ^ 32
 
 -- a hart of a test of the template, whose addresses are not translated
 pub record IsGround (d : Drafted) (k : ℕ) : Type 0 where
@@ -20,6 +30,8 @@ pub record IsGround (d : Drafted) (k : ℕ) : Type 0 where
   pub few_names : length d.template.names < 2 ^ 32
   pub vectors : AreVectors d.template.vectors
   pub untranslated : IsUntranslated k d.now
+  pub test : IsTest d.now
+  pub words : IsOfWords k d.now
 
 -- a leaf's atoms are those of a leaf of the template, and bar each operation that isn't posed
 pub record IsBuilt (names : ℕ) (ws : List Wish) : Type 0 where
@@ -27,6 +39,7 @@ pub record IsBuilt (names : ℕ) (ws : List Wish) : Type 0 where
   pub built : are_built ws ≡ true
   pub below : list_all (is_name_below names) (atoms_of ws) ≡ true
   pub short : length ws ≤ most_atoms
+  pub once : NamedOnce (atoms_of ws)
 
 -- a `do` leaf or a label that can be taken; `fault` leaves are not built yet
 abbrev pub CanTake : Drafted → ℕ → Item → Type 0
@@ -34,8 +47,10 @@ CanTake d k (items.Leaf line ws) = IsGround d k × IsBuilt (length d.template.na
 CanTake d k (items.Label name) = IsGround d k × (name < length d.template.names)
 CanTake d k _ = ⊥
 
--- as many harts and names, and what is translated stays
+-- as many harts and names, and what is translated stays; it is still a test, and what is known is still words
 pub record IsSameGround (old new : Whole) : Type 0 where
   pub harts : length new.harts ≡ length old.harts
   pub names : length new.names ≡ length old.names
   pub satp : (k : ℕ) → (hart_of k new).csrs.satp ≡ (hart_of k old).csrs.satp
+  pub test : IsTest old → IsTest new
+  pub words : (k : ℕ) → IsOfWords k old → IsOfWords k new

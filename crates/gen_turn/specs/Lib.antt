@@ -5,3 +5,4 @@ pub mod Grounds
 pub mod Built
 pub mod Rules
 pub mod Generating
+pub mod Laws

@@ -6,6 +6,7 @@ use Rattle.rv_script.specs.declared.place.Place.{Place}
 use Rattle.rv_script.specs.Folds.{Entry, Known}
 use Rattle.rv_script.specs.Logs.{enlarged}
 use Rattle.rv_hart.specs.declared.record.Record.{Record}
+use Rattle.rv_hart.specs.Clauses.{IsFitRecord}
 use Rattle.tpl_ast.specs.declared.template.Atom.{Atom}
 use Rattle.tpl_ast.specs.declared.template.Atom.TheVariants as atoms
 use Rattle.tpl_ast.specs.declared.template.Item.{Item}
@@ -16,6 +17,7 @@ use Rattle.tpl_admit.specs.declared.dropped.Dropped.{Dropped}
 use Rattle.tpl_admit.specs.declared.dropped.Why.TheVariants as whys
 use Rattle.tpl_admit.specs.Variables.{Moment, value_of}
 use Rattle.part_machine.specs.Whole.{Whole, chosen, hart_of, records_of}
+use Rattle.part_state.specs.Meaning.{IsTest}
 use Rattle.fd_solve.specs.declared.answers.LeafAnswer.{LeafAnswer}
 use Rattle.fd_solve.specs.declared.answers.Solved.{Solved}
 use Rattle.fd_solve.specs.declared.answers.Solved.TheVariants as answers
@@ -31,6 +33,7 @@ use Rattle.leaf_turn.specs.Answers.{AreAsked, IsTakenBy, new_at}
 use Rattle.leaf_turn.specs.Wishes.{biases_of, mandatory_of}
 use Rattle.gen_search.specs.Search.{Turned, Turned.Taken, Turned.NoneFits, Turned.Spent}
 use Rattle.gen_turn.specs.Drafts.{Drafted, at_test, turn_of}
+use Rattle.gen_turn.specs.Grounds.{IsOfWords}
 
 -- ---- names and biases
 
@@ -102,13 +105,17 @@ moment_at k x done w = record {
   others = take k w.traces;
 }
 
--- the step of an answer was taken, the names of the atoms that it meets were bound, and the biases that were not kept were listed
+-- the step of an answer was taken, with a record that can stand in a file, the names of the atoms that it meets were bound, and the biases that were not kept
+-- were listed; what comes of it is a test, and what is known then is words
 pub record IsLeafTaken (k : ℕ) (ws : List Wish) (dropped : List (ℕ × Bool)) (x : Values) (old after : Whole) : Type 0 where
   pub done : Record
   pub stepped : Whole
   pub taken : IsTakenBy k x done old stepped
   pub is : after ≡ with_all_dropped (map (listed_as k (length (records_of k old)) ws) dropped)
       (with_names (names_bound (λ v. value_of v (moment_at k x done old)) dropped 0 ws stepped.names) stepped)
+  pub fit : IsFitRecord done
+  pub test : IsTest after
+  pub words : IsOfWords k after
 
 -- the answer of a leaf, and what it makes of the test
 abbrev pub EndsAs : Drafted → ℕ → List Wish → List (ℕ × Bool) → Solved → Turned Drafted → Type 0

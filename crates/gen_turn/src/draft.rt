@@ -1,7 +1,8 @@
 // A test of a template as the search works on it.
 ghost use Rattle.std.specs.Prelude.{◌≡◌, ◌<◌, ◌≤◌, length, IfOk, [], map};
 ghost use Rattle.part_state.specs.Beginning.{IsBegun};
-ghost use Rattle.part_state.specs.State.{here};
+ghost use Rattle.part_state.specs.Meaning.{IsTest};
+ghost use Rattle.part_state.specs.State.{data_of, here};
 ghost use Rattle.tpl_ast.specs.Parsing.{Parses};
 ghost use Rattle.gen_turn.specs.Rules.{can_be_taken, draft_rules, shown};
 
@@ -52,17 +53,23 @@ impl<'t> Draft<'t> {
         ensures template { IfOk result (λ d. d.template.now ≡ template.now) }
         ensures nodes { IfOk result (λ d. d.nodes ≡ nodes) }
         ensures begun { IfOk result (λ d. IsBegun template.now (here d.part)) }
+        ensures test { IfOk result (λ d. IsTest (here d.part)) }
+        ensures told { IfOk result (λ d. d.part.now ≡ data_of (here d.part)) }
         ensures earlier { IfOk result (λ d. d.part.earlier ≡ []) }
         ensures turns { IfOk result (λ d. d.turns ≡ 0) }
     {
         match Part::new(alloc, template) {
-            Ok(part) => Ok(Draft {
-                alloc,
-                template,
-                nodes,
-                part,
-                turns: 0,
-            }),
+            Ok(part) => {
+                part.is_test();
+                part.is_told();
+                Ok(Draft {
+                    alloc,
+                    template,
+                    nodes,
+                    part,
+                    turns: 0,
+                })
+            }
             Err(_) => Err(OutOfMemory),
         }
     }

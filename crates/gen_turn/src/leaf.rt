@@ -68,6 +68,8 @@ fn take_leaf(
     };
     bind_names(part, &moment, dropped, wishes)?;
     drop_biases(part, hart, step, wishes, dropped)?;
+    part.is_test();
+    known_is_words(part, hart);
     Ok(())
 }
 

@@ -48,3 +48,4 @@ mod Finding
 mod Existing
 mod FetchPossible
 mod Placing
+mod Unfailing

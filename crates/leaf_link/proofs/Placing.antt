@@ -154,14 +154,14 @@ both_asked (Whole bits) f i h = absurd (cc)
 both_asked DefinedIllegal f i h = absurd (cc)
 
 -- THE LOG OF A CANDIDATE, IN PARTS
-record InParts (t : Turn) (walk : List Entry) (pa : ℕ) (leaf : List Atom) (new : Known) (w : IsCandidate t leaf new) : Type 0 where
+pub record InParts (t : Turn) (walk : List Entry) (pa : ℕ) (leaf : List Atom) (new : Known) (w : IsCandidate t leaf new) : Type 0 where
   pub tells : (e : Entry) → HasItem w.log e → by_answers t.known (given_by (key_of t leaf new w)) e.question ≡ Some e.value
   pub agree : (e f : Entry) → HasItem w.log e → HasItem w.log f → t.known (entry_place e) ≡ None → entry_place e ≡ entry_place f → e.value ≡ f.value
   pub rest : List Entry
   pub plays : answer_told (by_answers t.known (given_by (key_of t leaf new w))) (rest_of t w.instr.op (key_of t leaf new w) (told_a t w.instr.op (key_of t leaf new w)) (told_b t w.instr.op (key_of t leaf new w))) ≡ Does rest w.change
   pub log : w.log ≡ front_log t walk pa w.instr.op (key_of t leaf new w) rest
 
-in_parts_of : (t : Turn) (walk : List Entry) (pa : ℕ) (leaf : List Atom) (new : Known) → IsFetched t walk pa → (w : IsCandidate t leaf new) → InParts t walk pa leaf new w
+pub in_parts_of : (t : Turn) (walk : List Entry) (pa : ℕ) (leaf : List Atom) (new : Known) → IsFetched t walk pa → (w : IsCandidate t leaf new) → InParts t walk pa leaf new w
 unfolding candidate_good
 in_parts_of t walk pa leaf new f w =
     let x : Values = key_of t leaf new w in

@@ -26,5 +26,5 @@ pub use operation_laws::{
     accesses_are_exact, operations_are_exact, ways_are_built, ways_are_exact,
 };
 pub use row_laws::rows_serve_leaves;
-pub use truth_laws::{leaves_are_true, met_atoms_are_true};
+pub use truth_laws::{leaves_are_true, met_atoms_are_true, steps_are_fetched};
 pub use witness_laws::{answers_are_possible, leaves_are_possible, walks_are_possible};

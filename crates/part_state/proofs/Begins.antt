@@ -1,9 +1,10 @@
 -- How a test begins.
-use Rattle.std.proofs.Common.{◌≡◌, ◌≢◌, ℕ, ◌+◌, ◌*◌, ◌/◌, ◌%◌, ◌<◌, ◌≤◌, Bool, true, false, eqb, List, [], ◌∷◌, length, get_or, Option, Some, None, refl, sym, ap, ◌∙◌, subst, inl, inr, arith, if◌then◌else◌}
+use Rattle.std.proofs.Common.{◌≡◌, ◌≢◌, ℕ, ◌+◌, ◌*◌, ◌/◌, ◌%◌, ◌<◌, ◌≤◌, Bool, true, false, eqb, List, [], ◌∷◌, ◌++◌, length, get_or, Option, Some, None, refl, sym, ap, ◌∙◌, subst, inl, inr, arith, if◌then◌else◌}
 use Rattle.std.specs.Prelude.{replicate}
 use Rattle.std.specs.Option.{option_or}
 use Rattle.std.proofs.Math.Path.{fun_ext}
 use Rattle.std.proofs.lemmas.Bool.{cases_Bool, cases_eq, eqb-true, eq-eqb, ne_eqb}
+use Rattle.std.proofs.lemmas.List.{append-nil, append_assoc}
 use Rattle.rv_mem.specs.declared.words.Seen.{Seen}
 use Rattle.rv_mem.specs.declared.words.Seen.TheVariants.{Known as KnownWord, Untouched, Vacant}
 use Rattle.rv_mem.specs.Part.{valued}
@@ -18,7 +19,7 @@ use Rattle.part_machine.specs.Whole.{Bare, Whole, given, IsNew, no_hart, hart_of
 use Rattle.part_machine.proofs.Given.{given_more}
 use Rattle.part_told.specs.Words.{AreListed}
 use Rattle.part_state.specs.Meaning.{value_of_key}
-use Rattle.part_state.specs.Beginning.{IsHartOf, AreHartsOf, words_given, CanGive, IsBegunFrom, IsBegun, start_in}
+use Rattle.part_state.specs.Beginning.{IsHartOf, AreHartsOf, words_given, CanGive, IsBegunFrom, IsBegun, ends_of, numbered, start_in}
 
 -- the words of a template, for RAM as pairs of ends
 pub listed : (ram : List Region) (ends : List (ℕ × ℕ)) → ((n : ℕ) → in_ram ends n ≡ is_in ram (n * 4)) → (from : ℕ) (es : List (ℕ × ℕ)) → AreStartWords ram from es → AreListed ends from es
@@ -53,7 +54,7 @@ seen_or None s = s
 seen_or (Some v) s = KnownWord v
 
 -- what has no key from a number on has no value
-found_low : (ram : List (ℕ × ℕ)) (from : ℕ) (es : List (ℕ × ℕ)) (a : ℕ) → AreListed ram from es → a < from → found es a ≡ None
+pub found_low : (ram : List (ℕ × ℕ)) (from : ℕ) (es : List (ℕ × ℕ)) (a : ℕ) → AreListed ram from es → a < from → found es a ≡ None
 found_low ram from [] a are low = refl
 found_low ram from (e ∷ es) a are low =
     let other : e.0 ≢ a = λ same. absurd (omega (arith, same, are.0, low)) in
@@ -128,15 +129,22 @@ is_there_given None false = refl
 is_there_given (Some v) true = refl
 is_there_given (Some v) false = refl
 
+-- the words that were given stand behind those before them
+words_behind : (es : List (ℕ × ℕ)) (w : Whole) → (words_given es w).words ≡ w.words ++ numbered es
+words_behind [] w = sym (append-nil w.words)
+words_behind (e ∷ es) w = words_behind es (word_given e.0 e.1 w) ∙ append_assoc w.words ((e.0 / 4, e.1) ∷ []) (numbered es)
+
 -- words given to harts that did nothing are a beginning of the template that says so
-pub begun : (t : Template) (harts : List Bare) (ends : List (ℕ × ℕ)) (w : Whole) → ((n : ℕ) → in_ram ends n ≡ is_in t.ram (n * 4)) → AreHartsOf t.harts harts → AreStartWords t.ram 0 t.words
+pub begun : (t : Template) (harts : List Bare) (ends : List (ℕ × ℕ)) (w : Whole) → ends ≡ ends_of t.ram → ((n : ℕ) → in_ram ends n ≡ is_in t.ram (n * 4)) → AreHartsOf t.harts harts → AreStartWords t.ram 0 t.words
     → IsBegunFrom harts ends (length t.names) t.words w → IsBegun t w
-begun t harts ends w same are words b = subst (IsBegun t) (sym b.is) (record {
+begun t harts ends w are_ends same are words b = subst (IsBegun t) (sym b.is) (record {
   count = ap (λ (hs : List Bare). length hs) now ∙ are.count;
   first = side.first ∙ b.new.first ∙ sym now;
   fixed = λ k l. fixed k (are.each k l);
   places = λ k key l. ap (λ (q : Bare). value_of_key q key) (at k) ∙ (are.each k l).places key;
+  ends = side.ram ∙ b.new.ram_is ∙ are_ends;
   ram = λ n. ap (λ (r : List (ℕ × ℕ)). in_ram r n) (side.ram ∙ b.new.ram_is) ∙ same n;
+  listed = words_behind t.words b.first ∙ ap (λ (es : List (ℕ × ℕ)). es ++ numbered t.words) b.new.words;
   words = λ n. words_more ends 0 t.words b.first n are_listed ∙ ap (λ (es : List (ℕ × ℕ)). option_or (found t.words (n * 4)) (given es n)) b.new.words ∙ or_none (found t.words (n * 4));
   memory = memory;
   traces = side.traces ∙ b.new.traces ∙ ap (λ (n : ℕ). replicate n no_records) are.count;

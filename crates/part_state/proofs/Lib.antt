@@ -11,5 +11,7 @@ pub mod Clear
 pub mod Probes
 pub mod States
 pub mod Begins
+pub mod OneBeginning
+pub mod OneTelling
 pub mod Declared
 pub mod Certificates

@@ -5,6 +5,7 @@ use Rattle.rv_mem.specs.Part.{valued}
 use Rattle.rv_mem.specs.Ram.{in_ram}
 use Rattle.tpl_ast.specs.declared.template.HartDecl.{HartDecl}
 use Rattle.tpl_ast.specs.declared.template.HartState.{HartState}
+use Rattle.tpl_ast.specs.declared.template.Region.{Region}
 use Rattle.tpl_ast.specs.declared.template.Template.{Template}
 use Rattle.tpl_admit.specs.Starts.{found, fixed_in, no_state}
 use Rattle.tpl_ast.specs.States.{is_in}
@@ -47,13 +48,23 @@ pub record IsBegunFrom (harts : List Bare) (ram : List (ℕ × ℕ)) (names : �
   pub new : IsNew harts ram names first
   pub is : w ≡ words_given words first
 
+-- RAM as pairs of the ends of a template's regions
+abbrev pub ends_of : List Region → List (ℕ × ℕ)
+ends_of ram = map (λ r. (r.low, r.high)) ram
+
+-- a template's words, as pairs of number and value
+abbrev pub numbered : List (ℕ × ℕ) → List (ℕ × ℕ)
+numbered words = map (λ e. (e.0 / 4, e.1)) words
+
 -- a template's harts, RAM and words, of which nothing more is known; nothing was done
 pub record IsBegun (t : Template) (w : Whole) : Type 0 where
   pub count : length w.harts ≡ length t.harts
   pub first : w.first ≡ w.harts
   pub fixed : (k : ℕ) → k < length t.harts → (held_in (hart_of k w) w.memory).fixed ≡ fixed_in t.ram k (start_in t.harts k)
   pub places : (k key : ℕ) → k < length t.harts → value_of_key (hart_of k w) key ≡ found (start_in t.harts k).places key
+  pub ends : w.ram ≡ ends_of t.ram
   pub ram : (n : ℕ) → in_ram w.ram n ≡ is_in t.ram (n * 4)
+  pub listed : w.words ≡ numbered t.words
   pub words : (n : ℕ) → given w.words n ≡ found t.words (n * 4)
   pub memory : (n : ℕ) → w.memory n ≡ (if is_in t.ram (n * 4) then valued (found t.words (n * 4)) else Vacant)
   pub traces : w.traces ≡ replicate (length t.harts) []

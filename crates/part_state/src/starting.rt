@@ -1,15 +1,36 @@
-// The harts with which a test begins.
-ghost use Rattle.std.specs.Prelude.{◌<◌, ◌^◌, IfOk, length, map};
+// RAM and the harts with which a test begins.
+ghost use Rattle.std.specs.Prelude.{◌≡◌, ◌<◌, ◌^◌, IfOk, length, map};
 ghost use Rattle.std.specs.List.{AllByRecursion};
 ghost use Rattle.tpl_ast.specs.States.{IsState};
 ghost use Rattle.part_machine.specs.Whole.{bare};
-ghost use Rattle.part_state.specs.Beginning.{AreHartsOf, IsHartOf};
+ghost use Rattle.given_start.specs.Regions.{AreAligned};
+ghost use Rattle.part_state.specs.Beginning.{AreHartsOf, IsHartOf, ends_of};
 
 use crate::OutOfMemory;
 use given_start::hart_in;
 use rv_hart::Hart;
+use rv_mem::Ram;
 use std::alloc::Global;
-use tpl_ast::{HartDecl, HartState};
+use tpl_ast::{HartDecl, HartState, Region};
+
+/// The ends of regions.
+fn region_ends(alloc: Global, ram: &[Region]) -> Result<Vec<(u32, u32)>, OutOfMemory>
+    ensures { IfOk result (λ ends. ends.items ≡ ends_of ram.now) }
+{
+    let mut ends = Vec::new(alloc);
+    for region in ram {
+        ends.push((region.low, region.high))?;
+    }
+    Ok(ends)
+}
+
+/// RAM of these regions.
+pub fn ram_of(alloc: Global, ram: &[Region]) -> Result<Ram, OutOfMemory>
+    requires { AreAligned ram.now }
+    ensures { IfOk result (λ m. m ≡ ends_of ram.now) }
+{
+    Ok(Ram::new(region_ends(alloc, ram)?))
+}
 
 /// A hart with this number of which just a state is known.
 fn started_hart(state: &HartState, number: u32) -> Hart

@@ -3,3 +3,4 @@ pub mod Steps
 pub mod Lacking
 pub mod CsrQuestions
 pub mod Ahead
+pub mod Starts

@@ -15,7 +15,7 @@ use Rattle.part_state.proofs.Meanings.{csr_partial, csr_untouched, register_part
 use Rattle.turn_laws.specs.Given.{CanGive, IsAddressed, all_given, given_to, known_at}
 use Rattle.turn_laws.specs.Laws.{IsBeside}
 
-has : (k : ℕ) (w : Whole) → IsTest w → k < length w.harts → HasHart k w
+pub has : (k : ℕ) (w : Whole) → IsTest w → k < length w.harts → HasHart k w
 has k w test l = record { first = omega (arith, l, test.first); now = l; trace = omega (arith, l, test.traces) }
 
 -- ---- what is held of a hart tells what is known of it
@@ -23,7 +23,7 @@ has k w test l = record { first = omega (arith, l, test.first); now = l; trace =
 abbrev known_of : Partial → ℕ → Known
 known_of p k = known_by (p.harts k) p.memory
 
-held : (k : ℕ) (w : Whole) → IsTest w → k < length w.harts → (place : Place) → known_at k w place ≡ known_of (partial_of w) k place
+pub held : (k : ℕ) (w : Whole) → IsTest w → k < length w.harts → (place : Place) → known_at k w place ≡ known_of (partial_of w) k place
 held k w test l place = sym (ap (λ (q : Known). q place) (same_known (hart_of k w) w.memory (test.fit k l)))
 
 -- a change of the partial test that is that of one place
@@ -90,12 +90,12 @@ one_more k (Csr addr) v w test l can =
 one_more k (Word addr) v w test l can =
     subst (IsOneMore k (Word addr) v (partial_of w)) (sym (word_partial addr v w (word_untouched addr w test can.startable.1 can.unknown))) (word_more k addr v (partial_of w) can.startable.0)
 
-beside_one : (k : ℕ) (place : Place) (v : ℕ) (w : Whole) → IsBeside w (place_given k place v w)
+pub beside_one : (k : ℕ) (place : Place) (v : ℕ) (w : Whole) → IsBeside w (place_given k place v w)
 beside_one k (Reg n) v w = record { traces = refl; feet = refl; names = refl; choices = refl; dropped = refl; harts = length-set w.harts k _ }
 beside_one k (Csr addr) v w = record { traces = refl; feet = refl; names = refl; choices = refl; dropped = refl; harts = length-set w.harts k _ }
 beside_one k (Word addr) v w = record { traces = refl; feet = refl; names = refl; choices = refl; dropped = refl; harts = refl }
 
-test_one : (k : ℕ) (place : Place) (v : ℕ) (w : Whole) → IsTest w → k < length w.harts → CanStart k place v w → IsAddressed place → v < 2 ^ 32 → IsTest (place_given k place v w)
+pub test_one : (k : ℕ) (place : Place) (v : ℕ) (w : Whole) → IsTest w → k < length w.harts → CanStart k place v w → IsAddressed place → v < 2 ^ 32 → IsTest (place_given k place v w)
 test_one k (Reg n) v w test l can address fits = test_register k n v w test (has k w test l) can.startable.0 can.startable.1 can.unknown
 test_one k (Csr addr) v w test l can address fits =
     test_csr k addr v w test (has k w test l) (csr_untouched k addr w test (has k w test l) (untouched_none (hart_of k w).csrs addr can.startable.0 can.startable.1 can.unknown))

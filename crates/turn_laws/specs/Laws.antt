@@ -1,14 +1,16 @@
 -- What holds of places that are given and of steps that are taken.
-use Rattle.std.specs.Prelude.{◌≡◌, ℕ, ◌<◌, length, List}
+use Rattle.std.specs.Prelude.{◌≡◌, ℕ, ◌<◌, length, List, Some}
 use Rattle.rv_script.specs.declared.place.Place.{Place}
+use Rattle.rv_script.specs.declared.place.Place.TheVariants.{Reg}
 use Rattle.rv_script.specs.Folds.{Known, Answer.Does}
 use Rattle.rv_script.specs.Logs.{enlarged}
 use Rattle.foot_map.specs.declared.touch.Touch.{Touch}
 use Rattle.foot_map.specs.Races.{IsFootprint}
 use Rattle.tpl_ast.specs.declared.template.Atom.{Atom}
 use Rattle.tpl_admit.specs.Races.{footprints_of}
+use Rattle.part_laws.specs.Partial.{Partial}
 use Rattle.part_machine.specs.Whole.{IsReady, Whole, fixed_in, hart_of, next_of, records_of}
-use Rattle.part_state.specs.Meaning.{IsClear, IsNamed, IsTest}
+use Rattle.part_state.specs.Meaning.{IsClear, IsNamed, IsTest, partial_of}
 use Rattle.leaf_link.specs.Candidates.{IsCandidate, accesses_in}
 use Rattle.turn_laws.specs.Given.{AreListed, CanGive, Setting, all_given, given_to, known_at, turn_at}
 
@@ -37,6 +39,20 @@ pub record IsBeside (old new : Whole) : Type 0 where
 
 abbrev pub OthersStay : Type 0
 OthersStay = (k : ℕ) (es : List (Place × ℕ)) (w : Whole) → IsBeside w (all_given k es w)
+
+-- what a start gives, another one gives too
+pub record IsStartOn (p q : Partial) : Type 0 where
+  pub fixed : (j : ℕ) → (q.start j).fixed ≡ (p.start j).fixed
+  pub places : (j key v : ℕ) → (p.start j).places key ≡ Some v → (q.start j).places key ≡ Some v
+  pub words : (n v : ℕ) → p.words n ≡ Some v → q.words n ≡ Some v
+
+abbrev pub StartsGrow : Type 0
+StartsGrow = (k : ℕ) (es : List (Place × ℕ)) (w : Whole) → IsTest w → k < length w.harts → CanGive k es w → IsStartOn (partial_of w) (partial_of (all_given k es w))
+
+-- and it gives the new registers
+abbrev pub GivesRegisters : Type 0
+GivesRegisters =
+    (k : ℕ) (es : List (Place × ℕ)) (w : Whole) (n v : ℕ) → IsTest w → k < length w.harts → CanGive k es w → given_to es (Reg n) ≡ Some v → ((partial_of (all_given k es w)).start k).places n ≡ Some v
 
 -- behind the places of a candidate, the next step of the hart is the candidate's, and races with nothing
 pub record IsTaken (k : ℕ) (w : Whole) (s : Setting) (feet : List Touch) (leaf : List Atom) (new : Known) (c : IsCandidate (turn_at s feet k w) leaf new) (after : Whole) : Type 0 where

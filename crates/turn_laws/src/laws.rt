@@ -1,6 +1,6 @@
 // What holds of places that are given and of steps that are taken.
 ghost use Rattle.turn_laws.specs.Ahead.{LogsAreShort, OneMoreIsGiven, PlacesAreNext};
-ghost use Rattle.turn_laws.specs.Laws.{CandidatesAreSteps, GivenPlacesAreKnown, GivenTestsAreTests, FixedPartsStay, OthersStay};
+ghost use Rattle.turn_laws.specs.Laws.{CandidatesAreSteps, GivenPlacesAreKnown, GivenTestsAreTests, GivesRegisters, FixedPartsStay, OthersStay, StartsGrow};
 
 /// Does nothing. Its contract says what giving places to a hart one by one makes of a test: what was known, and these
 /// places with their values; the hart's fixed parts, the records and the footprints stay, and it is a test.
@@ -9,6 +9,12 @@ pub fn given_places_are_known()
     ensures tests { GivenTestsAreTests }
     ensures fixed { FixedPartsStay }
     ensures others { OthersStay }
+{}
+
+/// Does nothing. Its contract says what giving places makes of a test's start: it gives what it gave, and the new registers.
+pub fn starts_grow()
+    ensures start { StartsGrow }
+    ensures registers { GivesRegisters }
 {}
 
 /// Does nothing. Its contract says that behind the places of a candidate the next step of the hart is the candidate's,

@@ -5,4 +5,4 @@
 
 mod laws;
 
-pub use laws::{candidates_are_steps, given_places_are_known, places_are_next};
+pub use laws::{candidates_are_steps, given_places_are_known, places_are_next, starts_grow};

@@ -1,5 +1,6 @@
-use Rattle.std.proofs.Common.{ℕ, subst, arith}
+use Rattle.std.proofs.Common.{ℕ, Bool, List, [], sym, subst, arith}
 use Rattle.fd_prob.specs.declared.problem.Problem.{Problem}
+use Rattle.fd_solve.specs.Answers.{AreTaken}
 use Rattle.fd_solve.specs.Marks.{with_marked}
 use Rattle.fd_solve.specs.Taking.{IsTakenBy, kept_of}
 use Rattle.fd_solve.proofs.Biases.{next_bias, none_left}
@@ -25,4 +26,5 @@ returns c =
     let biases = c.args.biases.now in
     let taken = c.loop-bias.taken in
     let whole : Problem = with_marked taken.marks.items biases p in
-    (whole, c.loop-bias.invariant.rest (kept_of p biases taken) (none_left c.args.nodes c.loop-bias.bias-index biases c.loop-bias-test.false (kept_of p biases taken)), c.in_ok-solved.ensures)
+    let P : List (ℕ × Bool) → Type 0 = λ d. AreTaken c.args.nodes 0 biases (record { problem = p; dropped = [] }) (record { problem = whole; dropped = d }) in
+    (whole, subst P (sym c.in_ok-solved.ensures.dropped) (c.loop-bias.invariant.rest (kept_of p biases taken) (none_left c.args.nodes c.loop-bias.bias-index biases c.loop-bias-test.false (kept_of p biases taken))), c.in_ok-solved.ensures.solved)

@@ -17,7 +17,7 @@ search-requires-clause-few c =
 pub search-requires-clause-ready : goal.search-requires-clause-ready
 search-requires-clause-ready c =
     let t = c.args.template.now in
-    let ready = c.built_templates_are_ready.ensures t c.args.nodes (here c.in_ok-draft.draft.part) c.requires.parses c.requires.built c.in_ok-draft.ensures.begun in
+    let ready = c.built_templates_are_ready.ensures t c.args.nodes (here c.in_ok-draft.draft.part) c.requires.parses c.requires.built c.in_ok-draft.ensures.begun c.in_ok-draft.ensures.test in
     let own = subst (λ (u : Template). BodiesAreReady (CanTake (drafted u c.args.nodes (here c.in_ok-draft.draft.part))) t.harts) (sym c.in_ok-draft.ensures.template) ready in
     let budget = subst (λ (n : ℕ). BodiesAreReady (CanTake (drafted c.in_ok-draft.draft.template.now n (here c.in_ok-draft.draft.part))) t.harts) (sym c.in_ok-draft.ensures.nodes) own in
     subst (λ (hs : List HartDecl). BodiesAreReady (CanTake (drafted c.in_ok-draft.draft.template.now c.in_ok-draft.draft.nodes (here c.in_ok-draft.draft.part))) hs) (sym c.as_slice.ensures) budget
@@ -32,7 +32,7 @@ returns c =
     record {
       last = shown c.search.new.part.template.now c.search.new.part.nodes c.search.new.part.part.now;
       result = found.0;
-      comes = record { first = first; begun = c.in_ok-draft.ensures.begun; searches = of_budget };
+      comes = record { first = first; begun = c.in_ok-draft.ensures.begun; test = c.in_ok-draft.ensures.test; told = c.in_ok-draft.ensures.told; searches = of_budget };
       answer = found.2;
       now = ap (λ (s : State). s.now) (sym c.into_part.ensures);
     }

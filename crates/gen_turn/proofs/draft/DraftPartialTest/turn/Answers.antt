@@ -6,7 +6,7 @@ use Rattle.gen_turn.specs.Drafts.{drafted}
 use Rattle.tpl_ast.specs.declared.template.Wish.{Wish}
 use Rattle.gen_turn.specs.Rules.{can_be_taken, shown}
 use Rattle.gen_turn.specs.Turns.{IsDone, IsTurnedTo}
-use Rattle.gen_turn.proofs.Drafting.{answer_shown, still_there}
+use Rattle.gen_turn.proofs.Drafting.{answer_shown, still_allowed, still_there}
 use Rattle.gen_turn.proofs.draft.DraftPartialTest.turn.Goals as goal
 
 pub unreachable-requires : goal.unreachable-requires
@@ -24,3 +24,6 @@ returns-in-Ok-clause-answer c =
 
 pub returns-in-Ok-clause-kept : goal.returns-in-Ok-clause-kept
 returns-in-Ok-clause-kept c = still_there c.args.self.now.template.now c.args.self.now.nodes c.args.self.now.part c.turn_leaf.new.part c.in-Ok.ensures.kept
+
+pub returns-in-Ok-clause-still : goal.returns-in-Ok-clause-still
+returns-in-Ok-clause-still c = still_allowed c.args.self.now.template.now c.args.self.now.nodes c.args.self.now.part.now c.turn_leaf.new.part.now c.in-Ok.ensures.ground

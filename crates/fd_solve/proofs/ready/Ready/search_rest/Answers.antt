@@ -1,0 +1,18 @@
+use Rattle.std.proofs.Common.{◌≤◌, length, subst}
+use Rattle.fd_prob.specs.declared.problem.Problem.{Problem}
+use Rattle.fd_prob.specs.Spaces.{space}
+use Rattle.fd_solve.specs.Answers.{IsAnswer}
+use Rattle.fd_solve.proofs.FirstMarks.{same_whole, sound_rest}
+use Rattle.fd_solve.proofs.ready.Ready.search_rest.Goals as goal
+
+pub searched-requires : goal.searched-requires
+searched-requires c =
+    let m = c.args.marked.now in
+    sound_rest m.problem.now m.biases.now m.marks.now (length m.marks.now) c.args.self.now c.requires.ready c.base_of.result.now c.base_of.ensures m.firsts.now c.requires.sound
+
+pub returns : goal.returns
+returns c nodes within =
+    let m = c.args.marked.now in
+    let same = same_whole m.problem.now m.biases.now m.marks.now (length m.marks.now) c.args.self.now c.requires.ready c.base_of.result.now c.base_of.ensures in
+    let P : Problem → Type 0 = λ q. space q ≤ nodes → IsAnswer q nodes c.in_ok-solved.solved in
+    subst P same (c.in_ok-solved.ensures nodes) within

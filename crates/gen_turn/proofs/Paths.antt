@@ -1,0 +1,258 @@
+-- The path of a walk that is finished: the pieces that it went through, and the tests between them.
+use Rattle.std.proofs.Common.{◌≡◌, ℕ, zero, suc, ◌+◌, ◌<◌, List, [], ◌∷◌, ◌++◌, append_assoc, append-nil, drop, take, length, Option, Some, None, refl, sym, ap, ◌∙◌, subst, arith}
+use Rattle.std.specs.Prelude.{Vec}
+use Rattle.std.specs.Global.{Global}
+use Rattle.std.specs.List.{slice_get}
+use Rattle.tpl_ast.specs.declared.template.Item.{Item}
+use Rattle.tpl_ast.specs.declared.template.Item.TheVariants as items
+use Rattle.tpl_ast.specs.declared.template.Item.TheViews as views
+use Rattle.tpl_ast.specs.Expansion as pieces
+use Rattle.part_machine.specs.Whole.{Whole, chosen, hart_of}
+use Rattle.part_state.specs.Meaning.{IsTest}
+use Rattle.part_state.specs.State.{data_of, whole}
+use Rattle.part_state.proofs.States.{whole_again}
+use Rattle.leaf_link.specs.Admitted.{MetAreTrue, StepsAreFetched}
+use Rattle.gen_search.specs.declared.draws.Tally.{Tally}
+use Rattle.gen_search.specs.Draws.{words}
+use Rattle.gen_search.specs.Laws.{StillAllows}
+use Rattle.gen_search.specs.Ready.{AreAllowed, AreReady, parts_of_body}
+use Rattle.gen_search.specs.Search.{ComesTo, ComesTo.done, ComesTo.gave_up, ComesTo.again, Done, NoTest, SearchResult, IsLeaf, IsLeaf.leaf, IsLeaf.fault, Outcome, Finished, Dead, GaveUp, Tries, Tries.none_left, Tries.leads, Tries.stops, Tries.goes_on, Turned, Turned.Taken, Turned.NoneFits, Turned.Spent, Walks, Walks.finished, Walks.gives_up, Walks.taken, Walks.unfit, Walks.too_large, Walks.label, Walks.seq, Walks.rep, Walks.choose, cyclically, in_turn, numbered, of_hart, picked}
+use Rattle.gen_search.proofs.Each.{Each, each_in_turn}
+use Rattle.gen_search.proofs.Ready.{body_before, first_choose, first_label, first_leaf, first_repeat, first_seq, ready_still}
+use Rattle.gen_turn.specs.Drafts.{Drafted, drafted}
+use Rattle.gen_turn.specs.Rules.{Shown, can_be_taken, draft_of, draft_rules, shown_as, turn_shown}
+use Rattle.gen_turn.specs.Turns.{IsTurnedTo, with_name, with_names}
+use Rattle.gen_turn.proofs.Laying.{AreWays, IsWay, LaidOut, Tagged, laid_choice, laid_fault, laid_label, laid_leaf, laid_out, laid_repeat, laid_seq}
+use Rattle.gen_turn.proofs.LeafDone.{IsLeafDone, leaf_done, turn_made}
+use Rattle.gen_turn.proofs.Names.{many_with_name}
+use Rattle.gen_turn.proofs.NamesAhead.{AreInOrder, AreNamedAhead, choice_ahead, label_ahead, leaf_ahead, repeat_ahead, seq_ahead}
+use Rattle.gen_turn.proofs.Staying.{chosen_ground, named_ground}
+
+-- ---- tests on a path
+
+-- some choices were made between two tests, and nothing else
+abbrev pub with_choices : List ℕ → Whole → Whole
+with_choices choices w = record w { choices = w.choices ++ choices }
+
+abbrev pub IsChosen : Whole → Whole → Type 0
+IsChosen w v = (choices : List ℕ) × (v ≡ with_choices choices w)
+
+abbrev pub labelled : ℕ → ℕ → Whole → Whole
+labelled k n w = with_names (with_name n (Some (hart_of k w).pc) w.names) w
+
+-- from a test the pieces lead to the last one
+abbrev pub Made : Whole → List Tagged → Whole → Type 0
+Made last [] w = IsChosen w last
+Made last ((k, pieces.Leaf ws) ∷ ps) w = (before : Whole) × (after : Whole) × IsChosen w before × (k < length before.harts) × IsLeafDone k ws before after × Made last ps after
+Made last ((k, pieces.Label n) ∷ ps) w = (before : Whole) × IsChosen w before × (k < length before.harts) × (n < length before.names) × Made last ps (labelled k n before)
+Made last ((k, pieces.FetchFault causes) ∷ ps) w = ⊥
+Made last ((k, pieces.Stuck) ∷ ps) w = ⊥
+
+no_choices : (w : Whole) → IsChosen w w
+no_choices w = ([], ap (λ (cs : List ℕ). record w { choices = cs }) (sym (append-nil w.choices)))
+
+chosen_before : (n : ℕ) (w v : Whole) → IsChosen (chosen n w) v → IsChosen w v
+chosen_before n w v is = (n ∷ is.0, is.1 ∙ ap (λ (cs : List ℕ). record w { choices = cs }) (append_assoc w.choices (n ∷ []) is.0))
+
+made_before : (last : Whole) (n : ℕ) (ps : List Tagged) (w : Whole) → Made last ps (chosen n w) → Made last ps w
+made_before last n [] w made = chosen_before n w last made
+made_before last n ((k, pieces.Leaf ws) ∷ ps) w made = (made.0, made.1, chosen_before n w made.0 made.2, made.3, made.4, made.5)
+made_before last n ((k, pieces.Label m) ∷ ps) w made = (made.0, chosen_before n w made.0 made.1, made.2, made.3, made.4)
+made_before last n ((k, pieces.FetchFault causes) ∷ ps) w made = absurd made
+made_before last n ((k, pieces.Stuck) ∷ ps) w made = absurd made
+
+-- ---- alternatives by their numbers
+
+ways_append : (all xs ys : List (ℕ × Vec Item Global)) → AreWays all xs → AreWays all ys → AreWays all (xs ++ ys)
+ways_append all [] ys are more = more
+ways_append all (x ∷ xs) ys are more = (are.0, ways_append all xs ys are.1 more)
+
+ways_drop : (all : List (ℕ × Vec Item Global)) (n : ℕ) (xs : List (ℕ × Vec Item Global)) → AreWays all xs → AreWays all (drop n xs)
+ways_drop all zero xs are = are
+ways_drop all (suc n) [] are = tt
+ways_drop all (suc n) (x ∷ xs) are = ways_drop all n xs are.1
+
+ways_take : (all : List (ℕ × Vec Item Global)) (n : ℕ) (xs : List (ℕ × Vec Item Global)) → AreWays all xs → AreWays all (take n xs)
+ways_take all zero xs are = tt
+ways_take all (suc n) [] are = tt
+ways_take all (suc n) (x ∷ xs) are = (are.0, ways_take all n xs are.1)
+
+ways_numbered : (all : List (ℕ × Vec Item Global)) (n : ℕ) (ws : List (ℕ × Vec Item Global)) → ((i : ℕ) → slice_get all (n + i) ≡ slice_get ws i) → AreWays all (numbered n ws)
+ways_numbered all n [] same = tt
+ways_numbered all n (w ∷ ws) same =
+    ((w, ap (slice_get all) (omega arith) ∙ same 0, refl), ways_numbered all (n + 1) ws (λ i. ap (slice_get all) (omega arith) ∙ same (suc i)))
+
+ways_in_turn : (all : List (ℕ × Vec Item Global)) (draw : ℕ) → AreWays all (in_turn all draw)
+ways_in_turn all draw =
+    let are : AreWays all (numbered 0 all) = ways_numbered all 0 all (λ i. ap (slice_get all) (omega arith)) in
+    ways_append all (drop (picked all draw) (numbered 0 all)) (take (picked all draw) (numbered 0 all)) (ways_drop all (picked all draw) (numbered 0 all) are) (ways_take all (picked all draw) (numbered 0 all) are)
+
+-- ---- walks
+
+-- a path from a test to the end, through what is left to do
+pub record IsPath (todo : List (ℕ × Item)) (s last : Shown) : Type 0 where
+  pub choices : List ℕ
+  pub ps : List Tagged
+  pub laid : laid_out todo choices ≡ record { pieces = ps; left = Some [] }
+  pub taken : last.now.choices ≡ s.now.choices ++ choices
+  pub made : Made (whole last.now) ps (whole s.now)
+  pub order : (m : ℕ) → AreNamedAhead todo m → AreInOrder ps m
+  pub tested : IsTest (whole last.now)
+
+abbrev pub EndsInPath : List (ℕ × Item) → Shown → Outcome Shown → Type 0
+EndsInPath todo s (Finished last t) = IsPath todo s last
+EndsInPath todo s (Dead t) = Unit {0}
+EndsInPath todo s (GaveUp t) = Unit {0}
+
+-- a path of one of the alternatives
+abbrev pub EndsInWay : List (ℕ × Vec Item Global) → ℕ → List (ℕ × Item) → Shown → Outcome Shown → Type 0
+EndsInWay all k todo s (Finished last t) = (x : ℕ × Vec Item Global) × IsWay all x × IsPath (of_hart k x.1.items ++ todo) (draft_rules.way x.0 s) last
+EndsInWay all k todo s (Dead t) = Unit {0}
+EndsInWay all k todo s (GaveUp t) = Unit {0}
+
+one_piece : (p : Tagged) (l : LaidOut) (ps : List Tagged) → l ≡ record { pieces = ps; left = Some [] } → ◌≡◌ {A = LaidOut} (record { pieces = p ∷ l.pieces; left = l.left }) (record { pieces = p ∷ ps; left = Some [] })
+one_piece p l ps h = ap (λ (m : LaidOut). record { pieces = p ∷ m.pieces; left = m.left }) h
+
+module _ (met_are_true : MetAreTrue) (are_fetched : StepsAreFetched) (still : StillAllows can_be_taken draft_rules) (turns : ℕ) where
+  -- a leaf turn that is taken
+  leaf_path : (k line : ℕ) (item : Item) (todo : List (ℕ × Item)) (s next last : Shown) (draws : List ℕ) → IsLeaf item line → can_be_taken s k item → draft_rules.turn k item draws s (Taken next) → IsPath todo next last → IsPath ((k, item) ∷ todo) s last
+  leaf_path k line item todo s next last draws (leaf _ ws) can gives p = go gives.0 gives.1 gives.2
+    where
+      go : (r : Turned Drafted) → IsTurnedTo (draft_of s) k (items.Leaf line ws) draws r → Taken next ≡ turn_shown r → IsPath ((k, items.Leaf line ws) ∷ todo) s last
+      go (Taken e) is same =
+          let done : IsLeafDone k ws.items (whole s.now) e.now = leaf_done met_are_true are_fetched (draft_of s) k ws.items can.0 can.1 draws e.now (turn_made (draft_of s) k ws.items draws e is) in
+          let next_is : next ≡ shown_as e = ap (λ (r : Turned Shown). elim r [ Taken f ↦ f | NoneFits ↦ next | Spent ↦ next ]) same in
+          let now_is : whole next.now ≡ e.now = ap (λ (f : Shown). whole f.now) next_is ∙ whole_again e.now done.test in
+          record {
+            choices = p.choices;
+            ps = (k, pieces.Leaf ws.items) ∷ p.ps;
+            laid = laid_leaf k todo line ws p.choices ∙ one_piece (k, pieces.Leaf ws.items) (laid_out todo p.choices) p.ps p.laid;
+            taken = p.taken ∙ ap (λ (cs : List ℕ). cs ++ p.choices) (ap (λ (w : Whole). w.choices) now_is ∙ done.choices);
+            made = (whole s.now, whole next.now, no_choices (whole s.now), can.0.hart, subst (IsLeafDone k ws.items (whole s.now)) (sym now_is) done, p.made);
+            order = λ m named. let a = leaf_ahead k todo m line ws named in (a.0, a.1, a.2, p.order a.0 a.3);
+            tested = p.tested;
+          }
+      go NoneFits is same = absurd (cc same)
+      go Spent is same = absurd (cc same)
+  leaf_path k line item todo s next last draws (fault _ causes) can gives p = absurd can
+
+  label_path : (k name : ℕ) (todo : List (ℕ × Item)) (s last : Shown) → can_be_taken s k (items.Label name) → IsPath todo (draft_rules.label k name s) last → IsPath ((k, items.Label name) ∷ todo) s last
+  label_path k name todo s last can p =
+      let now_is : whole (data_of (labelled k name (whole s.now))) ≡ labelled k name (whole s.now) =
+      whole_again (labelled k name (whole s.now)) ((named_ground _ (whole s.now) (many_with_name name (Some (hart_of k (whole s.now)).pc) s.now.names)).test can.0.test) in
+      record {
+        choices = p.choices;
+        ps = (k, pieces.Label name) ∷ p.ps;
+        laid = laid_label k todo name p.choices ∙ one_piece (k, pieces.Label name) (laid_out todo p.choices) p.ps p.laid;
+        taken = p.taken;
+        made = (whole s.now, no_choices (whole s.now), can.0.hart, subst (λ (n : ℕ). name < n) (sym can.0.names) can.1, subst (Made (whole last.now) p.ps) now_is p.made);
+        order = λ m named. let a = label_ahead k todo m name named in (a.0, p.order (name + 1) a.1);
+        tested = p.tested;
+      }
+
+  choice_path : (k line : ℕ) (ways : Vec (ℕ × Vec Item Global) Global) (todo : List (ℕ × Item)) (s last : Shown) (x : ℕ × Vec Item Global) → IsTest (whole s.now)
+      → IsWay ways.items x → IsPath (of_hart k x.1.items ++ todo) (draft_rules.way x.0 s) last → IsPath ((k, views.Choose line ways) ∷ todo) s last
+  choice_path k line ways todo s last x test way p =
+      let now_is : whole (data_of (chosen x.0 (whole s.now))) ≡ chosen x.0 (whole s.now) = whole_again (chosen x.0 (whole s.now)) ((chosen_ground x.0 (whole s.now)).test test) in
+      record {
+        choices = x.0 ∷ p.choices;
+        ps = p.ps;
+        laid = laid_choice k todo line ways x.0 way.0 p.choices way.1 ∙ ap (λ (b : Vec Item Global). laid_out (of_hart k b.items ++ todo) p.choices) way.2 ∙ p.laid;
+        taken = p.taken ∙ append_assoc s.now.choices (x.0 ∷ []) p.choices;
+        made = made_before (whole last.now) x.0 p.ps (whole s.now) (subst (Made (whole last.now) p.ps) now_is p.made);
+        order = λ m named. p.order m (subst (λ (b : Vec Item Global). AreNamedAhead (of_hart k b.items ++ todo) m) way.2 (choice_ahead k todo m line ways x.0 way.0 way.1 named));
+        tested = p.tested;
+      }
+
+  -- what is carried from test to test
+  pub record IsCarried (todo : List (ℕ × Item)) (s : Shown) : Type 0 where
+    pub ready : AreReady (can_be_taken s) todo
+    pub test : IsTest (whole s.now)
+
+  leaf_test : (k line : ℕ) (item : Item) (s next : Shown) (draws : List ℕ) → IsLeaf item line → can_be_taken s k item → draft_rules.turn k item draws s (Taken next) → IsTest (whole next.now)
+  leaf_test k line item s next draws (leaf _ ws) can gives = go gives.0 gives.1 gives.2
+    where
+      go : (r : Turned Drafted) → IsTurnedTo (draft_of s) k (items.Leaf line ws) draws r → Taken next ≡ turn_shown r → IsTest (whole next.now)
+      go (Taken e) is same =
+          let done : IsLeafDone k ws.items (whole s.now) e.now = leaf_done met_are_true are_fetched (draft_of s) k ws.items can.0 can.1 draws e.now (turn_made (draft_of s) k ws.items draws e is) in
+          let next_is : next ≡ shown_as e = ap (λ (r : Turned Shown). elim r [ Taken f ↦ f | NoneFits ↦ next | Spent ↦ next ]) same in
+          subst IsTest (sym (ap (λ (f : Shown). whole f.now) next_is ∙ whole_again e.now done.test)) done.test
+      go NoneFits is same = absurd (cc same)
+      go Spent is same = absurd (cc same)
+  leaf_test k line item s next draws (fault _ causes) can gives = absurd can
+
+  leaf_carried : (k line : ℕ) (item : Item) (todo : List (ℕ × Item)) (s next : Shown) (t : Tally) → IsLeaf item line → IsCarried ((k, item) ∷ todo) s → draft_rules.turn k item (words 16 t.draws) s (Taken next) → IsCarried todo next
+  leaf_carried k line item todo s next t is_leaf c gives =
+      let can : can_be_taken s k item = first_leaf (can_be_taken s) k line item todo is_leaf c.ready in
+      record { ready = ready_still Shown can_be_taken s next (still.turn k line item t.draws s next is_leaf can gives) todo c.ready.1; test = leaf_test k line item s next _ is_leaf can gives }
+
+  label_carried : (k name : ℕ) (todo : List (ℕ × Item)) (s : Shown) → IsCarried ((k, items.Label name) ∷ todo) s → IsCarried todo (draft_rules.label k name s)
+  label_carried k name todo s c =
+      let can : can_be_taken s k (items.Label name) = first_label (can_be_taken s) k name todo c.ready in
+      let new : IsTest (labelled k name (whole s.now)) = (named_ground _ (whole s.now) (many_with_name name (Some (hart_of k (whole s.now)).pc) s.now.names)).test c.test in
+      record {
+        ready = ready_still Shown can_be_taken s (draft_rules.label k name s) (still.label k name s can) todo c.ready.1;
+        test = subst IsTest (sym (whole_again (labelled k name (whole s.now)) new)) new;
+      }
+
+  way_carried : (k n : ℕ) (body : Vec Item Global) (todo : List (ℕ × Item)) (s : Shown) → AreAllowed (can_be_taken s) k (parts_of_body body.items) → IsCarried todo s → IsCarried (of_hart k body.items ++ todo) (draft_rules.way n s)
+  way_carried k n body todo s allowed c =
+      let new : IsTest (chosen n (whole s.now)) = (chosen_ground n (whole s.now)).test c.test in
+      record {
+        ready = ready_still Shown can_be_taken s (draft_rules.way n s) (still.way n s) (of_hart k body.items ++ todo) (body_before (can_be_taken s) k body todo allowed c.ready);
+        test = subst IsTest (sym (whole_again (chosen n (whole s.now)) new)) new;
+      }
+
+  leaf_ends : (k line : ℕ) (item : Item) (todo : List (ℕ × Item)) (s next : Shown) (draws : List ℕ) (o : Outcome Shown) → IsLeaf item line → can_be_taken s k item → draft_rules.turn k item draws s (Taken next) → EndsInPath todo next o → EndsInPath ((k, item) ∷ todo) s o
+  leaf_ends k line item todo s next draws (Finished last u) is_leaf can gives p = leaf_path k line item todo s next last draws is_leaf can gives p
+  leaf_ends k line item todo s next draws (Dead u) is_leaf can gives p = tt
+  leaf_ends k line item todo s next draws (GaveUp u) is_leaf can gives p = tt
+
+  label_ends : (k name : ℕ) (todo : List (ℕ × Item)) (s : Shown) (o : Outcome Shown) → can_be_taken s k (items.Label name) → EndsInPath todo (draft_rules.label k name s) o → EndsInPath ((k, items.Label name) ∷ todo) s o
+  label_ends k name todo s (Finished last u) can p = label_path k name todo s last can p
+  label_ends k name todo s (Dead u) can p = tt
+  label_ends k name todo s (GaveUp u) can p = tt
+
+  -- the same path, through items that are laid out alike
+  alike_ends : (todo other : List (ℕ × Item)) (s : Shown) (o : Outcome Shown) → ((choices : List ℕ) → laid_out other choices ≡ laid_out todo choices) → ((m : ℕ) → AreNamedAhead other m → AreNamedAhead todo m) → EndsInPath todo s o → EndsInPath other s o
+  alike_ends todo other s (Finished last u) same ahead p = record { choices = p.choices; ps = p.ps; laid = same p.choices ∙ p.laid; taken = p.taken; made = p.made; order = λ m named. p.order m (ahead m named); tested = p.tested }
+  alike_ends todo other s (Dead u) same ahead p = tt
+  alike_ends todo other s (GaveUp u) same ahead p = tt
+
+  choice_ends : (k line : ℕ) (ways : Vec (ℕ × Vec Item Global) Global) (todo : List (ℕ × Item)) (s : Shown) (o : Outcome Shown) → IsTest (whole s.now) → EndsInWay ways.items k todo s o → EndsInPath ((k, views.Choose line ways) ∷ todo) s o
+  choice_ends k line ways todo s (Finished last u) test p = choice_path k line ways todo s last p.0 test p.1 p.2
+  choice_ends k line ways todo s (Dead u) test p = tt
+  choice_ends k line ways todo s (GaveUp u) test p = tt
+
+  mutual
+    pub walk_ends : {todo : List (ℕ × Item)} {s : Shown} {t : Tally} {o : Outcome Shown} → Walks draft_rules turns todo s t o → IsCarried todo s → EndsInPath todo s o
+    walk_ends {todo} {s} finished c = record { choices = []; ps = []; laid = refl; taken = sym (append-nil s.now.choices); made = no_choices (whole s.now); order = λ m named. tt; tested = c.test }
+    walk_ends (gives_up is_leaf over) c = tt
+    walk_ends {todo} {s} {t} {o} (taken is_leaf lt gives walks) c =
+        leaf_ends _ _ _ _ s _ _ o is_leaf (first_leaf (can_be_taken s) _ _ _ _ is_leaf c.ready) gives (walk_ends walks (leaf_carried _ _ _ _ s _ t is_leaf c gives))
+    walk_ends (unfit is_leaf lt gives) c = tt
+    walk_ends (too_large is_leaf lt gives) c = tt
+    walk_ends {todo} {s} {t} {o} (label name walks) c = label_ends _ name _ s o (first_label (can_be_taken s) _ name _ c.ready) (walk_ends walks (label_carried _ name _ s c))
+    walk_ends {todo} {s} {t} {o} (seq body walks) c = alike_ends _ _ s o (laid_seq _ _ body) (λ m named. seq_ahead _ _ m body named) (walk_ends walks (record { ready = first_seq (can_be_taken s) _ body _ c.ready; test = c.test }))
+    walk_ends {todo} {s} {t} {o} (rep times body walks) c = alike_ends _ _ s o (laid_repeat _ _ times body) (λ m named. repeat_ahead _ _ m times body named) (walk_ends walks (record { ready = first_repeat (can_be_taken s) _ times body _ c.ready; test = c.test }))
+    walk_ends {todo} {s} {t} {o} (choose line ways tries) c =
+        choice_ends _ line ways _ s o c.test
+        (try_ends ways.items tries (each_in_turn _ ways.items _ (first_choose (can_be_taken s) _ line ways _ c.ready)) (ways_in_turn ways.items _) (record { ready = c.ready.1; test = c.test }))
+
+    try_ends : (all : List (ℕ × Vec Item Global)) {k : ℕ} {ways : List (ℕ × Vec Item Global)} {todo : List (ℕ × Item)} {s : Shown} {t : Tally} {o : Outcome Shown} → Tries draft_rules turns k ways todo s t o
+        → Each (λ body. AreAllowed (can_be_taken s) k (parts_of_body body.items)) ways → AreWays all ways → IsCarried todo s → EndsInWay all k todo s o
+    try_ends all none_left each are c = tt
+    try_ends all {k} {ways} {todo} {s} (leads {way = way} walks) each are c = (way, are.0, walk_ends walks (way_carried k way.0 way.1 todo s each.0 c))
+    try_ends all (stops walks) each are c = tt
+    try_ends all (goes_on walks tries) each are c = try_ends all tries each.1 are.1 c
+
+  -- ---- searches
+
+  abbrev pub ResultHasPath : List (ℕ × Item) → Shown → SearchResult Shown → Type 0
+  ResultHasPath todo first (Done last t) = IsPath todo first last
+  ResultHasPath todo first (NoTest t) = Unit {0}
+
+  pub search_ends : {todo : List (ℕ × Item)} {first : Shown} {o : Outcome Shown} {r : SearchResult Shown} → IsCarried todo first → ComesTo (Walks draft_rules turns todo first) o r → EndsInPath todo first o → ResultHasPath todo first r
+  search_ends c done ends = ends
+  search_ends c gave_up ends = tt
+  search_ends c (again walks comes) ends = search_ends c comes (walk_ends walks c)

@@ -1,0 +1,34 @@
+-- Laws of the search for a test of a template.
+use Rattle.std.specs.Prelude.{◌≡◌, ℕ, true, List}
+use Rattle.tpl_ast.specs.declared.template.HartDecl.{HartDecl}
+use Rattle.tpl_ast.specs.declared.template.Template.{Template}
+use Rattle.tpl_ast.specs.Parsing.{Parses}
+use Rattle.tpl_admit.specs.declared.certificate.Cert.{Cert}
+use Rattle.tpl_admit.specs.Admission.{Admits}
+use Rattle.part_state.specs.State.{whole}
+use Rattle.part_state.specs.Told.{Tells}
+use Rattle.gen_search.specs.Ready.{BodiesAreReady}
+use Rattle.gen_search.specs.declared.draws.Tally.{Tally}
+use Rattle.gen_search.specs.Search.{Done, SearchResult, Searches}
+use Rattle.gen_turn.specs.declared.making.Generated.{Generated}
+use Rattle.gen_turn.specs.Built.{is_template_built}
+use Rattle.gen_turn.specs.Generating.{Comes, IsGenerated}
+use Rattle.gen_turn.specs.Rules.{Shown, can_be_taken, draft_rules}
+
+-- two results of a search from one test, on which all leaves and labels can be taken, are one
+abbrev pub SearchesHaveOneResult : Type 0
+SearchesHaveOneResult =
+    (harts : List HartDecl) (seed turns : ℕ) (first : Shown) (r s : SearchResult Shown) → BodiesAreReady (can_be_taken first) harts
+    → Searches draft_rules harts seed turns first r → Searches draft_rules harts seed turns first s → r ≡ s
+
+-- what is made of a template that this build takes, of a seed and of the budgets is one
+abbrev pub GeneratedIsOne : Type 0
+GeneratedIsOne =
+    (t : Template) (seed nodes turns : ℕ) (a b : Generated) → Parses t.text t → is_template_built t ≡ true
+    → IsGenerated t seed nodes turns a → IsGenerated t seed nodes turns b → a ≡ b
+
+-- the certificate of a test in which a search is done is admitted by its template
+abbrev pub DoneTestsAreAdmitted : Type 0
+DoneTestsAreAdmitted =
+    (t : Template) (seed nodes turns : ℕ) (last : Shown) (tally : Tally) (c : Cert) → Parses t.text t → is_template_built t ≡ true
+    → Comes t seed nodes turns (Done last tally) → Tells t (whole last.now) c → Admits c

@@ -1,0 +1,58 @@
+// Laws of the search for a test of a template.
+ghost use Rattle.gen_search.specs.Laws.{HasOneAnswer, StillAllows};
+ghost use Rattle.gen_turn.specs.Laws.{DoneTestsAreAdmitted, GeneratedIsOne, SearchesHaveOneResult};
+ghost use Rattle.gen_turn.specs.Rules.{can_be_taken, draft_rules};
+
+use crate::built::built_templates_are_ready;
+use crate::draft::Draft;
+use gen_search::search_laws;
+use leaf_link::{
+    fetches_have_one_answer, met_atoms_are_true, steps_are_fetched, values_are_by_places,
+};
+use leaf_turn::{answers_are_found, built_leaves_are_posable, takings_are_one};
+use tpl_ast::template_law;
+use turn_laws::given_places_are_known;
+
+/// Does nothing. Its contract says that a leaf turn that can be taken has one answer at most, and that what can be taken
+/// on a test can be taken on those that a leaf turn, a label and a choice make of it.
+pub fn turns_have_one_answer()
+    ensures one { HasOneAnswer can_be_taken draft_rules }
+    ensures still { StillAllows can_be_taken draft_rules }
+{
+    leaf_link::turns_have_one_answer();
+    fetches_have_one_answer();
+    values_are_by_places();
+    given_places_are_known();
+    answers_are_found();
+    built_leaves_are_posable();
+    takings_are_one();
+}
+
+/// Does nothing. Its contract says that the search from a test on which all leaves and labels of its template can be
+/// taken has one result at most.
+pub fn searches_have_one_result()
+    ensures { SearchesHaveOneResult }
+{
+    turns_have_one_answer();
+    search_laws::<Draft>();
+}
+
+/// Does nothing. Its contract says that what is made of a template, of a seed and of the budgets is one: the same test, or
+/// that the search gave up with the same numbers.
+pub fn generated_is_one()
+    ensures { GeneratedIsOne }
+{
+    searches_have_one_result();
+    built_templates_are_ready();
+}
+
+/// Does nothing. Its contract says that the certificate of a test in which a search is done is admitted by its template.
+pub fn done_tests_are_admitted()
+    ensures { DoneTestsAreAdmitted }
+{
+    template_law();
+    built_templates_are_ready();
+    turns_have_one_answer();
+    met_atoms_are_true();
+    steps_are_fetched();
+}
