@@ -1,9 +1,9 @@
 -- A test in which a search is done is one that its template admits.
-use Rattle.std.proofs.Common.{◌≡◌, ℕ, zero, suc, ◌+◌, ◌*◌, ◌/◌, ◌%◌, ◌<◌, ◌≤◌, ◌&&◌, ◌||◌, ◌==◌, Bool, true, false, not, eqb, if◌then◌else◌, List, [], ◌∷◌, ◌++◌, get_or, length, map, take, Option, Some, None, refl, sym, ap, ◌∙◌, subst, arith}
-use Rattle.std.specs.Prelude.{replicate, slice_index_or}
+use Rattle.std.proofs.Common.{◌≡◌, ℕ, zero, suc, ◌+◌, ◌*◌, ◌/◌, ◌<◌, ◌≤◌, ◌&&◌, ◌||◌, ◌==◌, Bool, true, false, not, if◌then◌else◌, List, [], ◌∷◌, ◌++◌, length, map, Option, Some, None, refl, sym, ap, ◌∙◌, subst, arith}
+use Rattle.std.specs.Prelude.{slice_index_or}
 use Rattle.std.specs.List.{AllByRecursion, list_all}
-use Rattle.std.proofs.lemmas.Bool.{eq-eqb, eqb-true, ne_eqb}
-use Rattle.std.proofs.lemmas.List.{get_or-map, length-map, length-replicate}
+use Rattle.std.proofs.lemmas.Bool.{eq-eqb, ne_eqb}
+use Rattle.std.proofs.lemmas.List.{get_or-map}
 use Rattle.rv_script.specs.Logs.{or_else}
 use Rattle.rv_hart.specs.declared.record.Record.{Record}
 use Rattle.rv_hart.specs.Fixed.{Fixed}
@@ -11,30 +11,24 @@ use Rattle.tpl_ast.specs.declared.template.HartDecl.{HartDecl}
 use Rattle.tpl_ast.specs.declared.template.HartState.{HartState}
 use Rattle.tpl_ast.specs.declared.template.Item.{Item}
 use Rattle.tpl_ast.specs.declared.template.Template.{Template}
-use Rattle.tpl_ast.specs.Expansion.{Laid, Piece, layout_of, layout_of_item}
+use Rattle.tpl_ast.specs.Expansion.{Piece, layout_of, layout_of_item}
 use Rattle.tpl_ast.specs.States.{ArePlaces, IsState, is_in}
 use Rattle.tpl_ast.specs.Templates.{KeepsLimits}
-use Rattle.tpl_admit.specs.declared.admission.Unmet.{Unmet}
-use Rattle.tpl_admit.specs.declared.certificate.Cert.{Cert}
-use Rattle.tpl_admit.specs.Admission.{Admits, trace_in}
-use Rattle.tpl_admit.specs.Admitting.{Failure, IsAdmitted, Trace, choices_over, context_of, failures_from, failures_in, failures_of, first_stand, gives, has_words, hart_failures, is_value, no_atom, no_values, of_hart, start_failures, starts_as, with_given}
+use Rattle.tpl_admit.specs.Admitting.{Failure, Trace, choices_over, context_of, failures_from, failures_in, first_stand, gives, has_words, hart_failures, no_atom, no_values, of_hart, start_failures, starts_as, with_given}
 use Rattle.tpl_admit.specs.Starts.{fixed_in as fixed_of_state, found, no_state}
 use Rattle.part_laws.specs.Partial.{Held, Partial}
 use Rattle.part_machine.specs.Whole.{Bare, Whole, first_of, given, hart_of, no_hart, records_of}
 use Rattle.part_state.specs.Beginning.{IsBegun, start_in}
 use Rattle.part_state.specs.Meaning.{IsTest, held_in, partial_of, value_of_key}
-use Rattle.part_state.specs.State.{Test, whole}
-use Rattle.part_state.specs.Told.{Tells}
 use Rattle.part_state.proofs.KnownPlaces.{places_known}
 use Rattle.part_told.specs.Finishing.{known_from, known_one, places_in, told_state}
 use Rattle.gen_search.specs.Search.{all_items, of_hart as items_of_hart}
 use Rattle.turn_laws.specs.Laws.{IsStartOn}
 use Rattle.gen_turn.proofs.FirstStands.{first_register, first_size, first_zero, places_given, starts_so, word_aligned, words_given}
-use Rattle.gen_turn.proofs.Filled.{IsFilled}
-use Rattle.gen_turn.proofs.HartRuns.{AreFrom, IsAt, IsBehind, IsFree, IsKeptFor, hart_runs, made_later}
+use Rattle.gen_turn.proofs.HartRuns.{AreFrom, IsAt, IsBehind, IsFree, hart_runs, made_later}
 use Rattle.gen_turn.proofs.Laying.{LaidOut, Tagged, all_tagged, followed, laid_append, laid_body, laid_out, tagged}
 use Rattle.gen_turn.proofs.NamesAhead.{AreInOrder}
-use Rattle.gen_turn.proofs.Paths.{Made}
+use Rattle.gen_turn.proofs.Paths.{Made, sets_of}
 
 -- ---- names as a certificate lists them
 
@@ -185,9 +179,9 @@ module _ (t : Template) (keeps : KeepsLimits t.text t) (begun last : Whole) (is 
     pub records : records_of j w ≡ []
     pub now : (partial_of w).harts j ≡ (partial_of w).start j
 
-  begins : (k : ℕ) (w : Whole) → k < length t.harts → IsStartOn (partial_of w) end → IsUnstarted k w → IsAt last names (name_found last.names) k w (first_stand told k)
+  begins : (k : ℕ) (w : Whole) → k < length t.harts → IsStartOn (partial_of w) end → IsUnstarted k w → IsAt (sets_of t) last names (name_found last.names) k w (first_stand told k)
   begins k w lt on fresh =
-      subst (λ (s : HartState). IsAt last names (name_found last.names) k w (record { step = 0; pc = s.pc; regs = with_given s.places no_values; records = records_of k last })) (sym (state_at k lt))
+      subst (λ (s : HartState). IsAt (sets_of t) last names (name_found last.names) k w (record { step = 0; pc = s.pc; regs = with_given s.places no_values; records = records_of k last })) (sym (state_at k lt))
       (record {
         step = sym (ap length fresh.records);
         pc = ap (λ (f : Fixed). f.pc) (on.fixed k) ∙ sym (ap (λ (h : Held). h.fixed.pc) fresh.now);
@@ -211,11 +205,11 @@ module _ (t : Template) (keeps : KeepsLimits t.text t) (begun last : Whole) (is 
 
   -- ---- all harts
 
-  fresh_kept : (j k : ℕ) (w : Whole) (rest : List Tagged) → (j ≡ k → ⊥) → (b : IsBehind last names (name_found last.names) k rest w) → IsUnstarted j w → IsUnstarted j b.test
+  fresh_kept : (j k : ℕ) (w : Whole) (rest : List Tagged) → (j ≡ k → ⊥) → (b : IsBehind (sets_of t) last names (name_found last.names) k rest w) → IsUnstarted j w → IsUnstarted j b.test
   fresh_kept j k w rest apart b fresh = let kept = b.kept j apart in record { records = kept.records ∙ fresh.records; now = kept.now ∙ fresh.now ∙ sym kept.first }
 
   pub harts_admitted : (k : ℕ) (hs : List HartDecl) (choices : List ℕ) (w : Whole) (m : ℕ) (ps : List Tagged) → k + length hs ≡ length t.harts → ((j : ℕ) → slice_index_or (map (λ (d : HartDecl). d.start) hs) j no_state ≡ start_in t.harts (k + j))
-      → laid_out (all_items k hs) choices ≡ record { pieces = ps; left = Some [] } → Made last ps w → AreInOrder ps m → IsFree last names (name_found last.names) w m → ((j : ℕ) → k ≤ j → j < length t.harts → IsUnstarted j w)
+      → laid_out (all_items k hs) choices ≡ record { pieces = ps; left = Some [] } → Made (sets_of t) last ps w → AreInOrder ps m → IsFree (sets_of t) last names (name_found last.names) w m → ((j : ℕ) → k ≤ j → j < length t.harts → IsUnstarted j w)
       → failures_from told k hs (Some choices) ≡ []
   harts_admitted k [] choices w m ps size states laid made order free fresh =
       let none : Some choices ≡ Some [] = ap (λ (l : LaidOut). l.left) laid in
@@ -231,7 +225,7 @@ module _ (t : Template) (keeps : KeepsLimits t.text t) (begun last : Whole) (is 
       whole_laid = sym (laid_append (items_of_hart k h.body.items) (all_items (k + 1) hs) choices ∙ ap (λ (l : LaidOut). followed l (laid_out (all_items (k + 1) hs))) (laid_body k h.body.items choices)) ∙ laid
 
       go : (left : Option (List ℕ)) → (layout_of h.body.items choices).left ≡ left
-          → ((cs : List ℕ) (v : Whole) (n : ℕ) (qs : List Tagged) → laid_out (all_items (k + 1) hs) cs ≡ record { pieces = qs; left = Some [] } → Made last qs v → AreInOrder qs n → IsFree last names (name_found last.names) v n
+          → ((cs : List ℕ) (v : Whole) (n : ℕ) (qs : List Tagged) → laid_out (all_items (k + 1) hs) cs ≡ record { pieces = qs; left = Some [] } → Made (sets_of t) last qs v → AreInOrder qs n → IsFree (sets_of t) last names (name_found last.names) v n
           → ((j : ℕ) → k + 1 ≤ j → j < length t.harts → IsUnstarted j v) → failures_from told (k + 1) hs (Some cs) ≡ [])
           → failures_from told k (h ∷ hs) (Some choices) ≡ []
       go None is_left later =
@@ -241,11 +235,11 @@ module _ (t : Template) (keeps : KeepsLimits t.text t) (begun last : Whole) (is 
           let split = sym (followed_some (all_tagged k (layout_of h.body.items choices)) (laid_out (all_items (k + 1) hs)) cs is_left) ∙ whole_laid in
           let pieces_are : tagged k (layout_of h.body.items choices).pieces ++ (laid_out (all_items (k + 1) hs) cs).pieces ≡ ps = ap (λ (l : LaidOut). l.pieces) split in
           let left_is : (laid_out (all_items (k + 1) hs) cs).left ≡ Some [] = ap (λ (l : LaidOut). l.left) split in
-          let runs = hart_runs last names (name_found last.names) k (layout_of h.body.items choices).pieces (laid_out (all_items (k + 1) hs) cs).pieces w (first_stand told k) m
+          let runs = hart_runs (sets_of t) last names (name_found last.names) k (layout_of h.body.items choices).pieces (laid_out (all_items (k + 1) hs) cs).pieces w (first_stand told k) m
           (laid_from (k + 1) (all_items (k + 1) hs) (harts_from (k + 1) (k + 1) hs (omega arith)) cs)
-          (subst (λ (qs : List Tagged). Made last qs w) (sym pieces_are) made)
+          (subst (λ (qs : List Tagged). Made (sets_of t) last qs w) (sym pieces_are) made)
           (subst (λ (qs : List Tagged). AreInOrder qs m) (sym pieces_are) order) free
-          (begins k w lt (made_later last names (name_found last.names) ps w made).start (fresh k (omega arith) lt)) in
+          (begins k w lt (made_later (sets_of t) last names (name_found last.names) ps w made).start (fresh k (omega arith) lt)) in
           let own : hart_failures told k h (layout_of h.body.items choices).pieces ≡ [] =
           ap (λ (fs : List Failure). fs ++ failures_in (context_of told k) (layout_of h.body.items choices).pieces (first_stand told k)) (no_start_failure k h.start lt (states 0 ∙ (let z : k + 0 ≡ k = omega arith in ap (start_in t.harts) z)))
           ∙ runs.0 in

@@ -1,8 +1,8 @@
 -- The names that the step of a leaf binds, one atom after another.
-use Rattle.std.proofs.Common.{◌≡◌, ℕ, ◌+◌, ◌<◌, ◌≤◌, ◌&&◌, ◌||◌, Bool, true, false, eqb, if◌then◌else◌, List, [], ◌∷◌, length, get_or, get_or-set_other, get_or-set_same, Option, Some, None, ◌⊎◌, refl, sym, ap, ◌∙◌, subst, inl, inr, arith}
+use Rattle.std.proofs.Common.{◌≡◌, ℕ, zero, suc, ◌+◌, ◌<◌, ◌≤◌, ◌&&◌, ◌||◌, Bool, true, false, if◌then◌else◌, List, [], ◌∷◌, length, length-set, get_or-set_other, get_or-set_same, Option, Some, None, ◌⊎◌, refl, sym, ap, ◌∙◌, subst, inl, inr, arith}
 use Rattle.std.specs.Prelude.{is_some, slice_index_or, slice_set}
 use Rattle.std.specs.List.{list_all}
-use Rattle.std.proofs.lemmas.Bool.{and_parts, cases_eq, eq-eqb, ltb-true, ne_eqb}
+use Rattle.std.proofs.lemmas.Bool.{and_parts, cases_eq, cases_lt, eq-eqb, ltb-true, ne_eqb}
 use Rattle.tpl_ast.specs.declared.template.Atom.{Atom}
 use Rattle.tpl_ast.specs.declared.template.Atom.TheVariants as atoms
 use Rattle.tpl_ast.specs.declared.template.Var.{Var}
@@ -153,3 +153,68 @@ names_above values dropped m n le bias [] names h = refl
 names_above values dropped m n le bias (w ∷ ws) names h =
     let p = and_parts (is_name_below m w.atom) _ h in
     names_above values dropped m n le (next_bias bias w) ws (bound_by_wish values dropped bias w names) p.1 ∙ wish_past values dropped bias w names n (below_past m n w.atom p.0 le)
+
+-- ---- where the value of a name comes from
+
+past_none : (xs : List (Option ℕ)) (n : ℕ) → length xs ≤ n → slice_index_or xs n None ≡ None
+past_none [] n le = refl
+past_none (x ∷ xs) zero le = absurd (omega (arith, le))
+past_none (x ∷ xs) (suc n) le = past_none xs n (omega (arith, le))
+
+pub value_was : (m : ℕ) (o : Option ℕ) (names : List (Option ℕ)) (n v : ℕ) → slice_index_or (with_name m o names) n None ≡ Some v → (slice_index_or names n None ≡ Some v) ⊎ ((m ≡ n) × (o ≡ Some v))
+value_was m None names n v h = inl h
+value_was m (Some u) names n v h = go (is_some (slice_index_or names m None)) h
+  where
+    here : m ≡ n → (length names ≤ m) ⊎ (m < length names) → slice_index_or (slice_set names m (Some u)) n None ≡ Some v → (slice_index_or names n None ≡ Some v) ⊎ ((m ≡ n) × (Some u ≡ Some v))
+    here same (inl past) h =
+        let none : slice_index_or (slice_set names m (Some u)) n None ≡ None = past_none (slice_set names m (Some u)) n (let size = length-set names m (Some u) in omega (arith, past, same, size)) in
+        absurd (cc (sym none ∙ h))
+    here same (inr lt) h = inr (same, sym (ap (λ (i : ℕ). slice_index_or (slice_set names m (Some u)) i None) (sym same) ∙ get_or-set_same names m (Some u) None lt) ∙ h)
+
+    go : (b : Bool) → slice_index_or (if b then names else slice_set names m (Some u)) n None ≡ Some v → (slice_index_or names n None ≡ Some v) ⊎ ((m ≡ n) × (Some u ≡ Some v))
+    go true h = inl h
+    go false h = elim (cases_eq m n) [
+      | inl same ↦ here same (sized (cases_lt m (length names))) h
+      | inr apart ↦ inl (sym (get_or-set_other names m n (Some u) None (λ e. apart (sym e))) ∙ h)
+    ]
+      where
+        sized : (m < length names) ⊎ (length names ≤ m) → (length names ≤ m) ⊎ (m < length names)
+        sized (inl lt) = inr lt
+        sized (inr le) = inl le
+
+-- an atom of the leaf that isn't dropped binds the name to this value
+pub record IsBoundBy (values : Var → Option ℕ) (dropped : List (ℕ × Bool)) (ws : List Wish) (n0 b0 n v : ℕ) : Type 0 where
+  pub wish : Wish
+  pub place : ℕ
+  pub bias : ℕ
+  pub var : Var
+  pub at : IsWishAt ws n0 b0 wish place bias
+  pub names : wish.atom ≡ atoms.Is var n
+  pub kept : (wish.prefer && is_listed dropped bias) ≡ false
+  pub value : values var ≡ Some v
+
+atom_was : (values : Var → Option ℕ) (atom : Atom) (names : List (Option ℕ)) (n v : ℕ) → slice_index_or (bound_with values atom names) n None ≡ Some v
+    → (slice_index_or names n None ≡ Some v) ⊎ ((u : Var) × (atom ≡ atoms.Is u n) × (values u ≡ Some v))
+atom_was values (atoms.Is u m) names n v h = elim (value_was m (values u) names n v h) [ inl old ↦ inl old | inr new ↦ inr (u, ap (atoms.Is u) new.0, new.1) ]
+atom_was values (atoms.In u set) names n v h = inl h
+atom_was values (atoms.NotIn u set) names n v h = inl h
+atom_was values (atoms.Same u y) names n v h = inl h
+atom_was values (atoms.Differ u y) names n v h = inl h
+atom_was values atoms.Taken names n v h = inl h
+atom_was values atoms.NotTaken names n v h = inl h
+atom_was values atoms.Shared names n v h = inl h
+
+pub name_was : (values : Var → Option ℕ) (dropped : List (ℕ × Bool)) (ws : List Wish) (n0 b0 : ℕ) (names : List (Option ℕ)) (n v : ℕ) → slice_index_or (names_bound values dropped b0 ws names) n None ≡ Some v
+    → (slice_index_or names n None ≡ Some v) ⊎ IsBoundBy values dropped ws n0 b0 n v
+name_was values dropped [] n0 b0 names n v h = inl h
+name_was values dropped (w ∷ ws) n0 b0 names n v h = elim (name_was values dropped ws (n0 + 1) (next_bias b0 w) (bound_by_wish values dropped b0 w names) n v h) [
+  | inl old ↦ go (w.prefer && is_listed dropped b0) refl old
+  | inr later ↦ inr (record { wish = later.wish; place = later.place; bias = later.bias; var = later.var; at = inr later.at; names = later.names; kept = later.kept; value = later.value })
+]
+  where
+    go : (b : Bool) → (w.prefer && is_listed dropped b0) ≡ b → slice_index_or (if b then names else bound_with values w.atom names) n None ≡ Some v → (slice_index_or names n None ≡ Some v) ⊎ IsBoundBy values dropped (w ∷ ws) n0 b0 n v
+    go true is h = inl h
+    go false is h = elim (atom_was values w.atom names n v h) [
+      | inl old ↦ inl old
+      | inr new ↦ inr (record { wish = w; place = n0; bias = b0; var = new.0; at = inl (refl, refl, refl); names = new.1; kept = is; value = new.2 })
+    ]

@@ -1,6 +1,5 @@
 -- What stays to the end of a search.
-use Rattle.std.proofs.Common.{◌≡◌, ℕ, ◌+◌, List, [], ◌∷◌, length, length-set, Bool, refl, sym, ap, ◌∙◌, subst}
-use Rattle.std.specs.Prelude.{slice_set}
+use Rattle.std.proofs.Common.{◌≡◌, ℕ, List, [], ◌∷◌, length, length-set, Bool, refl, sym, ap, ◌∙◌, subst}
 use Rattle.std.specs.Prelude.{Vec}
 use Rattle.std.specs.Global.{Global}
 use Rattle.rv_script.specs.declared.place.Place.{Place}
@@ -9,7 +8,6 @@ use Rattle.tpl_ast.specs.declared.template.Item.{Item}
 use Rattle.tpl_ast.specs.declared.template.Wish.{Wish}
 use Rattle.part_machine.specs.Whole.{Whole}
 use Rattle.part_state.specs.Meaning.{place_given}
-use Rattle.part_state.specs.State.{whole}
 use Rattle.fd_solve.specs.declared.answers.Solved.{Solved}
 use Rattle.fd_solve.specs.declared.answers.Solved.TheVariants as answers
 use Rattle.leaf_link.specs.Values.{Values}
@@ -18,14 +16,14 @@ use Rattle.gen_search.specs.declared.draws.Tally.{Tally}
 use Rattle.gen_search.specs.Search.{ComesTo, ComesTo.done, ComesTo.gave_up, ComesTo.again, Done, IsLeaf, IsLeaf.leaf, IsLeaf.fault, NoTest, Outcome, Finished, Dead, GaveUp, SearchResult, Tries, Tries.none_left, Tries.leads, Tries.stops, Tries.goes_on, Turned, Turned.Taken, Turned.NoneFits, Turned.Spent, Walks, Walks.finished, Walks.gives_up, Walks.taken, Walks.unfit, Walks.too_large, Walks.label, Walks.seq, Walks.rep, Walks.choose}
 use Rattle.gen_turn.specs.Drafts.{Drafted, at_test}
 use Rattle.gen_turn.specs.Generating.{IsOfStart}
-use Rattle.gen_turn.specs.Rules.{Shown, draft_of, draft_rules, shown_as, turn_shown}
-use Rattle.gen_turn.specs.Turns.{EndsAs, GoesOn, IsDone, IsFailed, IsLeafTaken, IsTurnedTo}
+use Rattle.gen_turn.specs.Rules.{Shown, draft_of, draft_rules, turn_shown}
+use Rattle.gen_turn.specs.Turns.{EndsAs, GoesOn, IsLeafTaken, IsTurnedTo}
 
 -- ---- wholes
 
-record Stays (old new : Whole) : Type 0 where
-  ram : new.ram ≡ old.ram
-  harts : length new.harts ≡ length old.harts
+pub record Stays (old new : Whole) : Type 0 where
+  pub ram : new.ram ≡ old.ram
+  pub harts : length new.harts ≡ length old.harts
 
 stays_then : (a b c : Whole) → Stays a b → Stays b c → Stays a c
 stays_then a b c one two = record { ram = two.ram ∙ one.ram; harts = two.harts ∙ one.harts }
@@ -51,12 +49,12 @@ taken_stays k ws dropped x old after l =
 
 -- ---- turns
 
-record IsSameStart (d e : Drafted) : Type 0 where
-  template : e.template ≡ d.template
-  nodes : e.nodes ≡ d.nodes
-  stays : Stays d.now e.now
+pub record IsSameStart (d e : Drafted) : Type 0 where
+  pub template : e.template ≡ d.template
+  pub nodes : e.nodes ≡ d.nodes
+  pub stays : Stays d.now e.now
 
-abbrev StartIsKept : Drafted → Turned Drafted → Type 0
+abbrev pub StartIsKept : Drafted → Turned Drafted → Type 0
 StartIsKept d (Taken e) = IsSameStart d e
 StartIsKept d NoneFits = Unit {0}
 StartIsKept d Spent = Unit {0}
@@ -77,7 +75,7 @@ goes_keeps d k ws draws (answers.Found x) r a =
 goes_keeps d k ws draws answers.NoneFits r a = subst (StartIsKept d) (sym a) tt
 goes_keeps d k ws draws answers.Spent r a = subst (StartIsKept d) (sym a) tt
 
-turned_keeps : (d : Drafted) (k : ℕ) (i : Item) (line : ℕ) (draws : List ℕ) (r : Turned Drafted) → IsLeaf i line → IsTurnedTo d k i draws r → StartIsKept d r
+pub turned_keeps : (d : Drafted) (k : ℕ) (i : Item) (line : ℕ) (draws : List ℕ) (r : Turned Drafted) → IsLeaf i line → IsTurnedTo d k i draws r → StartIsKept d r
 turned_keeps d k i line draws r (leaf _ wishes) is = goes_keeps d k wishes.items draws is.fetch r is.goes_on
 turned_keeps d k i line draws r (fault _ causes) is = ended_keeps d k [] [] is.fetch r is.ends
 

@@ -1,5 +1,5 @@
 -- The answer of a leaf's fetch where no address is translated: the pc leads to itself where it is one of RAM, and nothing is started.
-use Rattle.std.proofs.Common.{◌≡◌, ℕ, ◌<◌, ◌≤◌, Bool, true, false, if◌then◌else◌, leb, List, [], ◌∷◌, Option, Some, None, refl, sym, ap, ◌∙◌, subst, arith}
+use Rattle.std.proofs.Common.{◌≡◌, ℕ, ◌<◌, ◌≤◌, Bool, true, false, if◌then◌else◌, List, [], ◌∷◌, Option, Some, None, refl, sym, ap, ◌∙◌, subst, arith}
 use Rattle.rv_script.specs.declared.place.Place.{Place}
 use Rattle.rv_script.specs.Folds.{Answer.Does, Entry, Known, Teller, by_known}
 use Rattle.rv_script.specs.Logs.{answer_told, by_answers, enlarged, log_of, started, where_unknown}

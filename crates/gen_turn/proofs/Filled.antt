@@ -1,19 +1,18 @@
 -- The registers of a hart as admission follows them: those that are known of it, and of the others the values that the start will give them.
-use Rattle.std.proofs.Common.{◌≡◌, ℕ, zero, suc, ◌+◌, ◌<◌, ◌≤◌, Bool, true, false, eqb, ltb, if◌then◌else◌, List, [], ◌∷◌, length, length-set, get_or-set_other, get_or-set_same, Option, Some, None, refl, sym, ap, ◌∙◌, subst, inl, inr, arith}
+use Rattle.std.proofs.Common.{◌≡◌, ℕ, zero, suc, ◌+◌, ◌<◌, ◌≤◌, Bool, ltb, if◌then◌else◌, List, length, length-set, get_or-set_other, get_or-set_same, Option, Some, None, refl, sym, ap, ◌∙◌, inl, inr, arith}
 use Rattle.std.specs.Option.{option_or}
 use Rattle.std.specs.Prelude.{slice_index_or, slice_set}
 use Rattle.std.proofs.lemmas.Bool.{cases_eq, cases_lt, eq-eqb, lt-ltb, ne_eqb}
-use Rattle.rv_csr.specs.Table.{csr_address}
 use Rattle.rv_script.specs.declared.access.Access.{Access}
 use Rattle.rv_script.specs.declared.place.Place.{Place}
 use Rattle.rv_script.specs.declared.place.Place.TheVariants.{Reg}
 use Rattle.rv_script.specs.Folds.{Known}
 use Rattle.rv_script.specs.Logs.{or_else}
 use Rattle.rv_hart.specs.declared.record.Change.{Change}
-use Rattle.rv_hart.specs.Changes.{IsSoundWrite, csrs_after, given_by, writes_of}
-use Rattle.rv_hart.specs.Fixed.{Fixed, fixed_csrs}
+use Rattle.rv_hart.specs.Changes.{IsSoundWrite, csrs_after, given_by}
+use Rattle.rv_hart.specs.Fixed.{fixed_csrs}
 use Rattle.tpl_admit.specs.Admitting.{written}
-use Rattle.part_laws.specs.Partial.{Held, Partial, advanced, held_after}
+use Rattle.part_laws.specs.Partial.{Partial, advanced, held_after}
 use Rattle.part_machine.specs.Whole.{Whole}
 use Rattle.part_state.specs.Meaning.{IsTest, partial_of}
 use Rattle.part_state.proofs.Keys.{none_low}

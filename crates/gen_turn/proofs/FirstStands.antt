@@ -1,5 +1,5 @@
 -- Where admission begins with a hart: the start of the certificate has all that the template says, and gives the registers.
-use Rattle.std.proofs.Common.{◌≡◌, ℕ, zero, suc, ◌+◌, ◌*◌, ◌/◌, ◌%◌, ◌<◌, ◌≤◌, ◌&&◌, ◌==◌, Bool, true, false, eqb, ltb, if◌then◌else◌, List, [], ◌∷◌, ◌++◌, drop, get_or, get_or-set_other, get_or-set_same, length, length-set, Option, Some, None, refl, sym, ap, ◌∙◌, subst, arith, inl, inr}
+use Rattle.std.proofs.Common.{◌≡◌, ℕ, zero, suc, ◌+◌, ◌%◌, ◌<◌, ◌≤◌, ◌==◌, Bool, true, false, eqb, ltb, if◌then◌else◌, List, [], ◌∷◌, ◌++◌, drop, get_or, get_or-set_other, get_or-set_same, length, length-set, Option, Some, None, refl, sym, ap, ◌∙◌, subst, arith}
 use Rattle.std.specs.Prelude.{replicate, slice_index_or, slice_set}
 use Rattle.std.specs.List.{list_all}
 use Rattle.std.proofs.lemmas.Bool.{and_from, eq-eqb, eqb-true, lt-ltb, ne_eqb}
@@ -14,12 +14,10 @@ use Rattle.tpl_ast.specs.States.{ArePlaces, AreStartWords}
 use Rattle.tpl_admit.specs.Admitting.{gives, is_same_level, is_value, no_values, starts_as, with_given}
 use Rattle.tpl_admit.specs.Starts.{fixed_in as fixed_of_state, found}
 use Rattle.rv_hart.specs.Fixed.{Fixed}
-use Rattle.part_laws.specs.Partial.{Partial}
-use Rattle.part_machine.specs.Whole.{Bare, Whole, first_of}
-use Rattle.part_state.specs.Meaning.{IsFit, partial_of, value_of_key}
+use Rattle.part_machine.specs.Whole.{Bare}
+use Rattle.part_state.specs.Meaning.{IsFit, value_of_key}
 use Rattle.part_state.proofs.Keys.{high_key}
-use Rattle.part_state.proofs.KnownPlaces.{places_known}
-use Rattle.part_told.specs.Finishing.{known_csrs, known_from, known_one, places_in, told_state, csr_addresses}
+use Rattle.part_told.specs.Finishing.{known_csrs, known_from, known_one, places_in, csr_addresses}
 
 -- ---- the registers
 

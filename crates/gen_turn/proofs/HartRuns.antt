@@ -1,5 +1,5 @@
 -- What hart k did, as admission goes through it: its pieces fail nowhere.
-use Rattle.std.proofs.Common.{◌≡◌, ℕ, zero, suc, ◌+◌, ◌<◌, ◌≤◌, ◌==◌, Bool, true, false, if◌then◌else◌, List, [], ◌∷◌, ◌++◌, append_assoc, append-nil, drop, get_or, get_or-set_other, get_or-set_same, length, map, take, Option, Some, None, refl, sym, ap, ◌∙◌, subst, arith}
+use Rattle.std.proofs.Common.{◌≡◌, ℕ, zero, suc, ◌+◌, ◌<◌, ◌≤◌, Bool, true, false, if◌then◌else◌, List, [], ◌∷◌, ◌++◌, append_assoc, append-nil, drop, get_or, get_or-set_other, get_or-set_same, length, take, Option, Some, None, refl, sym, ap, ◌∙◌, subst, arith}
 use Rattle.std.specs.Prelude.{is_some, slice_index_or, slice_set}
 use Rattle.std.specs.List.{list_any}
 use Rattle.std.proofs.lemmas.Bool.{eq-eqb}
@@ -7,14 +7,13 @@ use Rattle.rv_hart.specs.declared.record.Record.{Record}
 use Rattle.tpl_ast.specs.declared.template.Wish.{Wish}
 use Rattle.tpl_ast.specs.Expansion.{Piece}
 use Rattle.tpl_ast.specs.Expansion as pieces
-use Rattle.tpl_admit.specs.declared.dropped.Dropped.{Dropped}
-use Rattle.tpl_admit.specs.Admitting.{Context, Failure, Stand, at, failures_at, failures_in, here, is_unfetched, is_value, label_failures, leaf_failures, left_over, moment_of, stand_after, unmet_atoms, went_on, written}
+use Rattle.tpl_admit.specs.Admitting.{Context, Failure, Stand, at, failures_at, failures_in, here, is_value, leaf_failures, left_over, moment_of, unmet_atoms, went_on}
 use Rattle.part_laws.specs.Partial.{Partial}
 use Rattle.part_machine.specs.Whole.{Whole, hart_of, records_of}
 use Rattle.part_state.specs.Meaning.{partial_of}
 use Rattle.turn_laws.specs.Laws.{IsStartOn}
 use Rattle.turn_laws.proofs.Starts.{start_same, start_then}
-use Rattle.gen_turn.specs.Turns.{with_name, with_names}
+use Rattle.gen_turn.specs.Turns.{with_name}
 use Rattle.gen_turn.proofs.BoundNames.{value_kept}
 use Rattle.gen_turn.proofs.Filled.{IsFilled}
 use Rattle.gen_turn.proofs.Laying.{Tagged, tagged}
@@ -52,7 +51,7 @@ abbrev pub AreFrom : ℕ → List Tagged → Type 0
 AreFrom j [] = Unit {0}
 AreFrom j (p ∷ ps) = (j ≤ p.0) × AreFrom j ps
 
-module _ (last : Whole) (names : ℕ → Option ℕ) (named : (n v : ℕ) → slice_index_or last.names n None ≡ Some v → names n ≡ Some v) where
+module _ (sets : ℕ → List ℕ) (last : Whole) (names : ℕ → Option ℕ) (named : (n v : ℕ) → slice_index_or last.names n None ≡ Some v → names n ≡ Some v) where
   abbrev end : Partial
   end = partial_of last
 
@@ -67,7 +66,7 @@ module _ (last : Whole) (names : ℕ → Option ℕ) (named : (n v : ℕ) → sl
     start = subst (λ (x : Whole). IsStartOn (partial_of x) end) is.1 later.start;
   }
 
-  leaf_later : (k : ℕ) (ws : List Wish) (old after : Whole) → IsLeafDone k ws old after → Later after → Later old
+  leaf_later : (k : ℕ) (ws : List Wish) (old after : Whole) → IsLeafDone sets k ws old after → Later after → Later old
   leaf_later k ws old after done later = record {
     named = λ n v h. later.named n v (done.names n v h);
     listed = λ test h. later.listed test (done.listed test h);
@@ -81,7 +80,7 @@ module _ (last : Whole) (names : ℕ → Option ℕ) (named : (n v : ℕ) → sl
     start = record { fixed = later.start.fixed; places = later.start.places; words = later.start.words };
   }
 
-  pub made_later : (ps : List Tagged) (w : Whole) → Made last ps w → Later w
+  pub made_later : (ps : List Tagged) (w : Whole) → Made sets last ps w → Later w
   made_later [] w made = chosen_later w last made (record { named = named; listed = λ test h. h; start = start_same end })
   made_later ((k, pieces.Leaf ws) ∷ ps) w made = chosen_later w made.0 made.2 (leaf_later k ws made.0 made.1 made.4 (made_later ps made.1 made.5))
   made_later ((k, pieces.Label n) ∷ ps) w made = chosen_later w made.0 made.1 (label_later k n made.0 (made_later ps (labelled k n made.0) made.4))
@@ -89,14 +88,14 @@ module _ (last : Whole) (names : ℕ → Option ℕ) (named : (n v : ℕ) → sl
   made_later ((k, pieces.Stuck) ∷ ps) w made = absurd made
 
   -- what harts before did stays
-  pub made_traces : (j : ℕ) (ps : List Tagged) (w : Whole) → AreFrom j ps → Made last ps w → take j last.traces ≡ take j w.traces
+  pub made_traces : (j : ℕ) (ps : List Tagged) (w : Whole) → AreFrom j ps → Made sets last ps w → take j last.traces ≡ take j w.traces
   made_traces j [] w from made = ap (λ (x : Whole). take j x.traces) made.1
   made_traces j ((k, pieces.Leaf ws) ∷ ps) w from made = made_traces j ps made.1 from.1 made.5 ∙ made.4.traces j from.0 ∙ ap (λ (x : Whole). take j x.traces) made.2.1
   made_traces j ((k, pieces.Label n) ∷ ps) w from made = made_traces j ps (labelled k n made.0) from.1 made.4 ∙ ap (λ (x : Whole). take j x.traces) made.1.1
   made_traces j ((k, pieces.FetchFault causes) ∷ ps) w from made = absurd made
   made_traces j ((k, pieces.Stuck) ∷ ps) w from made = absurd made
 
-  pub made_records : (j : ℕ) (ps : List Tagged) (w : Whole) → AreFrom (j + 1) ps → Made last ps w → records_of j last ≡ records_of j w
+  pub made_records : (j : ℕ) (ps : List Tagged) (w : Whole) → AreFrom (j + 1) ps → Made sets last ps w → records_of j last ≡ records_of j w
   made_records j ps w from made = sym (taken_at j last.traces []) ∙ ap (λ (ts : List (List Record)). get_or ts j []) (made_traces (j + 1) ps w from made) ∙ taken_at j w.traces []
 
   -- ---- hart k as admission goes through it
@@ -142,7 +141,7 @@ module _ (last : Whole) (names : ℕ → Option ℕ) (named : (n v : ℕ) → sl
     -- behind the pieces of hart k
     pub record IsBehind (rest : List Tagged) (w : Whole) : Type 0 where
       pub test : Whole
-      pub made : Made last rest test
+      pub made : Made sets last rest test
       pub known : ℕ
       pub order : AreInOrder rest known
       pub free : IsFree test known
@@ -164,7 +163,7 @@ module _ (last : Whole) (names : ℕ → Option ℕ) (named : (n v : ℕ) → sl
     }
 
     -- a leaf
-    leaf_step : (ws : List Wish) (old after : Whole) (ps : List Tagged) (s : Stand) → IsLeafDone k ws old after → Made last ps after → IsAt old s → AreFrom k ps
+    leaf_step : (ws : List Wish) (old after : Whole) (ps : List Tagged) (s : Stand) → IsLeafDone sets k ws old after → Made sets last ps after → IsAt old s → AreFrom k ps
         → (rest : List Record) → records_of k last ≡ records_of k after ++ rest → (failures_at context (pieces.Leaf ws) s ≡ []) × IsAt after (went_on s s.records)
     leaf_step ws old after ps s done made a from rest is =
         let first : s.records ≡ done.record_is ∷ rest = same_rest (records_of k old) s.records (done.record_is ∷ rest) (sym a.records ∙ is ∙ ap (λ (rs : List Record). rs ++ rest) done.told ∙ append_assoc (records_of k old) (done.record_is ∷ []) rest) in
@@ -218,7 +217,7 @@ module _ (last : Whole) (names : ℕ → Option ℕ) (named : (n v : ℕ) → sl
     from_here (p ∷ ps) rest from = (omega arith, from_here ps rest from)
 
     -- records of hart k that are still to come
-    made_more : (ps : List Piece) (rest : List Tagged) (w : Whole) → AreFrom (k + 1) rest → Made last (tagged k ps ++ rest) w → (more : List Record) × (records_of k last ≡ records_of k w ++ more)
+    made_more : (ps : List Piece) (rest : List Tagged) (w : Whole) → AreFrom (k + 1) rest → Made sets last (tagged k ps ++ rest) w → (more : List Record) × (records_of k last ≡ records_of k w ++ more)
     made_more [] rest w from made = ([], made_records k rest w from made ∙ sym (append-nil (records_of k w)))
     made_more (pieces.Leaf ws ∷ ps) rest w from made =
         let m = made_more ps rest made.1 from made.5 in (
@@ -229,7 +228,7 @@ module _ (last : Whole) (names : ℕ → Option ℕ) (named : (n v : ℕ) → sl
     made_more (pieces.FetchFault causes ∷ ps) rest w from made = absurd made
     made_more (pieces.Stuck ∷ ps) rest w from made = absurd made
 
-    pub hart_runs : (ps : List Piece) (rest : List Tagged) (w : Whole) (s : Stand) (m : ℕ) → AreFrom (k + 1) rest → Made last (tagged k ps ++ rest) w → AreInOrder (tagged k ps ++ rest) m → IsFree w m → IsAt w s
+    pub hart_runs : (ps : List Piece) (rest : List Tagged) (w : Whole) (s : Stand) (m : ℕ) → AreFrom (k + 1) rest → Made sets last (tagged k ps ++ rest) w → AreInOrder (tagged k ps ++ rest) m → IsFree w m → IsAt w s
         → (failures_in context ps s ≡ []) × IsBehind rest w
     hart_runs [] rest w s m from made order free a =
         let none : s.records ≡ [] = nothing_added (records_of k w) s.records (sym (made_records k rest w from made) ∙ a.records) in

@@ -1,9 +1,8 @@
 -- A walk that is finished, as the pieces of the text that it went through: what its items are laid out as by the choices that it took.
-use Rattle.std.proofs.Common.{◌≡◌, ℕ, zero, suc, ◌+◌, List, [], ◌∷◌, ◌++◌, drop, map, length, take, Option, Some, None, refl, sym, ap, ◌∙◌, subst, inl, inr, arith}
+use Rattle.std.proofs.Common.{◌≡◌, ℕ, zero, suc, List, [], ◌∷◌, ◌++◌, Option, Some, None, refl, sym, ap, ◌∙◌}
 use Rattle.std.specs.Prelude.{Vec}
 use Rattle.std.specs.Global.{Global}
 use Rattle.std.specs.List.{slice_get}
-use Rattle.rv_script.specs.Lists.{HasItem}
 use Rattle.tpl_ast.specs.declared.template.Item.{Item}
 use Rattle.tpl_ast.specs.declared.template.Item.TheVariants as items
 use Rattle.tpl_ast.specs.declared.template.Item.TheViews as views
@@ -12,7 +11,7 @@ use Rattle.tpl_ast.specs.Expansion.{Laid, Layout, Piece, behind, in_order, layou
 use Rattle.tpl_ast.specs.Expansion as pieces
 use Rattle.tpl_admit.specs.Walks.{taken_of}
 use Rattle.tpl_admit.proofs.Layouts.{choose_layout, fault_layout, label_layout, leaf_layout, repeat_layout, seq_layout}
-use Rattle.gen_search.specs.Search.{copies, cyclically, in_turn, numbered, of_hart, picked}
+use Rattle.gen_search.specs.Search.{copies, of_hart}
 
 -- ---- pieces with the harts that go through them
 

@@ -1,36 +1,34 @@
 -- What a leaf turn that is taken does to a test, and that its leaf admits the step.
-use Rattle.std.proofs.Common.{◌≡◌, ℕ, zero, suc, ◌+◌, ◌-◌, ◌<◌, ◌≤◌, ◌^◌, ◌&&◌, ◌||◌, ◌==◌, Bool, true, false, eqb, leb, if◌then◌else◌, List, [], ◌∷◌, ◌++◌, length, map, min, take, Option, Some, None, ◌⊎◌, refl, sym, ap, ◌∙◌, subst, inl, inr, arith}
-use Rattle.std.specs.Prelude.{slice_index_or}
+use Rattle.std.proofs.Common.{◌≡◌, ℕ, zero, suc, ◌+◌, ◌-◌, ◌<◌, ◌≤◌, ◌^◌, ◌%◌, ◌&&◌, ◌||◌, ◌==◌, Bool, true, false, if◌then◌else◌, List, [], ◌∷◌, ◌++◌, length, map, min, take, Option, Some, None, ◌⊎◌, refl, sym, ap, ◌∙◌, subst, inl, inr, arith}
+use Rattle.std.specs.Prelude.{slice_get, slice_index_or, slice_set}
 use Rattle.std.specs.List.{list_all, list_any}
-use Rattle.std.proofs.lemmas.Bool.{and_parts, cases_Bool, cases_eq, eq-eqb, eqb-true, ltb-true, ne_eqb}
+use Rattle.std.proofs.lemmas.Bool.{and_parts, cases_lt, eq-eqb, eqb-true, ltb-true, ne_eqb}
 use Rattle.std.proofs.lemmas.List.{take-set-le}
-use Rattle.rv_script.specs.declared.access.Access.{Access}
 use Rattle.rv_script.specs.declared.place.Place.{Place}
-use Rattle.rv_script.specs.declared.place.Place.TheVariants.{Reg}
+use Rattle.rv_script.specs.declared.place.Place.TheVariants.{Reg, Word}
 use Rattle.rv_script.specs.Folds.{Answer, Answer.Does, Answer.Missing, Answer.Nowhere, Entry, Known}
 use Rattle.rv_script.specs.Lists.{HasItem}
-use Rattle.rv_script.specs.Logs.{enlarged, or_else, started}
+use Rattle.rv_script.specs.Logs.{enlarged, or_else, same_place, started}
 use Rattle.dom_set.specs.Elements.{is_in}
 use Rattle.rv_hart.specs.declared.record.Change.{Change}
-use Rattle.rv_hart.specs.declared.record.Outcome.{Outcome}
 use Rattle.rv_hart.specs.declared.record.Record.{Record}
-use Rattle.rv_hart.specs.Changes.{IsSoundWrite, outcome_of}
+use Rattle.sv_walk.proofs.Offsets.{offset_kept}
+use Rattle.rv_hart.specs.Changes.{IsSoundWrite}
 use Rattle.rv_hart.specs.Fixed.{Fixed}
 use Rattle.rv_hart.specs.Clauses.{IsFitRecord, IsFitWrite}
 use Rattle.rv_hart.specs.Whole.{record_of}
 use Rattle.tpl_ast.specs.declared.template.Atom.{Atom}
 use Rattle.tpl_ast.specs.declared.template.Atom.TheVariants as atoms
-use Rattle.tpl_ast.specs.declared.template.Var.{Var}
 use Rattle.tpl_ast.specs.declared.template.Wish.{Wish}
-use Rattle.tpl_ast.specs.Leaves.{NamedOnce, atoms_of, is_name_below}
-use Rattle.tpl_ast.specs.Limits.{most_atoms}
+use Rattle.tpl_ast.specs.Leaves.{atoms_of, is_name_below}
+use Rattle.tpl_ast.specs.Limits.{file_limits}
 use Rattle.tpl_admit.specs.declared.dropped.Dropped.{Dropped}
 use Rattle.tpl_admit.specs.Admitting.{false_atoms, fixes_outcome, is_drop, is_excused, is_unfetched, numbered, unmet_atoms, unretired, written}
 use Rattle.tpl_admit.specs.Truth.{holds, is_among}
 use Rattle.tpl_admit.specs.Variables.{Moment, outcome_in, value_of}
-use Rattle.part_laws.specs.Partial.{Held, Partial, advanced, held_after}
-use Rattle.part_machine.specs.Whole.{HasHart, Whole, fixed_in, hart_of, records_of, stepped}
-use Rattle.part_state.specs.Meaning.{IsTest, partial_of}
+use Rattle.part_laws.specs.Partial.{Partial, advanced, held_after}
+use Rattle.part_machine.specs.Whole.{Whole, fixed_in, hart_of, records_of}
+use Rattle.part_state.specs.Meaning.{IsTest, partial_of, place_given}
 use Rattle.part_state.proofs.Meanings.{stepped_partial}
 use Rattle.fd_prob.specs.declared.problem.Assignment.{Assignment}
 use Rattle.fd_solve.specs.declared.answers.LeafAnswer.{LeafAnswer}
@@ -40,25 +38,31 @@ use Rattle.leaf_link.specs.Admitted.{BindsName, MetAreTrue, StepsAreFetched, ren
 use Rattle.leaf_link.specs.Answers.{values_in}
 use Rattle.leaf_link.specs.Candidates.{IsCandidate, accesses_in, all_met, is_met, is_named, moment_of, registers_from}
 use Rattle.leaf_link.specs.Extras.{IsTurnLeafAnswer}
+use Rattle.leaf_link.specs.Fetches.{fetch_places}
 use Rattle.leaf_link.specs.Firsts.{IsTurnAnswer}
+use Rattle.leaf_link.specs.Placing.{NewWordsAreFetched}
 use Rattle.leaf_link.specs.Turns.{Turn}
 use Rattle.leaf_link.specs.Values.{Values}
 use Rattle.leaf_link.specs.Ways.{IsFetched}
-use Rattle.turn_laws.specs.Given.{AreListed, CanGive, all_given, given_to, known_at}
+use Rattle.turn_laws.specs.Given.{AreListed, CanGive, all_given, given_to, known_at, turn_at}
 use Rattle.turn_laws.specs.Laws.{IsBeside, IsStartOn}
 use Rattle.turn_laws.proofs.Places.{beside, fixed_parts, has, known, tests}
 use Rattle.turn_laws.proofs.Starts.{others_stay, start_then, starts_grow}
-use Rattle.leaf_turn.specs.Answers.{new_at}
+use Rattle.leaf_turn.specs.Answers.{IsFound, new_at}
+use Rattle.leaf_turn.specs.Grounds.{declared_set}
 use Rattle.leaf_turn.specs.Wishes.{biases_of, mandatory_of, retires}
 use Rattle.gen_search.specs.Search.{Turned, Turned.Taken, Turned.NoneFits, Turned.Spent}
-use Rattle.gen_turn.specs.Drafts.{Drafted, at_test, drafted, turn_of}
+use Rattle.gen_turn.specs.Drafts.{Drafted, at_test, turn_of}
 use Rattle.gen_turn.specs.Grounds.{IsBuilt, IsGround}
-use Rattle.gen_turn.specs.Turns.{EndsAs, GoesOn, IsAnsweredBehind, IsDone, IsLeafTaken, is_listed, listed_as, moment_at, names_bound, next_bias, with_all_dropped, with_names}
-use Rattle.gen_turn.proofs.BoundNames.{IsWishAt, name_bound, names_above, names_kept}
-use Rattle.gen_turn.proofs.Filled.{IsFilled, given_filled, known_filled, step_filled}
+use Rattle.gen_turn.specs.Turns.{EndsAs, GoesOn, IsAnsweredBehind, IsDone, IsLeafTaken, is_listed, listed_as, moment_at, names_bound, next_bias}
+use Rattle.gen_turn.proofs.BoundNames.{IsWishAt, name_bound, name_was, names_above, names_kept}
+use Rattle.gen_turn.proofs.Filled.{IsFilled, given_filled, known_filled, registers_past, registers_zero, step_filled}
 use Rattle.gen_turn.proofs.Judged.{any_first, any_second, atoms_stay, bias_listed, mandatory_has, mandatory_retires, wish_judged}
+use Rattle.gen_turn.proofs.Listing.{AreDroppedTo, listed_between, place_of_step}
 use Rattle.gen_turn.proofs.MoreTruth.{IsKnownIn, holds_more}
 use Rattle.gen_turn.proofs.Names.{many_bound}
+use Rattle.gen_turn.proofs.SmallValues.{value_small}
+use Rattle.gen_turn.proofs.WordCounts.{one_word, words_given, words_in}
 
 -- ---- what the end knows of a test before it
 
@@ -70,10 +74,14 @@ pub record IsLater (w : Whole) (names : ℕ → Option ℕ) (dropped : List Drop
 
 -- ---- what a leaf turn does
 
--- a step of hart k with this record was made between two tests; what is known then is what was known before, with registers that the start gives
-pub record IsLeafDone (k : ℕ) (ws : List Wish) (old after : Whole) : Type 0 where
+-- a step of hart k with this record was made between two tests; what is known then is what was known before, with registers that the start gives; the sets are those of
+-- the names
+pub record IsLeafDone (sets : ℕ → List ℕ) (k : ℕ) (ws : List Wish) (old after : Whole) : Type 0 where
   pub record_is : Record
+  pub fit : IsFitRecord record_is
   pub fetched : is_unfetched record_is.outcome ≡ false
+  pub room : k < length old.traces
+  pub traces_are : after.traces ≡ slice_set old.traces k (records_of k old ++ record_is ∷ [])
   pub told : records_of k after ≡ records_of k old ++ record_is ∷ []
   pub others : (j : ℕ) → (j ≡ k → ⊥) → ((partial_of after).records j ≡ (partial_of old).records j) × ((partial_of after).harts j ≡ (partial_of old).harts j) × ((partial_of after).start j ≡ (partial_of old).start j)
   pub traces : (j : ℕ) → j ≤ k → take j after.traces ≡ take j old.traces
@@ -84,7 +92,11 @@ pub record IsLeafDone (k : ℕ) (ws : List Wish) (old after : Whole) : Type 0 wh
   pub names : (n v : ℕ) → slice_index_or old.names n None ≡ Some v → slice_index_or after.names n None ≡ Some v
   pub above : (m : ℕ) → list_all (is_name_below m) (atoms_of ws) ≡ true → (n : ℕ) → m ≤ n → slice_index_or after.names n None ≡ slice_index_or old.names n None
   pub many : length after.names ≡ length old.names
+  pub values : (n v : ℕ) → slice_index_or after.names n None ≡ Some v → (slice_index_or old.names n None ≡ Some v) ⊎ ((v < 2 ^ 32) × (is_in (sets n) v ≡ true))
   pub listed : (test : Dropped → Bool) → list_any test old.dropped ≡ true → list_any test after.dropped ≡ true
+  pub dropped : (harts : ℕ) → k < harts → length (records_of k old) < file_limits.steps
+      → (more : List Dropped) × (after.dropped ≡ old.dropped ++ more) × AreDroppedTo harts (place_of_step k (length (records_of k old))) more (place_of_step k (length (records_of k old) + 1))
+  pub words : length after.words ≤ length old.words + 1
   pub start : IsStartOn (partial_of old) (partial_of after)
   -- admission follows the registers, and finds nothing wrong
   pub filled : (end : Partial) (regs : List (Option ℕ)) → IsStartOn (partial_of after) end → IsFilled (partial_of old) k (end.start k).places regs → IsFilled (partial_of after) k (end.start k).places (written record_is.rd regs)
@@ -150,6 +162,8 @@ module _ (d : Drafted) (k : ℕ) (ws : List Wish) (draws : List ℕ) where
     pub fetched : Whole
     pub places : List (Place × ℕ)
     pub can : CanGive k places d.now
+    pub start : Values
+    pub listed : AreListed places (fetch_places (turn_of d (mandatory_of ws) k) start)
     pub fetched_is : fetched ≡ all_given k places d.now
     pub walk : List Entry
     pub pa : ℕ
@@ -171,6 +185,8 @@ module _ (d : Drafted) (k : ℕ) (ws : List Wish) (draws : List ℕ) where
         fetched = a.fetched;
         places = a.placed.places;
         can = a.placed.can;
+        start = y;
+        listed = a.placed.listed;
         fetched_is = a.placed.is;
         walk = a.walk;
         pa = a.pa;
@@ -194,7 +210,8 @@ module _ (d : Drafted) (k : ℕ) (ws : List Wish) (draws : List ℕ) where
 
 -- ---- what it did
 
-module _ (met_are_true : MetAreTrue) (are_fetched : StepsAreFetched) (d : Drafted) (k : ℕ) (ws : List Wish) (ground : IsGround d k) (built : IsBuilt (length d.template.names) ws) (draws : List ℕ) (after : Whole) (turn : IsTurn d k ws draws after) where
+module _ (met_are_true : MetAreTrue) (are_fetched : StepsAreFetched) (words_are_fetched : NewWordsAreFetched) (d : Drafted) (k : ℕ) (ws : List Wish) (ground : IsGround d k) (built : IsBuilt (length d.template.names) ws) (draws : List ℕ) (after : Whole) (turn : IsTurn d k ws draws after)
+    (none : turn.places ≡ []) (found : IsFound k turn.fetched (values_in turn.values)) where
   abbrev old : Whole
   old = d.now
 
@@ -324,6 +341,62 @@ module _ (met_are_true : MetAreTrue) (are_fetched : StepsAreFetched) (d : Drafte
         ap (λ (p : Partial). p.start j) part_after ∙ gs ∙ fs,
       )
 
+  traces_set : after.traces ≡ slice_set old.traces k (records_of k old ++ l.done ∷ [])
+  traces_set =
+      ap (λ (w : Whole). w.traces) l.is ∙ ap (λ (w : Whole). w.traces) l.taken.now
+      ∙ ap (λ (r : Record). slice_set given.traces k (records_of k given ++ r ∷ [])) (sym record_given)
+      ∙ ap (λ (ts : List (List Record)). slice_set ts k (slice_index_or ts k [] ++ l.done ∷ [])) (beside_given.traces ∙ beside_fetch.traces)
+
+  dropped_to : (harts : ℕ) → k < harts → length (records_of k old) < file_limits.steps
+      → (more : List Dropped) × (after.dropped ≡ old.dropped ++ more) × AreDroppedTo harts (place_of_step k (length (records_of k old))) more (place_of_step k (length (records_of k old) + 1))
+  dropped_to harts few small = (
+    map (listed_as k (length (records_of k old)) ws) turn.answer.dropped,
+    dropped_after,
+    listed_between harts k (length (records_of k old)) ws few small built.short t turn.pa draws d.nodes (mandatory_of ws) (record { atoms = turn.is.0; dropped = turn.answer.dropped }) turn.is.1,
+  )
+
+  -- the fetched word alone is new
+
+  word_is_fetched : (a u : ℕ) → given_to es (Word a) ≡ Some u → a ≡ found.pa
+  word_is_fetched a u h =
+      words_are_fetched (turn_at found.setting found.feet k fetch) found.walk found.pa found.leaf (new_at k fetch x) found.fetched found.candidate found.little a u (sym (l.taken.places.listed (Word a)) ∙ h)
+
+  pa_aligned : found.pa % 4 ≡ 0
+  pa_aligned = offset_kept _ _ _ _ _ found.walk found.pa found.fetched.translates ∙ found.fetched.aligned
+
+  words_after : length after.words ≤ length old.words + 1
+  words_after =
+      let few = one_word k found.pa es fetch test_fetch hart_fetch pa_aligned l.taken.places.can word_is_fetched in
+      let all : length after.words ≡ length fetch.words + words_in es =
+      ap (λ (w : Whole). length w.words) l.is ∙ ap (λ (w : Whole). length w.words) l.taken.now ∙ ap (λ (w : Whole). length w.words) l.taken.places.now ∙ words_given k es fetch in
+      let before : length fetch.words ≡ length old.words =
+      ap (λ (w : Whole). length w.words) turn.fetched_is ∙ ap (λ (ps : List (Place × ℕ)). length (all_given k ps old).words) none in
+      omega (arith, few, all, before)
+
+  -- what is known is words
+
+  given_small : (es : List (Place × ℕ)) (w : Whole) (place : Place) (v : ℕ) → CanGive k es w → given_to es place ≡ Some v → v < 2 ^ 32
+  given_small [] w place v can h = absurd (cc h)
+  given_small (e ∷ es) w place v can h = go (same_place e.0 place) h (given_small es (place_given k e.0 e.1 w) place v can.3)
+    where
+      go : (b : Bool) → (if b then Some e.1 else given_to es place) ≡ Some v → (given_to es place ≡ Some v → v < 2 ^ 32) → v < 2 ^ 32
+      go true h rest = let same : e.1 ≡ v = cc h in subst (λ (n : ℕ). n < 2 ^ 32) same can.2
+      go false h rest = rest h
+
+  or_small : (o p : Option ℕ) (v : ℕ) → (o ≡ Some v → v < 2 ^ 32) → (p ≡ Some v → v < 2 ^ 32) → or_else o p ≡ Some v → v < 2 ^ 32
+  or_small None p v h k e = k e
+  or_small (Some u) p v h k e = h e
+
+  fetch_small : (i v : ℕ) → i < 32 → known_at k fetch (Reg i) ≡ Some v → v < 2 ^ 32
+  fetch_small i v small h =
+      or_small (known_at k old (Reg i)) (given_to turn.places (Reg i)) v (ground.words.known (Reg i) v) (given_small turn.places old (Reg i) v turn.can)
+      (sym (ap (λ (w : Whole). known_at k w (Reg i)) turn.fetched_is ∙ known k turn.places old ground.test ground.hart turn.can (Reg i) small) ∙ h)
+
+  given_words : (i v : ℕ) → i < 32 → known_at k given (Reg i) ≡ Some v → v < 2 ^ 32
+  given_words i v small h =
+      or_small (known_at k fetch (Reg i)) (given_to es (Reg i)) v (fetch_small i v small) (given_small es fetch (Reg i) v l.taken.places.can)
+      (sym (ap (λ (w : Whole). known_at k w (Reg i)) l.taken.places.now ∙ known k es fetch test_fetch hart_fetch l.taken.places.can (Reg i) small) ∙ h)
+
   -- the registers
 
   filled_given : (end : Partial) (regs : List (Option ℕ)) → IsStartOn (partial_of given) end → IsFilled (partial_of old) k (end.start k).places regs → IsFilled (partial_of given) k (end.start k).places regs
@@ -380,6 +453,19 @@ module _ (met_are_true : MetAreTrue) (are_fetched : StepsAreFetched) (d : Drafte
       ap (λ (r : Record). record { done = r; regs = m0.regs; names = t.names; others = t.others }) done_is
       ∙ ap (λ (rs : List (Option ℕ)). record { done = l.done; regs = rs; names = t.names; others = t.others }) regs_are
 
+  known_moment : (i : ℕ) → i < 32 → enlarged t.known (started t.known cand.log) (Reg i) ≡ known_at k given (Reg i)
+  known_moment i small =
+      known_then (Reg i)
+      ∙ ap (λ (o : Option ℕ). or_else (known_at k fetch (Reg i)) o) (sym (l.taken.places.listed (Reg i)))
+      ∙ sym (known k es fetch test_fetch hart_fetch l.taken.places.can (Reg i) small)
+      ∙ ap (λ (w : Whole). known_at k w (Reg i)) (sym l.taken.places.now)
+
+  moment_words : (i v : ℕ) → slice_index_or m0.regs i None ≡ Some v → v < 2 ^ 32
+  moment_words i v h = elim (cases_lt i 32) [
+    | inl small ↦ given_words i v small (sym (registers_zero (enlarged t.known (started t.known cand.log)) 32 i small ∙ known_moment i small) ∙ h)
+    | inr past ↦ absurd (cc (sym (registers_past (enlarged t.known (started t.known cand.log)) 0 32 i past) ∙ h))
+  ]
+
   was_fetched : is_unfetched l.done.outcome ≡ false
   was_fetched = ap (λ (r : Record). is_unfetched r.outcome) (sym done_is) ∙ are_fetched t turn.walk turn.pa atoms_kept (new_at k fetch x) turn.leads cand
 
@@ -397,11 +483,7 @@ module _ (met_are_true : MetAreTrue) (are_fetched : StepsAreFetched) (d : Drafte
     known_regs : (i : ℕ) → IsKnownIn (slice_index_or m0.regs i None) (slice_index_or regs i None)
     known_regs =
         known_filled k given (end.start k).places regs (enlarged t.known (started t.known cand.log)) test_given hart_given
-        (λ i small.
-        known_then (Reg i)
-        ∙ ap (λ (o : Option ℕ). or_else (known_at k fetch (Reg i)) o) (sym (l.taken.places.listed (Reg i)))
-        ∙ sym (known k es fetch test_fetch hart_fetch l.taken.places.can (Reg i) small)
-        ∙ ap (λ (w : Whole). known_at k w (Reg i)) (sym l.taken.places.now))
+        known_moment
         (filled_given end regs (start_then (partial_of given) (partial_of after) end start_step later.start) filled)
 
     true_then : (atom : Atom) → holds atom (renamed m0 names) ≡ true → holds atom m ≡ true
@@ -476,9 +558,39 @@ module _ (met_are_true : MetAreTrue) (are_fetched : StepsAreFetched) (d : Drafte
         ap (λ (ns : List ℕ). ns ++ unretired m ws) (no_false dropped k (length (records_of k old)) m ws 0 0 (let short = built.short in omega (arith, short)) good)
         ∙ retired
 
-  pub leaf_done : IsLeafDone k ws old after
+  -- an atom of a wish that isn't dropped is met
+  wish_met : (w : Wish) (n b : ℕ) → IsWishAt ws 0 0 w n b → (w.prefer && is_listed turn.answer.dropped b) ≡ false → is_met t m0 w.atom ≡ true
+  wish_met w n b at kept = met_of t m0 atoms_kept w.atom cand.is.meets.atoms (go w.prefer refl kept)
+    where
+      go : (p : Bool) → w.prefer ≡ p → (p && is_listed turn.answer.dropped b) ≡ false → HasItem atoms_kept w.atom
+      go true is h = elim (wish_judged t turn.pa draws d.nodes ws 0 0 _ _ turn.is.1 w n b at is) [
+        | inl was ↦ absurd (cc (sym was ∙ h))
+        | inr has_atom ↦ has_atom
+      ]
+      go false is h = atoms_stay t turn.pa draws d.nodes 0 (biases_of ws) _ _ turn.is.1 w.atom (mandatory_has ws w n b at is)
+
+  name_value : (n v : ℕ) → slice_index_or after.names n None ≡ Some v → (slice_index_or old.names n None ≡ Some v) ⊎ ((v < 2 ^ 32) × (is_in (t.sets n) v ≡ true))
+  name_value n v h = elim (name_was (λ u. value_of u (moment_at k x l.done fetch)) turn.answer.dropped ws 0 0 old.names n v (ap (λ (ns : List (Option ℕ)). slice_index_or ns n None) (sym names_after) ∙ h)) [
+    | inl was ↦ inl was
+    | inr by ↦
+        let value : value_of by.var m0 ≡ Some v = ap (value_of by.var) moment_is ∙ by.value in
+        let met : is_met t m0 (atoms.Is by.var n) ≡ true = ap (is_met t m0) (sym by.names) ∙ wish_met by.wish by.place by.bias by.at by.kept in
+        go (t.names n) refl (ap (λ (o : Option ℕ). is_named (t.names n) (t.sets n) o) (sym value) ∙ met) (value_small m0 (subst IsFitRecord (sym done_is) l.fit) moment_words by.var v value)
+  ]
+    where
+      go : (o : Option ℕ) → t.names n ≡ o → is_named o (t.sets n) (Some v) ≡ true → v < 2 ^ 32 → (slice_index_or old.names n None ≡ Some v) ⊎ ((v < 2 ^ 32) × (is_in (t.sets n) v ≡ true))
+      go (Some u) is met small = inl (ap (λ (ns : List (Option ℕ)). slice_index_or ns n None) (sym beside_fetch.names) ∙ is ∙ ap (λ (i : ℕ). Some i) (sym (eqb-true v u met)))
+      go None is met small = inr (small, met)
+
+  pub leaf_done : IsLeafDone (λ n. declared_set (slice_get d.template.names n)) k ws old after
   leaf_done = record {
     record_is = l.done;
+    fit = l.fit;
+    room = (let lt = ground.hart in let same = ground.test.traces in omega (arith, lt, same));
+    traces_are = traces_set;
+    values = name_value;
+    dropped = dropped_to;
+    words = words_after;
     fetched = was_fetched;
     told = told_after;
     others = others_after;

@@ -27,3 +27,10 @@ pub mod HartRuns
 pub mod FirstStands
 pub mod Admissions
 pub mod DoneTests
+pub mod Shortness
+pub mod Listing
+pub mod SmallValues
+pub mod WordCounts
+pub mod TurnFound
+pub mod FileFits
+pub mod FitTests

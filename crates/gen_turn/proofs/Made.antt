@@ -1,5 +1,5 @@
 -- What is made of a template, by what a search found.
-use Rattle.std.proofs.Common.{◌≡◌, ℕ, ◌*◌, length, true, refl, sym, ap, ◌∙◌, subst}
+use Rattle.std.proofs.Common.{◌≡◌, ℕ, ◌*◌, length, true, sym, ap, ◌∙◌, subst}
 use Rattle.tpl_ast.specs.States.{is_in}
 use Rattle.tpl_ast.specs.declared.template.Template.{Template}
 use Rattle.tpl_admit.specs.declared.certificate.Cert.{Cert}
@@ -7,15 +7,14 @@ use Rattle.tpl_ast.specs.Parsing.{Parses}
 use Rattle.tpl_admit.specs.Validity.{IsSound}
 use Rattle.tpl_admit.specs.WellFormed.{IsWellFormed}
 use Rattle.rv_mem.specs.Ram.{in_ram}
-use Rattle.part_state.specs.State.{State, Test, here, whole}
+use Rattle.part_state.specs.State.{Test, here, whole}
 use Rattle.part_state.specs.Told.{FitsFile, Tells}
-use Rattle.gen_search.specs.declared.searching.Answer.{Answer}
 use Rattle.gen_search.specs.declared.searching.Answer.TheVariants as answers
 use Rattle.gen_search.specs.Answers.{AnswerIs}
 use Rattle.gen_search.specs.Search.{Done, NoTest, SearchResult}
 use Rattle.gen_turn.specs.declared.making.Found.{Found}
 use Rattle.gen_turn.specs.Built.{is_template_built}
-use Rattle.gen_turn.specs.Laws.{DoneTestsAreAdmitted}
+use Rattle.gen_turn.specs.Laws.{DoneTestsAreAdmitted, DoneTestsFitFiles}
 use Rattle.gen_turn.specs.Generating.{Comes, IsFound, IsGivenUp, IsOfStart, IsOfTest}
 use Rattle.gen_turn.specs.Rules.{Shown, shown}
 use Rattle.gen_turn.proofs.Ending.{comes_keep, own, walks_keep}
@@ -44,7 +43,7 @@ module _ (t : Template) (seed nodes turns : ℕ) (f : Found) (is : IsFound t see
   pub same_ram : f.answer ≡ answers.Done → (n : ℕ) → is_in t.ram (n * 4) ≡ in_ram f.part.now.ram n
   same_ram done = (of_template done).ram
 
-  module _ (c : Cert) (parses : Parses t.text t) (built : is_template_built t ≡ true) (admitted : DoneTestsAreAdmitted) (tells : Tells t (here f.part) c) (sound : IsSound c) (well_formed : FitsFile c → IsWellFormed c) where
+  module _ (c : Cert) (parses : Parses t.text t) (built : is_template_built t ≡ true) (admitted : DoneTestsAreAdmitted) (fits : DoneTestsFitFiles) (tells : Tells t (here f.part) c) (sound : IsSound c) (well_formed : FitsFile c → IsWellFormed c) where
     by_result : (r : SearchResult Shown) → Comes t seed nodes turns r → AnswerIs r is.last answers.Done → IsOfTest t seed nodes turns c
     by_result (Done end tally) comes same = record {
       last = is.last;
@@ -53,7 +52,7 @@ module _ (t : Template) (seed nodes turns : ℕ) (f : Found) (is : IsFound t see
       tells = subst (λ (test : Test). Tells t (whole test) c) (sym is.now) tells;
       sound = sound;
       admits = admitted t seed nodes turns is.last tally c parses built (subst (λ (s : Shown). Comes t seed nodes turns (Done s tally)) same comes) (subst (λ (test : Test). Tells t (whole test) c) (sym is.now) tells);
-      well_formed = well_formed;
+      well_formed = well_formed (fits t seed nodes turns is.last tally c parses built (subst (λ (s : Shown). Comes t seed nodes turns (Done s tally)) same comes) (subst (λ (test : Test). Tells t (whole test) c) (sym is.now) tells));
     }
     by_result (NoTest tally) comes same = absurd same
 

@@ -1,11 +1,10 @@
 -- The leaves and labels of a template that is built can be taken on the test that begins as it says.
-use Rattle.std.proofs.Common.{◌≡◌, ℕ, suc, ◌+◌, ◌<◌, ◌≤◌, ◌^◌, ◌&&◌, ◌==◌, Bool, true, List, [], ◌∷◌, ◌++◌, length, map, leb, ltb, None, refl, sym, ap, ◌∙◌, subst, arith}
+use Rattle.std.proofs.Common.{◌≡◌, ℕ, suc, ◌+◌, ◌<◌, ◌&&◌, Bool, true, List, [], ◌∷◌, ◌++◌, length, map, leb, None, refl, sym, ap, ◌∙◌, subst, arith}
 use Rattle.std.specs.Prelude.{Vec, slice_index_or}
 use Rattle.std.specs.Global.{Global}
-use Rattle.std.specs.List.{AllByRecursion, list_all}
+use Rattle.std.specs.List.{AllByRecursion}
 use Rattle.std.proofs.lemmas.Bool.{and_parts, eqb-true, leb-true, ltb-true}
 use Rattle.std.proofs.lemmas.List.{length-replicate}
-use Rattle.tpl_ast.specs.declared.template.Atom.{Atom}
 use Rattle.tpl_ast.specs.declared.template.HartDecl.{HartDecl}
 use Rattle.tpl_ast.specs.declared.template.Item.{Item}
 use Rattle.tpl_ast.specs.declared.template.Item.TheFolds.{fold-roll-Item, ind-Item, map-Item}
@@ -17,10 +16,9 @@ use Rattle.tpl_ast.specs.declared.template.Item.TheVariants as variants
 use Rattle.tpl_ast.specs.declared.template.Template.{Template}
 use Rattle.tpl_ast.specs.declared.template.Wish.{Wish}
 use Rattle.tpl_ast.specs.Choices.{all_true, all_ways, weight_of}
-use Rattle.tpl_ast.specs.Leaves.{IsPlain, atoms_of, is_leaf, is_name_below, is_plain}
-use Rattle.tpl_ast.specs.Limits.{most_atoms}
+use Rattle.tpl_ast.specs.Leaves.{is_leaf}
 use Rattle.tpl_ast.specs.Templates.{IsBody, KeepsLimits, are_weights, stands, stands_in}
-use Rattle.tpl_ast.proofs.Proved.{Proved, items_back, items_of, proved}
+use Rattle.tpl_ast.proofs.Proved.{Proved, items_of}
 use Rattle.tpl_ast.specs.declared.template.HartState.{HartState}
 use Rattle.tpl_ast.specs.Laws.{LeavesAreKnown, TemplatesKeepLimits}
 use Rattle.rv_hart.specs.Fixed.{Fixed}
@@ -28,7 +26,7 @@ use Rattle.part_machine.specs.Whole.{Whole}
 use Rattle.part_state.specs.Beginning.{IsBegun, start_in}
 use Rattle.part_state.specs.Meaning.{IsTest}
 use Rattle.tpl_admit.specs.Starts.{no_state}
-use Rattle.gen_search.specs.Ready.{AreAllowed, AreReady, BodiesAreReady, joined, joined_ways, parts_in, parts_of}
+use Rattle.gen_search.specs.Ready.{AreAllowed, AreReady, joined, joined_ways, parts_in, parts_of}
 use Rattle.gen_search.specs.Search.{all_items, of_hart}
 use Rattle.leaf_turn.specs.Built.{are_built}
 use Rattle.gen_turn.specs.Built.{BuiltTemplatesAreReady, are_harts_built, are_ways_built, built_in, is_item_built}

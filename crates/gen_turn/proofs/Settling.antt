@@ -53,7 +53,7 @@ own_place (Reg n) = eq-eqb n n refl
 own_place (Csr addr) = eq-eqb addr addr refl
 own_place (Word addr) = eq-eqb addr addr refl
 
-none_listed : (es : List (Place × ℕ)) (new : Known) → AreListed es new → ((place : Place) → new place ≡ None) → es ≡ []
+pub none_listed : (es : List (Place × ℕ)) (new : Known) → AreListed es new → ((place : Place) → new place ≡ None) → es ≡ []
 none_listed [] new listed none = refl
 none_listed (e ∷ es) new listed none = absurd (some_none (
     ap (λ (b : Bool). if b then Some e.1 else given_to es e.0) (sym (own_place e.0)) ∙ listed e.0 ∙ none e.0))
@@ -74,16 +74,16 @@ module _ (d : Drafted) (k : ℕ) (g : IsGround d k) (ws : List Wish) (built : Is
   abbrev pub pc : ℕ
   pc = (hart_of k d.now).pc
 
-  plain : is_translated (fetch_view turn.fixed) ≡ false
+  pub plain : is_translated (fetch_view turn.fixed) ≡ false
   plain = fetch_plain d.template d.nodes k d.now ws [] g.untranslated
 
   -- the fetch is settled: the pc is an address of RAM, and leads to itself
-  record IsSettled (walk : List Entry) (pa : ℕ) : Type 0 where
-    none : walk ≡ []
-    at : pa ≡ pc
-    there : is_in_ram (λ n. is_there (d.now.memory n)) pc ≡ true
+  pub record IsSettled (walk : List Entry) (pa : ℕ) : Type 0 where
+    pub none : walk ≡ []
+    pub at : pa ≡ pc
+    pub there : is_in_ram (λ n. is_there (d.now.memory n)) pc ≡ true
 
-  settled : (walk : List Entry) (pa : ℕ) → IsFetched turn walk pa → IsSettled walk pa
+  pub settled : (walk : List Entry) (pa : ℕ) → IsFetched turn walk pa → IsSettled walk pa
   settled walk pa leads =
       let ends = same_ends walk (arrived turn.fixed.ram ForFetch pc) (At pa) (sym (plain_fetch turn (by_known turn.known) plain) ∙ leads.translates) in
       let is = reached_at (is_in_ram turn.fixed.ram pc) pc pa ends.1 in
@@ -149,9 +149,13 @@ module _ (d : Drafted) (k : ℕ) (g : IsGround d k) (ws : List Wish) (built : Is
   is_setting : IsSettingOf d.template setting
   is_setting = record { pool = refl; vectors = refl; sets = λ n. refl }
 
-  pub found : AnswersAreFound → BuiltLeavesArePosable → (draws : List ℕ) (r : Turned Drafted) (a : IsAnswered draws r) (x : Assignment) → a.answer.solved ≡ answers.Found x → IsFound k d.now (values_in x)
-  found law posable draws r a x =
+  pub found_at : AnswersAreFound → BuiltLeavesArePosable → (draws : List ℕ) → IsFetched turn [] pc → is_in_ram (λ n. is_there (d.now.memory n)) pc ≡ true → (answer : LeafAnswer)
+      → IsTurnLeafAnswer turn pc (mandatory_of ws) (biases_of ws) draws d.nodes answer → (x : Assignment) → answer.solved ≡ answers.Found x → IsFound k d.now (values_in x)
+  found_at law posable draws fetched there answer is x =
       let st = stand_at d.template k d.now feet in
-      found_by st k d.now setting feet ws draws d.nodes a.answer x law built.plain g.untranslated g.vectors footprint a.there
-      (stands d.template k d.now feet setting g.test g.hart g.untranslated a.fetched.aligned g.names is_setting footprint)
-      (λ h. a.fetched) g.words.fixed g.words.known (posable ws built.built st) a.is
+      found_by st k d.now setting feet ws draws d.nodes answer x law built.plain g.untranslated g.vectors footprint there
+      (stands d.template k d.now feet setting g.test g.hart g.untranslated fetched.aligned g.names is_setting footprint)
+      (λ h. fetched) g.words.fixed g.words.known (posable ws built.built st) is
+
+  pub found : AnswersAreFound → BuiltLeavesArePosable → (draws : List ℕ) (r : Turned Drafted) (a : IsAnswered draws r) (x : Assignment) → a.answer.solved ≡ answers.Found x → IsFound k d.now (values_in x)
+  found law posable draws r a x = found_at law posable draws a.fetched a.there a.answer a.is x

@@ -1,5 +1,5 @@
 -- The step of an answer, with the names that it binds and the biases that it drops.
-use Rattle.std.proofs.Common.{◌≡◌, ◌≢◌, ℕ, Bool, List, length, map, Option, refl, sym, ap, ◌∙◌, subst}
+use Rattle.std.proofs.Common.{◌≡◌, ◌≢◌, ℕ, Bool, List, length, map, Option, refl, ap, ◌∙◌}
 use Rattle.std.proofs.Math.Path.{fun_ext}
 use Rattle.rv_script.specs.Logs.{enlarged}
 use Rattle.rv_hart.specs.declared.record.Record.{Record}
@@ -7,7 +7,6 @@ use Rattle.rv_hart.specs.Clauses.{IsFitRecord}
 use Rattle.tpl_ast.specs.declared.template.Var.{Var}
 use Rattle.tpl_ast.specs.declared.template.Var.TheVariants as vars
 use Rattle.tpl_ast.specs.declared.template.Wish.{Wish}
-use Rattle.tpl_admit.specs.declared.dropped.Dropped.{Dropped}
 use Rattle.tpl_admit.specs.Variables.{Moment, value_of}
 use Rattle.part_machine.specs.Whole.{Whole, hart_of, records_of}
 use Rattle.part_state.specs.Meaning.{IsTest}

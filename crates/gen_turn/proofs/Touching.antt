@@ -1,5 +1,5 @@
 -- The touches of a test's records are its footprints.
-use Rattle.std.proofs.Common.{◌≡◌, ℕ, zero, suc, ◌+◌, ◌<◌, ◌≤◌, ◌&&◌, ◌||◌, ◌↔◌, Bool, true, false, cond, List, [], ◌∷◌, ◌++◌, map, filter, ⊎_elim, ◌⊎◌, inl, inr, nat_eq, refl, sym, ap, ◌∙◌, subst, arith}
+use Rattle.std.proofs.Common.{◌≡◌, ℕ, zero, suc, ◌+◌, ◌<◌, ◌≤◌, ◌||◌, Bool, true, false, cond, List, [], ◌∷◌, map, filter, ⊎_elim, ◌⊎◌, inl, inr, refl, sym, ap, ◌∙◌, subst, arith}
 use Rattle.std.specs.Prelude.{slice_index_or}
 use Rattle.std.specs.List.{list_any}
 use Rattle.std.proofs.lemmas.Bool.{and_parts, and_from, eq-eqb, eqb-true, cases_lt, leb-true, ltb-true}
@@ -11,7 +11,7 @@ use Rattle.rv_script.specs.Lists.{HasItem}
 use Rattle.foot_map.specs.declared.touch.Touch.{Touch}
 use Rattle.foot_map.proofs.Orders.{same_role_is, same_role_refl}
 use Rattle.foot_map.specs.Races.{IsFootprint}
-use Rattle.foot_map.specs.Touches.{has, is_triple, same_role}
+use Rattle.foot_map.specs.Touches.{is_triple, same_role}
 use Rattle.rv_hart.specs.declared.record.Record.{Record}
 use Rattle.tpl_admit.specs.Races.{footprint_of, footprints_of}
 use Rattle.gen_turn.specs.Touches.{all_touches_of, bytes_from, touches_from, touches_of}

@@ -1,5 +1,5 @@
 -- The turn of a `do` leaf where no address is translated.
-use Rattle.std.proofs.Common.{◌≡◌, ℕ, ◌%◌, ◌<◌, ◌≤◌, ◌&&◌, Bool, true, false, leb, List, [], refl, sym, ap, ◌∙◌}
+use Rattle.std.proofs.Common.{◌≡◌, ℕ, ◌%◌, ◌<◌, ◌≤◌, ◌&&◌, Bool, true, false, leb, List, [], refl, sym, ap}
 use Rattle.rv_mem.specs.Seen.{is_there}
 use Rattle.sv_walk.specs.Translation.{is_in_ram, is_translated}
 use Rattle.rv_hart.specs.Machine.{fetch_view}

@@ -1,10 +1,9 @@
 -- What is made of a template.
 use Rattle.std.specs.Prelude.{◌≡◌, ℕ, length}
-use Rattle.part_machine.specs.Whole.{Whole}
 use Rattle.part_state.specs.Beginning.{IsBegun}
 use Rattle.part_state.specs.Meaning.{IsTest}
 use Rattle.part_state.specs.State.{Test, data_of, whole}
-use Rattle.part_state.specs.Told.{FitsFile, Tells}
+use Rattle.part_state.specs.Told.{Tells}
 use Rattle.tpl_ast.specs.declared.template.Template.{Template}
 use Rattle.tpl_admit.specs.declared.certificate.Cert.{Cert}
 use Rattle.tpl_admit.specs.Admission.{Admits}
@@ -26,7 +25,7 @@ pub record Comes (t : Template) (seed nodes turns : ℕ) (result : SearchResult 
   pub told : first ≡ data_of (whole first)
   pub searches : Searches draft_rules t.harts seed turns (shown t nodes first) result
 
--- a certificate is that of the test in which the search is done; it is sound, its template admits it, and it is well-formed where it fits a file
+-- a certificate is that of the test in which the search is done; it is sound and well-formed, and its template admits it
 pub record IsOfTest (t : Template) (seed nodes turns : ℕ) (c : Cert) : Type 0 where
   pub last : Shown
   pub tally : Tally
@@ -34,7 +33,7 @@ pub record IsOfTest (t : Template) (seed nodes turns : ℕ) (c : Cert) : Type 0 
   pub tells : Tells t (whole last.now) c
   pub sound : IsSound c
   pub admits : Admits c
-  pub well_formed : FitsFile c → IsWellFormed c
+  pub well_formed : IsWellFormed c
 
 -- the search gave up, with these numbers
 pub record IsGivenUp (t : Template) (seed nodes turns none_fits spent last_line : ℕ) : Type 0 where

@@ -6,7 +6,7 @@ use Rattle.tpl_ast.specs.Parsing.{Parses}
 use Rattle.tpl_admit.specs.declared.certificate.Cert.{Cert}
 use Rattle.tpl_admit.specs.Admission.{Admits}
 use Rattle.part_state.specs.State.{whole}
-use Rattle.part_state.specs.Told.{Tells}
+use Rattle.part_state.specs.Told.{FitsFile, Tells}
 use Rattle.gen_search.specs.Ready.{BodiesAreReady}
 use Rattle.gen_search.specs.declared.draws.Tally.{Tally}
 use Rattle.gen_search.specs.Search.{Done, SearchResult, Searches}
@@ -32,3 +32,9 @@ abbrev pub DoneTestsAreAdmitted : Type 0
 DoneTestsAreAdmitted =
     (t : Template) (seed nodes turns : ℕ) (last : Shown) (tally : Tally) (c : Cert) → Parses t.text t → is_template_built t ≡ true
     → Comes t seed nodes turns (Done last tally) → Tells t (whole last.now) c → Admits c
+
+-- and it fits a file
+abbrev pub DoneTestsFitFiles : Type 0
+DoneTestsFitFiles =
+    (t : Template) (seed nodes turns : ℕ) (last : Shown) (tally : Tally) (c : Cert) → Parses t.text t → is_template_built t ≡ true
+    → Comes t seed nodes turns (Done last tally) → Tells t (whole last.now) c → FitsFile c

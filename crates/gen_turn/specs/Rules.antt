@@ -1,5 +1,5 @@
 -- What the search for a test sees of a draft, as plain data, and by what it is changed.
-use Rattle.std.specs.Prelude.{◌≡◌, ℕ, List}
+use Rattle.std.specs.Prelude.{◌≡◌, ℕ}
 use Rattle.tpl_ast.specs.declared.template.Item.{Item}
 use Rattle.tpl_ast.specs.declared.template.Template.{Template}
 use Rattle.part_state.specs.State.{Test, data_of, whole}

@@ -105,8 +105,8 @@ moment_at k x done w = record {
   others = take k w.traces;
 }
 
--- the step of an answer was taken, with a record that can stand in a file, the names of the atoms that it meets were bound, and the biases that were not kept
--- were listed; what comes of it is a test, and what is known then is words
+-- the step of an answer was taken, with a record that can stand in a file, the names of the mandatory atoms and the kept biases were bound, and the biases that were
+-- not kept were listed; what comes of it is a test, and what is known then is words
 pub record IsLeafTaken (k : ℕ) (ws : List Wish) (dropped : List (ℕ × Bool)) (x : Values) (old after : Whole) : Type 0 where
   pub done : Record
   pub stepped : Whole

@@ -1,6 +1,6 @@
 // Laws of the search for a test of a template.
 ghost use Rattle.gen_search.specs.Laws.{HasOneAnswer, StillAllows};
-ghost use Rattle.gen_turn.specs.Laws.{DoneTestsAreAdmitted, GeneratedIsOne, SearchesHaveOneResult};
+ghost use Rattle.gen_turn.specs.Laws.{DoneTestsAreAdmitted, DoneTestsFitFiles, GeneratedIsOne, SearchesHaveOneResult};
 ghost use Rattle.gen_turn.specs.Rules.{can_be_taken, draft_rules};
 
 use crate::built::built_templates_are_ready;
@@ -46,13 +46,18 @@ pub fn generated_is_one()
     built_templates_are_ready();
 }
 
-/// Does nothing. Its contract says that the certificate of a test in which a search is done is admitted by its template.
-pub fn done_tests_are_admitted()
-    ensures { DoneTestsAreAdmitted }
+/// Does nothing. Its contract says that the certificate of a test in which a search is done is admitted by its template,
+/// and fits a file.
+pub fn done_tests_are_certified()
+    ensures admitted { DoneTestsAreAdmitted }
+    ensures fit { DoneTestsFitFiles }
 {
     template_law();
     built_templates_are_ready();
     turns_have_one_answer();
     met_atoms_are_true();
     steps_are_fetched();
+    values_are_by_places();
+    answers_are_found();
+    built_leaves_are_posable();
 }

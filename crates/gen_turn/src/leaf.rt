@@ -39,7 +39,8 @@ fn is_in_ram(part: &Part, hart: u8) -> bool
     }
 }
 
-/// Takes the step of an answer, binds the names of what it meets, and lists the biases that were not kept.
+/// Takes the step of an answer, binds the names of the mandatory atoms and the kept biases, and lists the biases that were
+/// not kept.
 fn take_leaf(
     part: &mut Part,
     hart: u8,

@@ -15,6 +15,6 @@ mod making;
 pub use built::{built_templates_are_ready, is_template_built};
 pub use draft::{Draft, DraftWhole};
 pub use laws::{
-    done_tests_are_admitted, generated_is_one, searches_have_one_result, turns_have_one_answer,
+    done_tests_are_certified, generated_is_one, searches_have_one_result, turns_have_one_answer,
 };
 pub use making::{Found, Generated, generate};

@@ -8,7 +8,7 @@ ghost use Rattle.gen_turn.specs.Generating.{IsFound, IsGenerated};
 
 use crate::built::built_templates_are_ready;
 use crate::draft::Draft;
-use crate::laws::done_tests_are_admitted;
+use crate::laws::done_tests_are_certified;
 use gen_search::{Answer, OutOfMemory, search};
 use part_state::Part;
 use std::alloc::Global;
@@ -74,7 +74,7 @@ pub fn generate(
     requires built { is_template_built template ≡ true }
     ensures { IfOk result (IsGenerated template seed nodes turns) }
 {
-    done_tests_are_admitted();
+    done_tests_are_certified();
     let Found { part, answer } = search_for(alloc, &template, seed, nodes, turns)?;
     match answer {
         Answer::Done => match part.finish(alloc, template) {

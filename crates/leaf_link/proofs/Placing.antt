@@ -11,11 +11,11 @@ use Rattle.rv_isa.specs.Table.{row_of}
 use Rattle.rv_isa.proofs.Codec.{encoded_read}
 use Rattle.rv_isa.proofs.Numbers.{small}
 use Rattle.rv_script.specs.declared.place.Place.{Place}
-use Rattle.rv_script.specs.declared.place.Place.TheVariants.{Reg, Csr}
+use Rattle.rv_script.specs.declared.place.Place.TheVariants.{Reg, Csr, Word}
 use Rattle.rv_script.specs.Labels.{Asks}
 use Rattle.rv_script.specs.Lists.{HasItem}
 use Rattle.rv_script.specs.Logs.{by_answers, entry_place, found, or_given, same_place, started, value_or, where_unknown, answer_told}
-use Rattle.rv_script.specs.Script.{Label, Label.FetchRoot, Label.FetchSecond, Label.Fetched, Label.FromRs1, Label.FromRs2, Label.FromCsr, Label.DataRoot, Label.DataSecond, Label.DataWord, Label.FromVector, Question, Question.OfRegister, Question.OfCsr, Question.OfMemory, Question.ToMemory, told as told_of, Script, Script.Ask, Script.Outside, Script.Done}
+use Rattle.rv_script.specs.Script.{Label, Label.FetchRoot, Label.FetchSecond, Label.Fetched, Label.FromRs1, Label.FromRs2, Label.FromCsr, Label.DataRoot, Label.DataSecond, Label.DataWord, Label.FromVector, Question, Question.OfRegister, Question.OfCsr, Question.OfMemory, Question.ToMemory, place_of, told as told_of, Script, Script.Ask, Script.Outside, Script.Done}
 use Rattle.rv_script.specs.Folds.{Entry, Known, Teller, Answer.Does}
 use Rattle.rv_script.proofs.Plays.{first_asked, same_is, told}
 use Rattle.rv_script.proofs.Results.{Ends, ended}
@@ -33,9 +33,9 @@ use Rattle.leaf_link.specs.Candidates.{IsCandidate}
 use Rattle.leaf_link.specs.Cases.{fetch_entry}
 use Rattle.leaf_link.specs.Ways.{IsFetched}
 use Rattle.leaf_link.specs.Problems.{key_of}
-use Rattle.leaf_link.specs.Placing.{StaysOrTraps, StepsStayOrTrap, ValuesAreByPlaces, ValuesAreInstructions, asks_little, value_at}
+use Rattle.leaf_link.specs.Placing.{NewWordsAreFetched, StaysOrTraps, StepsStayOrTrap, ValuesAreByPlaces, ValuesAreInstructions, asks_little, value_at}
 use Rattle.leaf_link.proofs.Links.{Good, candidate_good, instr_assigned}
-use Rattle.leaf_link.proofs.Front.{a_entry, asks_a, asks_b, b_entry, front_back, front_log, has_either, has_only, has_second, later_has, only, only_has, rest_of, settled, told_a, told_b, walk_known}
+use Rattle.leaf_link.proofs.Front.{a_entry, asks_a, asks_b, b_entry, front_back, front_log, has_either, has_only, has_second, later_has, only, only_has, pa_aligned, rest_of, settled, told_a, told_b, walk_known, word_place}
 use Rattle.leaf_link.proofs.Back.{good_reads}
 
 -- THE REST OF AN INSTRUCTION THAT ASKS FOR LITTLE
@@ -195,7 +195,7 @@ for_vector known x e vector none told = go e.question vector none told
     label DataSecond h o none told = absurd h
     label DataWord h o none told = absurd h
 
-    go : (q : Question) → IsForVector q → known (Rattle.rv_script.specs.Script.place_of q) ≡ None → by_answers known (given_by x) q ≡ Some e.value → e.value ≡ value_at x (Rattle.rv_script.specs.Script.place_of q)
+    go : (q : Question) → IsForVector q → known (place_of q) ≡ None → by_answers known (given_by x) q ≡ Some e.value → e.value ≡ value_at x (place_of q)
     go (OfCsr l addr) h none told = label l h (known (Csr addr)) none told
     go (OfRegister l n) h none told = absurd h
     go (OfMemory l addr size) h none told = absurd h
@@ -269,3 +269,49 @@ values_are_instructions t leaf new w =
     let fetched = w.is.meets.fetched in
     let fits : Fits w.instr = (encoded_read fetched.0.value w.instr fetched.2).fits in
     (record { number = small w.instr.op; fits = subst Fits (sym same) fits }, same)
+
+-- ---- new words
+
+word_of_entry : (t : Turn) (walk : List Entry) (pa : ℕ) (leaf : List Atom) (new : Known) → IsFetched t walk pa → (w : IsCandidate t leaf new) → asks_little (row_of w.instr.op) ≡ true
+    → (e : Entry) → HasItem w.log e → t.known (entry_place e) ≡ None → (addr : ℕ) → entry_place e ≡ Word addr → addr ≡ pa
+word_of_entry t walk pa leaf new f w little e i none addr at =
+    let x : Values = key_of t leaf new w in
+    let op : Op = w.instr.op in
+    let p = in_parts_of t walk pa leaf new f w in
+    let a : Entry = a_entry t x in
+    let b : Entry = b_entry t x in
+    let behind : List Entry = only (asks_a t op x) a (only (asks_b op) b p.rest) in
+    let among : HasItem (front_log t walk pa op x p.rest) e = subst (λ (l : List Entry). HasItem l e) p.log i in
+    elim (has_either walk (fetch_entry t pa (word_of (instr_in x)) ∷ behind) e among) [
+      | inl j ↦ let z : t.known (entry_place e) ≡ Some e.value = walk_known t walk pa f e j in absurd (cc)
+      | inr j ↦ elim j [
+        | inl same ↦ same_word (sym at ∙ sym (ap entry_place same) ∙ word_place pa (pa_aligned t walk pa f))
+        | inr k ↦ elim (has_only (asks_a t op x) a (only (asks_b op) b p.rest) e k) [
+          | inl first ↦ absurd (no_register (x slots.Rs1) addr (ap entry_place first.1 ∙ at))
+          | inr m ↦ elim (has_only (asks_b op) b p.rest e m) [
+            | inl second ↦ absurd (no_register (x slots.Rs2) addr (ap entry_place second.1 ∙ at))
+            | inr last ↦
+                absurd (no_vector e.question
+                (asked_by IsForVector (rest_of t op x (told_a t op x) (told_b t op x)) (by_answers t.known (given_by x)) p.rest w.change (rest_little (row_of op) t.fixed (word_of (instr_in x)) (instr_in x) (told_a t op x) (told_b t op x) little).asks p.plays e last) at)
+          ]
+        ]
+      ]
+    ]
+  where
+    same_word : {n m : ℕ} → Word n ≡ Word m → n ≡ m
+    same_word {n} {m} h = ap (λ (q : Place). elim q [ Word a ↦ a | Reg r ↦ n | Csr c ↦ n ]) h
+
+    no_register : (n addr : ℕ) → Reg n ≡ Word addr → ⊥
+    no_register n addr h = absurd (cc h)
+
+    no_vector : (q : Question) → IsForVector q → place_of q ≡ Word addr → ⊥
+    no_vector (OfCsr l c) h at = absurd (cc at)
+    no_vector (OfRegister l n) h at = absurd h
+    no_vector (OfMemory l a size) h at = absurd h
+    no_vector (ToMemory a size value) h at = absurd h
+
+pub new_words_are_fetched : NewWordsAreFetched
+new_words_are_fetched t walk pa leaf new f w little addr v h =
+    let n = new_found t.known new w.log (Word addr) v (w.is.exact (Word addr)) h in
+    let e = found_in w.log (Word addr) v n.1 in
+    word_of_entry t walk pa leaf new f w little e.entry e.among (ap t.known e.at ∙ n.0) addr e.at

@@ -67,3 +67,9 @@ abbrev pub StepsStayOrTrap : Type 0
 StepsStayOrTrap =
     (t : Turn) (walk : List Entry) (pa : ℕ) (leaf : List Atom) (new : Known) → IsFetched t walk pa → (w : IsCandidate t leaf new) → asks_little (row_of w.instr.op) ≡ true
     → StaysOrTraps w.change.control
+
+-- the only new word is the fetched one
+abbrev pub NewWordsAreFetched : Type 0
+NewWordsAreFetched =
+    (t : Turn) (walk : List Entry) (pa : ℕ) (leaf : List Atom) (new : Known) → IsFetched t walk pa → (w : IsCandidate t leaf new) → asks_little (row_of w.instr.op) ≡ true
+    → (addr v : ℕ) → new (Word addr) ≡ Some v → addr ≡ pa

@@ -3,7 +3,7 @@ ghost use Rattle.leaf_link.specs.Agreements.{LeafAnswersAgree, LeafAnswersExist,
 ghost use Rattle.leaf_link.specs.AllWays.{LeafAnswersAreExact, LeafProblemsAreExact};
 ghost use Rattle.leaf_link.specs.Bounds.{SpaceIsBounded};
 ghost use Rattle.leaf_link.specs.Domains.{CandidatesAreInDomains, CandidatesAreWords, OldDomainsAreLet, OldValuesAreInDomains};
-ghost use Rattle.leaf_link.specs.Placing.{StepsStayOrTrap, ValuesAreByPlaces, ValuesAreInstructions};
+ghost use Rattle.leaf_link.specs.Placing.{NewWordsAreFetched, StepsStayOrTrap, ValuesAreByPlaces, ValuesAreInstructions};
 ghost use Rattle.leaf_link.specs.Firsts.{FirstsExist, FirstsHoldNothing, PivotsAreExact, SpaceIsExact, TurnAnswersAreExact};
 ghost use Rattle.leaf_link.specs.Problems.{AnswersAreExact, ProblemIsExact};
 ghost use Rattle.leaf_link.specs.Started.{OrderIsKept};
@@ -72,10 +72,11 @@ pub fn candidates_are_in_domains()
 {}
 
 /// Does nothing. Its contract says of an instruction that is no load, store, CSR instruction or return from a trap that
-/// the place alone tells which of the candidate's values a new place has, and that its step goes on or traps; and of
-/// each candidate that its values are those of its instruction.
+/// the place alone tells which of the candidate's values a new place has, that the fetched word is the only new one,
+/// and that its step goes on or traps; and of each candidate that its values are those of its instruction.
 pub fn values_are_by_places()
     ensures places { ValuesAreByPlaces }
     ensures instructions { ValuesAreInstructions }
     ensures control { StepsStayOrTrap }
+    ensures words { NewWordsAreFetched }
 {}

@@ -16,6 +16,7 @@ use Rattle.tpl_ast.specs.declared.template.Region.{Region}
 use Rattle.tpl_ast.specs.declared.template.Template.{Template}
 use Rattle.tpl_ast.specs.Laws.{TemplatesKeepLimits}
 use Rattle.tpl_ast.specs.Templates.{KeepsLimits}
+use Rattle.tpl_ast.specs.Limits.{file_limits}
 use Rattle.tpl_ast.specs.Parsing.{Parses}
 use Rattle.tpl_admit.specs.declared.certificate.Cert.{Cert}
 use Rattle.tpl_admit.specs.Starts.{found, no_state}
@@ -29,6 +30,7 @@ use Rattle.part_told.specs.Words.{AreListed, IsWithinRam, IsWordAt, ListsWords}
 use Rattle.part_state.specs.Meaning.{held_in, partial_of, IsFit, IsTest}
 use Rattle.part_state.specs.Told.{Tells, FitsFile}
 use Rattle.part_state.proofs.KnownPlaces.{told_state_is}
+use Rattle.part_state.proofs.FileSizes.{IsCounted, names_within, size_within, states_within, traces_within}
 
 -- ---- the words of the start
 
@@ -121,22 +123,39 @@ pub well_formed_of : (t : Template) (w : Whole) (c : Cert) → TemplatesKeepLimi
     → AllByRecursion IsState c.start → AllByRecursion IsState c.finals → AllByRecursion IsWord c.last → AllByRecursion IsWord c.choices → Parses t.text t → FitsFile c → IsWellFormed c
 well_formed_of t w c law test harts made tells start finals last choices parses fits =
     let limits : KeepsLimits t.text t = law t.text t parses in
+    let template : Parses c.template.text c.template = subst (λ (q : Template). Parses q.text q) (sym tells.template) parses in
+    let of_template : KeepsLimits c.template.text c.template = law c.template.text c.template template in
     let same : length c.template.harts ≡ length t.harts = ap (λ (q : Template). length q.harts) tells.template in
+    let harts_few : length c.start ≤ 4 = omega (arith, made.count, harts, limits.harts) in
+    let finals_count : length c.finals ≡ length c.start = made.finals ∙ sym made.count in
+    let traces_count : length c.traces ≡ length c.start = made.traces ∙ sym made.count in
+    let last_count : length c.last ≡ length c.words = sym (length-map c.last (λ (v : ℕ). Some v)) ∙ ap (λ (os : List (Option ℕ)). length os) tells.last ∙ length-map c.words (λ (e : ℕ × ℕ). known_word (w.memory (e.0 / 4))) in
+    let counted : IsCounted c = record {
+      start = states_within c.start start harts_few;
+      finals = states_within c.finals finals (omega (arith, finals_count, harts_few));
+      traces = traces_within file_limits c.traces refl fits.records (omega (arith, traces_count, harts_few)) fits.steps;
+      words = fits.words_count;
+      last = omega (arith, last_count, fits.words_count);
+      text = of_template.text;
+      choices = fits.choices_count;
+      names = names_within c.template.names c.names fits.names of_template.names_count;
+      dropped = fits.dropped_count;
+    } in
     record {
-      size = fits.size;
+      size = size_within c counted;
       some_harts = omega (arith, made.count, harts, limits.some_harts);
-      harts = omega (arith, made.count, harts, limits.harts);
+      harts = harts_few;
       start = start;
-      finals_count = made.finals ∙ sym made.count;
+      finals_count = finals_count;
       finals = finals;
-      traces_count = made.traces ∙ sym made.count;
+      traces_count = traces_count;
       traces = fits.records;
       steps = fits.steps;
       words_count = fits.words_count;
       words = made.start_words;
-      last_count = sym (length-map c.last (λ (v : ℕ). Some v)) ∙ ap (λ (os : List (Option ℕ)). length os) tells.last ∙ length-map c.words (λ (e : ℕ × ℕ). known_word (w.memory (e.0 / 4)));
+      last_count = last_count;
       last = last;
-      template = subst (λ (q : Template). Parses q.text q) (sym tells.template) parses;
+      template = template;
       template_harts = same ∙ harts ∙ sym made.count;
       choices_count = fits.choices_count;
       choices = choices;

@@ -14,4 +14,5 @@ pub mod Begins
 pub mod OneBeginning
 pub mod OneTelling
 pub mod Declared
+pub mod FileSizes
 pub mod Certificates

@@ -4,3 +4,4 @@ pub mod Probing
 pub mod State
 pub mod Beginning
 pub mod Told
+pub mod Files

@@ -4,7 +4,6 @@ use Rattle.std.specs.List.{AllByRecursion}
 use Rattle.rv_mem.specs.Seen.{known_word}
 use Rattle.tpl_ast.specs.declared.template.Template.{Template}
 use Rattle.tpl_admit.specs.declared.certificate.Cert.{Cert}
-use Rattle.tpl_admit.specs.Sizes.{file_size}
 use Rattle.tpl_admit.specs.WellFormed.{IsRecord, AreNamed, AreDropped}
 use Rattle.part_machine.specs.Whole.{Whole}
 use Rattle.part_told.specs.Finishing.{known_from, told_state}
@@ -23,9 +22,9 @@ pub record Tells (t : Template) (w : Whole) (c : Cert) : Type 0 where
   pub names : c.names ≡ known_from 0 w.names
   pub dropped : c.dropped ≡ w.dropped
 
--- what else has to be known so that it has a file: limits, and what depends on the template's names and on who dropped biases
+-- what else has to be known so that it has a file: limits, and what depends on the template's names and on who dropped biases. That its bytes are within
+-- their limit follows
 pub record FitsFile (c : Cert) : Type 0 where
-  pub size : file_size c ≤ file_limits.size
   pub records : AllByRecursion (λ t. AllByRecursion IsRecord t) c.traces
   pub steps : sum_by (λ t. length t) c.traces ≤ file_limits.records
   pub words_count : length c.words ≤ file_limits.words

@@ -12,6 +12,6 @@ mod probe;
 mod starting;
 
 pub use error::OutOfMemory;
-pub use laws::told_places;
+pub use laws::{file_sizes, told_places};
 pub use part::Part;
 pub use probe::Probe;

@@ -101,7 +101,7 @@ test_one k (Csr addr) v w test l can address fits =
     test_csr k addr v w test (has k w test l) (csr_untouched k addr w test (has k w test l) (untouched_none (hart_of k w).csrs addr can.startable.0 can.startable.1 can.unknown))
 test_one k (Word addr) v w test l can address fits = test_word addr v w test address fits (word_untouched addr w test can.startable.1 can.unknown)
 
-known_one : (k : ℕ) (place : Place) (v : ℕ) (w : Whole) → IsTest w → k < length w.harts → CanStart k place v w → IsAddressed place → v < 2 ^ 32
+pub known_one : (k : ℕ) (place : Place) (v : ℕ) (w : Whole) → IsTest w → k < length w.harts → CanStart k place v w → IsAddressed place → v < 2 ^ 32
     → (other : Place) → IsNamed other → known_at k (place_given k place v w) other ≡ (if same_place place other then Some v else known_at k w other)
 known_one k place v w test l can address fits other named =
     let more = one_more k place v w test l can in

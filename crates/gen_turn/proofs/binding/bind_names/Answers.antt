@@ -1,4 +1,3 @@
-use Rattle.std.proofs.Common.{ℕ, ◌<◌, arith}
 use Rattle.tpl_admit.specs.Moments.{moment}
 use Rattle.tpl_admit.specs.Variables.{value_of}
 use Rattle.gen_turn.proofs.Names.{all_bound, begun, below, going_on}

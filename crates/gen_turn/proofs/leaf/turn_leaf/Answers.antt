@@ -1,11 +1,11 @@
-use Rattle.std.proofs.Common.{ℕ, Bool, List, ◌<◌, ◌≤◌, refl, sym, ap, ◌∙◌, subst, arith}
+use Rattle.std.proofs.Common.{ℕ, Bool, List, refl, sym, ◌∙◌, subst, arith}
 use Rattle.fd_solve.specs.declared.answers.Solved.{Solved}
 use Rattle.leaf_link.specs.Answers.{values_in}
 use Rattle.gen_search.specs.Search.{Turned.Taken, Turned.NoneFits, Turned.Spent}
 use Rattle.part_state.specs.State.{here}
 use Rattle.gen_turn.specs.Drafts.{drafted}
 use Rattle.gen_turn.specs.Turns.{EndsAs, IsLeafTaken}
-use Rattle.gen_turn.proofs.Turning.{ended, out, spent}
+use Rattle.gen_turn.proofs.Turning.{ended, out}
 use Rattle.gen_turn.proofs.leaf.turn_leaf.Goals as goal
 
 pub returns-then-not-is_in_ram-clause-turned : goal.returns-then-not-is_in_ram-clause-turned

@@ -1,0 +1,188 @@
+-- How many words a start gives: each step starts one at most.
+use Rattle.std.proofs.Common.{◌≡◌, ℕ, ◌+◌, ◌*◌, ◌/◌, ◌%◌, ◌<◌, ◌≤◌, Bool, true, false, eqb, if◌then◌else◌, List, [], ◌∷◌, ◌++◌, length, Option, Some, None, refl, sym, ap, ◌∙◌, subst, inl, inr, arith}
+use Rattle.std.specs.Option.{is_some, option_or}
+use Rattle.std.proofs.lemmas.Bool.{cases_eq, eq-eqb, eqb-true, ne_eqb}
+use Rattle.rv_script.specs.declared.place.Place.{Place}
+use Rattle.rv_script.specs.declared.place.Place.TheVariants.{Reg, Csr, Word}
+use Rattle.rv_script.specs.Logs.{same_place}
+use Rattle.part_told.specs.Words.{AreListed as AreWordsListed, ListsWords}
+use Rattle.tpl_admit.specs.Starts.{found}
+use Rattle.part_machine.specs.Whole.{Whole, given}
+use Rattle.part_state.specs.Meaning.{IsTest, place_given}
+use Rattle.turn_laws.specs.Given.{CanGive, all_given, given_to, known_at}
+use Rattle.turn_laws.proofs.Places.{beside_one, known_one, test_one}
+
+-- ---- words among places
+
+abbrev word_in : Place → ℕ
+word_in (Reg n) = 0
+word_in (Csr addr) = 0
+word_in (Word addr) = 1
+
+abbrev pub words_in : List (Place × ℕ) → ℕ
+words_in [] = 0
+words_in (e ∷ es) = word_in e.0 + words_in es
+
+length_last : (xs : List (ℕ × ℕ)) (x : ℕ × ℕ) → length (xs ++ x ∷ []) ≡ length xs + 1
+length_last [] x = refl
+length_last (y ∷ xs) x = let h = length_last xs x in omega (arith, h)
+
+words_one : (k : ℕ) (place : Place) (v : ℕ) (w : Whole) → length (place_given k place v w).words ≡ length w.words + word_in place
+words_one k (Reg n) v w = omega arith
+words_one k (Csr addr) v w = omega arith
+words_one k (Word addr) v w = length_last w.words (addr / 4, v)
+
+pub words_given : (k : ℕ) (es : List (Place × ℕ)) (w : Whole) → length (all_given k es w).words ≡ length w.words + words_in es
+words_given k [] w = omega arith
+words_given k (e ∷ es) w = let one = words_one k e.0 e.1 w in let rest = words_given k es (place_given k e.0 e.1 w) in omega (arith, one, rest)
+
+-- ---- a word that is known isn't given again
+
+none_given : (k addr v : ℕ) (es : List (Place × ℕ)) (w : Whole) → IsTest w → k < length w.harts → addr % 4 ≡ 0 → CanGive k es w → known_at k w (Word addr) ≡ Some v → ((a u : ℕ) → given_to es (Word a) ≡ Some u → a ≡ addr) → words_in es ≡ 0
+none_given k addr v [] w test l aligned can known only = refl
+none_given k addr v (e ∷ es) w test l aligned can known only =
+    let b = beside_one k e.0 e.1 w in
+    let new : IsTest (place_given k e.0 e.1 w) = test_one k e.0 e.1 w test l can.0 can.1 can.2 in
+    let more : k < length (place_given k e.0 e.1 w).harts = omega (arith, l, b.harts) in
+    let other = own e.0 refl in
+    let still : known_at k (place_given k e.0 e.1 w) (Word addr) ≡ Some v =
+    known_one k e.0 e.1 w test l can.0 can.1 can.2 (Word addr) aligned ∙ ap (λ (c : Bool). if c then Some e.1 else known_at k w (Word addr)) (apart e.0 other) ∙ known in
+    let rest = none_given k addr v es (place_given k e.0 e.1 w) new more aligned can.3 still (later e.0 other) in
+    let zero_own = no_word e.0 other in
+    omega (arith, rest, zero_own)
+  where
+    -- no place of the list is a word
+    own : (place : Place) → e.0 ≡ place → (a : ℕ) → e.0 ≡ Word a → ⊥
+    own place is a at =
+        let same : a ≡ addr = only a e.1 (ap (λ (c : Bool). if c then Some e.1 else given_to es (Word a)) (ap (λ (p : Place). same_place p (Word a)) at ∙ eq-eqb a a refl)) in
+        let none : known_at k w (Word addr) ≡ None = ap (known_at k w) (ap Word (sym same) ∙ sym at) ∙ can.0.unknown in
+        absurd (cc (sym none ∙ known))
+
+    apart : (place : Place) → ((a : ℕ) → place ≡ Word a → ⊥) → same_place place (Word addr) ≡ false
+    apart (Reg n) h = refl
+    apart (Csr n) h = refl
+    apart (Word a) h = absurd (h a refl)
+
+    no_word : (place : Place) → ((a : ℕ) → place ≡ Word a → ⊥) → word_in place ≡ 0
+    no_word (Reg n) h = refl
+    no_word (Csr n) h = refl
+    no_word (Word a) h = absurd (h a refl)
+
+    past : (place : Place) (a : ℕ) → ((a : ℕ) → place ≡ Word a → ⊥) → same_place place (Word a) ≡ false
+    past (Reg n) a h = refl
+    past (Csr n) a h = refl
+    past (Word b) a h = absurd (h b refl)
+
+    later : (place : Place) → ((a : ℕ) → place ≡ Word a → ⊥) → (a u : ℕ) → given_to es (Word a) ≡ Some u → a ≡ addr
+    later place h a u is = only a u (ap (λ (c : Bool). if c then Some e.1 else given_to es (Word a)) (past e.0 a (own e.0 refl)) ∙ is)
+
+pub one_word : (k addr : ℕ) (es : List (Place × ℕ)) (w : Whole) → IsTest w → k < length w.harts → addr % 4 ≡ 0 → CanGive k es w → ((a u : ℕ) → given_to es (Word a) ≡ Some u → a ≡ addr) → words_in es ≤ 1
+one_word k addr [] w test l aligned can only = omega arith
+one_word k addr (e ∷ es) w test l aligned can only =
+    let b = beside_one k e.0 e.1 w in
+    let new : IsTest (place_given k e.0 e.1 w) = test_one k e.0 e.1 w test l can.0 can.1 can.2 in
+    let more : k < length (place_given k e.0 e.1 w).harts = omega (arith, l, b.harts) in
+    go e.0 refl new more (one_word k addr es (place_given k e.0 e.1 w) new more aligned can.3)
+  where
+    skipped : (same : (a : ℕ) → same_place e.0 (Word a) ≡ false) (a u : ℕ) → given_to es (Word a) ≡ Some u → a ≡ addr
+    skipped same a u h = only a u (ap (λ (c : Bool). if c then Some e.1 else given_to es (Word a)) (same a) ∙ h)
+
+    others : (at : e.0 ≡ Word addr) (a u : ℕ) → given_to es (Word a) ≡ Some u → a ≡ addr
+    others at a u h = elim (cases_eq addr a) [
+      | inl same ↦ sym same
+      | inr apart ↦ only a u (ap (λ (c : Bool). if c then Some e.1 else given_to es (Word a)) (ap (λ (p : Place). same_place p (Word a)) at ∙ ne_eqb addr a apart) ∙ h)
+    ]
+
+    go : (place : Place) → e.0 ≡ place → IsTest (place_given k e.0 e.1 w) → k < length (place_given k e.0 e.1 w).harts
+        → (((a u : ℕ) → given_to es (Word a) ≡ Some u → a ≡ addr) → words_in es ≤ 1) → word_in e.0 + words_in es ≤ 1
+    go (Reg n) is new more rest =
+        let none : word_in e.0 ≡ 0 = ap word_in is in
+        let h = rest (skipped (λ a. ap (λ (p : Place). same_place p (Word a)) is)) in
+        omega (arith, none, h)
+    go (Csr n) is new more rest =
+        let none : word_in e.0 ≡ 0 = ap word_in is in
+        let h = rest (skipped (λ a. ap (λ (p : Place). same_place p (Word a)) is)) in
+        omega (arith, none, h)
+    go (Word a) is new more rest =
+        let same : a ≡ addr = only a e.1 (ap (λ (c : Bool). if c then Some e.1 else given_to es (Word a)) (ap (λ (p : Place). same_place p (Word a)) is ∙ eq-eqb a a refl)) in
+        let at : e.0 ≡ Word addr = is ∙ ap (λ (n : ℕ). Word n) same in
+        let known : known_at k (place_given k e.0 e.1 w) (Word addr) ≡ Some e.1 =
+        known_one k e.0 e.1 w test l can.0 can.1 can.2 (Word addr) aligned
+        ∙ ap (λ (c : Bool). if c then Some e.1 else known_at k w (Word addr)) (ap (λ (p : Place). same_place p (Word addr)) at ∙ eq-eqb addr addr refl) in
+        let none = none_given k addr e.1 es (place_given k e.0 e.1 w) new more aligned can.3 known (others at) in
+        let one : word_in e.0 ≡ 1 = ap word_in is in
+        omega (arith, none, one)
+
+-- ---- a certificate lists no more words than were given
+
+abbrev removed : ℕ → List (ℕ × ℕ) → List (ℕ × ℕ)
+removed n [] = []
+removed n (e ∷ es) = if eqb n e.0 then removed n es else e ∷ removed n es
+
+no_more : (n : ℕ) (es : List (ℕ × ℕ)) → length (removed n es) ≤ length es
+no_more n [] = omega arith
+no_more n (e ∷ es) = go (eqb n e.0) (no_more n es)
+  where
+    go : (b : Bool) → length (removed n es) ≤ length es → length (if b then removed n es else e ∷ removed n es) ≤ length (e ∷ es)
+    go true h = omega (arith, h)
+    go false h = omega (arith, h)
+
+one_less : (n : ℕ) (es : List (ℕ × ℕ)) → is_some (given es n) ≡ true → length (removed n es) < length es
+one_less n [] h = absurd (cc h)
+one_less n (e ∷ es) h = go (eqb n e.0) h (no_more n es) (one_less n es)
+  where
+    go : (b : Bool) → is_some (option_or (given es n) (if b then Some e.1 else None)) ≡ true → length (removed n es) ≤ length es → (is_some (given es n) ≡ true → length (removed n es) < length es)
+        → length (if b then removed n es else e ∷ removed n es) < length (e ∷ es)
+    go true h le rest = omega (arith, le)
+    go false h le rest = let s = rest (without (given es n) h) in omega (arith, s)
+      where
+        without : (o : Option ℕ) → is_some (option_or o None) ≡ true → is_some o ≡ true
+        without None h = absurd (cc h)
+        without (Some v) h = refl
+
+kept_given : (n m : ℕ) (es : List (ℕ × ℕ)) → (n ≡ m → ⊥) → given (removed n es) m ≡ given es m
+kept_given n m [] apart = refl
+kept_given n m (e ∷ es) apart = go (eqb n e.0) refl (kept_given n m es apart)
+  where
+    go : (b : Bool) → eqb n e.0 ≡ b → given (removed n es) m ≡ given es m → given (if b then removed n es else e ∷ removed n es) m ≡ given (e ∷ es) m
+    go false is h = ap (λ (o : Option ℕ). option_or o (if eqb m e.0 then Some e.1 else None)) h
+    go true is h =
+        let other : eqb m e.0 ≡ false = ne_eqb m e.0 (λ same. apart (eqb-true n e.0 is ∙ sym same)) in
+        h ∙ sym (ap (λ (c : Bool). option_or (given es m) (if c then Some e.1 else None)) other ∙ or_none (given es m))
+      where
+        or_none : (o : Option ℕ) → option_or o None ≡ o
+        or_none None = refl
+        or_none (Some v) = refl
+
+few_listed : (ram : List (ℕ × ℕ)) (from : ℕ) (pairs words : List (ℕ × ℕ)) → AreWordsListed ram from pairs → ((key v : ℕ) → found pairs key ≡ Some v → is_some (given words (key / 4)) ≡ true) → length pairs ≤ length words
+few_listed ram from [] words are has = omega arith
+few_listed ram from (e ∷ es) words are has =
+    let own : is_some (given words (e.0 / 4)) ≡ true = has e.0 e.1 (ap (λ (b : Bool). if b then Some e.1 else found es e.0) (eq-eqb e.0 e.0 refl)) in
+    let less = one_less (e.0 / 4) words own in
+    let rest = few_listed ram (e.0 + 4) es (removed (e.0 / 4) words) are.4 (λ key v h.
+    let low = found_low (e.0 + 4) es key v are.4 h in
+    ap is_some (kept_given (e.0 / 4) (key / 4) words (λ same. absurd (omega (arith, same, low))))
+    ∙ has key v (ap (λ (b : Bool). if b then Some e.1 else found es key) (ne_eqb e.0 key (λ same. absurd (omega (arith, same, low)))) ∙ h)) in
+    omega (arith, less, rest)
+  where
+    found_low : (from : ℕ) (es : List (ℕ × ℕ)) (key v : ℕ) → AreWordsListed ram from es → found es key ≡ Some v → from ≤ key
+    found_low from [] key v are h = absurd (cc h)
+    found_low from (f ∷ es) key v are h = go (eqb f.0 key) refl h (found_low (f.0 + 4) es key v are.4)
+      where
+        go : (b : Bool) → eqb f.0 key ≡ b → (if b then Some f.1 else found es key) ≡ Some v → (found es key ≡ Some v → f.0 + 4 ≤ key) → from ≤ key
+        go true is h rest = let same = eqb-true f.0 key is in let low = are.0 in omega (arith, same, low)
+        go false is h rest = let more = rest h in let low = are.0 in omega (arith, more, low)
+
+aligned_key : (ram : List (ℕ × ℕ)) (from : ℕ) (es : List (ℕ × ℕ)) (key v : ℕ) → AreWordsListed ram from es → found es key ≡ Some v → key % 4 ≡ 0
+aligned_key ram from [] key v are h = absurd (cc h)
+aligned_key ram from (e ∷ es) key v are h = go (eqb e.0 key) refl h (aligned_key ram (e.0 + 4) es key v are.4)
+  where
+    go : (b : Bool) → eqb e.0 key ≡ b → (if b then Some e.1 else found es key) ≡ Some v → (found es key ≡ Some v → key % 4 ≡ 0) → key % 4 ≡ 0
+    go true is h rest = subst (λ (n : ℕ). n % 4 ≡ 0) (eqb-true e.0 key is) are.1
+    go false is h rest = rest h
+
+pub few_words : (ram words pairs : List (ℕ × ℕ)) → ListsWords ram words pairs → length pairs ≤ length words
+few_words ram words pairs lists = few_listed ram 0 pairs words lists.listed (λ key v h.
+    let aligned = aligned_key ram 0 pairs key v lists.listed h in
+    let same : key ≡ key / 4 * 4 = omega (arith, aligned) in
+    ap is_some (sym (lists.values (key / 4)) ∙ ap (found pairs) (sym same) ∙ h))
