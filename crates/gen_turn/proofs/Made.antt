@@ -4,6 +4,7 @@ use Rattle.tpl_ast.specs.States.{is_in}
 use Rattle.tpl_ast.specs.declared.template.Template.{Template}
 use Rattle.tpl_admit.specs.declared.certificate.Cert.{Cert}
 use Rattle.tpl_ast.specs.Parsing.{Parses}
+use Rattle.tpl_admit.specs.Faithfulness.{IsFaithful}
 use Rattle.tpl_admit.specs.Validity.{IsSound}
 use Rattle.tpl_admit.specs.WellFormed.{IsWellFormed}
 use Rattle.rv_mem.specs.Ram.{in_ram}
@@ -43,17 +44,21 @@ module _ (t : Template) (seed nodes turns : ℕ) (f : Found) (is : IsFound t see
   pub same_ram : f.answer ≡ answers.Done → (n : ℕ) → is_in t.ram (n * 4) ≡ in_ram f.part.now.ram n
   same_ram done = (of_template done).ram
 
-  module _ (c : Cert) (parses : Parses t.text t) (built : is_template_built t ≡ true) (admitted : DoneTestsAreAdmitted) (fits : DoneTestsFitFiles) (tells : Tells t (here f.part) c) (sound : IsSound c) (well_formed : FitsFile c → IsWellFormed c) where
+  module _ (c : Cert) (parses : Parses t.text t) (built : is_template_built t ≡ true) (admitted : DoneTestsAreAdmitted) (fits : DoneTestsFitFiles) (always : (c : Cert) → IsSound c → IsFaithful c) (tells : Tells t (here f.part) c) (sound : IsSound c)
+      (well_formed : FitsFile c → IsWellFormed c) where
     by_result : (r : SearchResult Shown) → Comes t seed nodes turns r → AnswerIs r is.last answers.Done → IsOfTest t seed nodes turns c
-    by_result (Done end tally) comes same = record {
-      last = is.last;
-      tally = tally;
-      comes = subst (λ (s : Shown). Comes t seed nodes turns (Done s tally)) same comes;
-      tells = subst (λ (test : Test). Tells t (whole test) c) (sym is.now) tells;
-      sound = sound;
-      admits = admitted t seed nodes turns is.last tally c parses built (subst (λ (s : Shown). Comes t seed nodes turns (Done s tally)) same comes) (subst (λ (test : Test). Tells t (whole test) c) (sym is.now) tells);
-      well_formed = well_formed (fits t seed nodes turns is.last tally c parses built (subst (λ (s : Shown). Comes t seed nodes turns (Done s tally)) same comes) (subst (λ (test : Test). Tells t (whole test) c) (sym is.now) tells));
-    }
+    by_result (Done end tally) comes same =
+        let comes_so : Comes t seed nodes turns (Done is.last tally) = subst (λ (s : Shown). Comes t seed nodes turns (Done s tally)) same comes in
+        let tells_so : Tells t (whole is.last.now) c = subst (λ (test : Test). Tells t (whole test) c) (sym is.now) tells in
+        record {
+          last = is.last;
+          tally = tally;
+          comes = comes_so;
+          tells = tells_so;
+          valid = record { sound = sound; admits = admitted t seed nodes turns is.last tally c parses built comes_so tells_so };
+          faithful = always c sound;
+          well_formed = well_formed (fits t seed nodes turns is.last tally c parses built comes_so tells_so);
+        }
     by_result (NoTest tally) comes same = absurd same
 
     pub made : f.answer ≡ answers.Done → IsOfTest t seed nodes turns c

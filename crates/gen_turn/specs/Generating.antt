@@ -6,8 +6,8 @@ use Rattle.part_state.specs.State.{Test, data_of, whole}
 use Rattle.part_state.specs.Told.{Tells}
 use Rattle.tpl_ast.specs.declared.template.Template.{Template}
 use Rattle.tpl_admit.specs.declared.certificate.Cert.{Cert}
-use Rattle.tpl_admit.specs.Admission.{Admits}
-use Rattle.tpl_admit.specs.Validity.{IsSound}
+use Rattle.tpl_admit.specs.Faithfulness.{IsFaithful}
+use Rattle.tpl_admit.specs.Validity.{IsValid}
 use Rattle.tpl_admit.specs.WellFormed.{IsWellFormed}
 use Rattle.gen_search.specs.declared.draws.Tally.{Tally}
 use Rattle.gen_search.specs.Answers.{AnswerIs}
@@ -25,14 +25,14 @@ pub record Comes (t : Template) (seed nodes turns : ℕ) (result : SearchResult 
   pub told : first ≡ data_of (whole first)
   pub searches : Searches draft_rules t.harts seed turns (shown t nodes first) result
 
--- a certificate is that of the test in which the search is done; it is sound and well-formed, and its template admits it
+-- a certificate is that of the test in which the search is done; it is valid, faithful and well-formed
 pub record IsOfTest (t : Template) (seed nodes turns : ℕ) (c : Cert) : Type 0 where
   pub last : Shown
   pub tally : Tally
   pub comes : Comes t seed nodes turns (Done last tally)
   pub tells : Tells t (whole last.now) c
-  pub sound : IsSound c
-  pub admits : Admits c
+  pub valid : IsValid c
+  pub faithful : IsFaithful c
   pub well_formed : IsWellFormed c
 
 -- the search gave up, with these numbers

@@ -11,6 +11,7 @@ use crate::draft::Draft;
 use crate::laws::done_tests_are_certified;
 use gen_search::{Answer, OutOfMemory, search};
 use part_state::Part;
+use rv_system::sound_certificates_are_faithful;
 use std::alloc::Global;
 use tpl_admit::Cert;
 use tpl_ast::{Template, template_law};
@@ -75,6 +76,7 @@ pub fn generate(
     ensures { IfOk result (IsGenerated template seed nodes turns) }
 {
     done_tests_are_certified();
+    sound_certificates_are_faithful();
     let Found { part, answer } = search_for(alloc, &template, seed, nodes, turns)?;
     match answer {
         Answer::Done => match part.finish(alloc, template) {
