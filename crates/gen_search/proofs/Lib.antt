@@ -15,3 +15,5 @@ pub mod Once
 pub mod Lawful
 pub mod Forward
 pub mod Templates
+pub mod SameLines
+pub mod Moved

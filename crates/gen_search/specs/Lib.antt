@@ -9,3 +9,4 @@ pub mod Ready
 pub mod Answers
 pub mod Tries
 pub mod Laws
+pub mod Moved

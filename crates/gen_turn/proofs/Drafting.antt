@@ -70,6 +70,7 @@ module _ (t : Template) (nodes : ℕ) where
 
   pub still_allowed : (old new : Test) → IsSameGround (whole_of old) (whole_of new) → AllowsAll can_be_taken (shown t nodes old) (shown t nodes new)
   still_allowed old new same k (items.Leaf line ws) can = (ground_stays (whole_of old) (whole_of new) same k can.0, can.1)
+  still_allowed old new same k (items.FetchFault line causes) can = ground_stays (whole_of old) (whole_of new) same k can
   still_allowed old new same k (items.Label name) can = (ground_stays (whole_of old) (whole_of new) same k can.0, can.1)
   still_allowed old new same k _ can = absurd can
 

@@ -1,5 +1,5 @@
 -- The harts other than that of a leaf turn stay as they were, and what is known of them is still words.
-use Rattle.std.proofs.Common.{◌≡◌, ◌≢◌, ℕ, ◌^◌, ◌<◌, List, [], ◌∷◌, None, slice_index_or, refl, sym, ap, ◌∙◌, subst, inl, inr}
+use Rattle.std.proofs.Common.{◌≡◌, ◌≢◌, ℕ, ◌%◌, ◌^◌, ◌<◌, List, [], ◌∷◌, None, slice_index_or, refl, sym, ap, ◌∙◌, subst, inl, inr}
 use Rattle.std.proofs.lemmas.Bool.{cases_eq}
 use Rattle.std.proofs.lemmas.List.{get_or-set_other}
 use Rattle.rv_csr.specs.declared.access.CsrAccess.{CsrAccess}
@@ -53,6 +53,7 @@ module _ (k j : ℕ) (old new : Whole) (same : hart_of j new ≡ hart_of j old) 
   -- of memory they are words by what is known of the other hart
   words_stay : IsOfWords k new → IsOfWords j old → IsOfWords j new
   words_stay now before = record {
+    aligned = ap (λ (b : Bare). b.pc % 4) same ∙ before.aligned;
     known = go;
     fixed = λ access. subst (λ (n : ℕ). n < 2 ^ 32) (sym (same_fixed access)) (before.fixed access);
   }

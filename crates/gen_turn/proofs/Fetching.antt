@@ -14,10 +14,10 @@ use Rattle.fd_solve.specs.declared.answers.Solved.TheVariants as answers
 use Rattle.fd_prob.specs.Order.{rank}
 use Rattle.leaf_link.specs.Answers.{values_in}
 use Rattle.leaf_link.specs.Fetches.{IsFetchCandidate, fetch_places, fetch_script, fetch_values}
-use Rattle.leaf_link.specs.FetchAnswers.{FetchPrecedes, IsFetchAnswer, fetch_pivot, fetch_space}
+use Rattle.leaf_link.specs.FetchAnswers.{FetchPrecedes, IsFetchAnswer, fetch_pivot}
 use Rattle.leaf_link.specs.Turns.{Turn}
 use Rattle.leaf_link.specs.Values.{Values, given_by}
-use Rattle.leaf_turn.proofs.Untranslated.{plain_fetch}
+use Rattle.leaf_turn.proofs.Untranslated.{one_pair, plain_fetch}
 
 -- the assignment of a fetch that starts nothing
 abbrev pub zeros : Assignment
@@ -35,9 +35,6 @@ fails_not : (pa : ℕ) → (let r : Reached = Fails (access_cause ForFetch) in r
 fails_not pa h = absurd (cc h)
 
 module _ (t : Turn) (plain : is_translated (fetch_view t.fixed) ≡ false) where
-  one_pair : fetch_space t ≡ 1
-  one_pair = rw plain refl
-
   reaches : (tell : Teller) → answer_told tell (fetch_script t) ≡ Does [] (arrived t.fixed.ram ForFetch t.fixed.pc)
   reaches tell = plain_fetch t tell plain
 
@@ -85,7 +82,7 @@ module _ (t : Turn) (plain : is_translated (fetch_view t.fixed) ≡ false) where
 
     pub fetch_found : (draws : List ℕ) (nodes : ℕ) → 1 ≤ nodes → IsFetchAnswer t draws nodes (answers.Found zeros)
     fetch_found draws nodes some = (
-      subst (λ (n : ℕ). n ≤ nodes) (sym one_pair) some,
+      subst (λ (n : ℕ). n ≤ nodes) (sym (one_pair t plain)) some,
       record {
         is = candidate;
         are_values = all_zero;
@@ -95,11 +92,11 @@ module _ (t : Turn) (plain : is_translated (fetch_view t.fixed) ≡ false) where
 
   pub fetch_out : (draws : List ℕ) (nodes : ℕ) → is_in_ram t.fixed.ram t.fixed.pc ≡ false → 1 ≤ nodes → IsFetchAnswer t draws nodes answers.NoneFits
   fetch_out draws nodes out some = (
-    subst (λ (n : ℕ). n ≤ nodes) (sym one_pair) some,
+    subst (λ (n : ℕ). n ≤ nodes) (sym (one_pair t plain)) some,
     λ new w. fails_not w.pa (
         sym (ap (λ (b : Bool). if b then At t.fixed.pc else Fails (access_cause ForFetch)) out)
         ∙ (same_ends w.log (arrived t.fixed.ram ForFetch t.fixed.pc) (At w.pa) (sym (reaches (by_known (enlarged t.known new))) ∙ w.plays)).1),
   )
 
   pub fetch_spent : (draws : List ℕ) (nodes : ℕ) → nodes < 1 → IsFetchAnswer t draws nodes answers.Spent
-  fetch_spent draws nodes none = subst (λ (n : ℕ). nodes < n) (sym one_pair) none
+  fetch_spent draws nodes none = subst (λ (n : ℕ). nodes < n) (sym (one_pair t plain)) none

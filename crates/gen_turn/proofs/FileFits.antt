@@ -25,12 +25,12 @@ use Rattle.part_told.specs.Finishing.{known_from}
 use Rattle.leaf_turn.specs.Grounds.{declared_set}
 use Rattle.gen_turn.proofs.BoundNames.{value_was}
 use Rattle.gen_turn.proofs.Laying.{Tagged}
-use Rattle.gen_turn.proofs.LeafDone.{IsLeafDone}
 use Rattle.gen_turn.proofs.Listing.{AreDroppedTo, dropped_few, dropped_further, dropped_more, place_of_step}
 use Rattle.gen_turn.proofs.Names.{many_with_name}
 use Rattle.gen_turn.proofs.NamesAhead.{AreInOrder}
 use Rattle.gen_turn.proofs.Paths.{IsChosen, Made, labelled, sets_of, with_choices}
 use Rattle.gen_turn.proofs.Shortness.{records_of_pieces}
+use Rattle.gen_turn.proofs.StepDone.{IsStepDone}
 
 -- ---- records
 
@@ -137,15 +137,15 @@ module _ (t : Template) (keeps : KeepsLimits t.text t) where
           below : (k j : ℕ) → k ≤ j → (k ≡ j → ⊥) → k < j
           below k j le apart = omega (arith, le, apart)
 
-  total_leaf : (k : ℕ) (ws : List Wish) (old after : Whole) → IsLeafDone (sets_of t) k ws old after → total after.traces ≡ total old.traces + 1
-  total_leaf k ws old after done = ap total done.traces_are ∙ total_set old.traces k done.record_is done.room
+  total_step : (k : ℕ) (ws : List Wish) (old after : Whole) → IsStepDone (sets_of t) k ws old after → total after.traces ≡ total old.traces + 1
+  total_step k ws old after done = ap total done.traces_are ∙ total_set old.traces k done.record_is done.room
 
-  fit_leaf : (k : ℕ) (ws : List Wish) (old after : Whole) → IsLeafDone (sets_of t) k ws old after → k < length t.harts → total old.traces < 8192 → IsFit k old → IsFit k after
-  fit_leaf k ws old after done few most fit =
+  fit_step : (k : ℕ) (ws : List Wish) (old after : Whole) → IsStepDone (sets_of t) k ws old after → k < length t.harts → total old.traces < 8192 → IsFit k old → IsFit k after
+  fit_step k ws old after done few most fit =
       let room : length (records_of k old) < file_limits.steps = (let one = one_of_total old.traces k in omega (arith, one, most)) in
       let dropped = done.dropped (length t.harts) few room in
       let step : length (records_of k after) ≡ length (records_of k old) + 1 = ap length done.told ∙ length_more (records_of k old) done.record_is in
-      let sum = total_leaf k ws old after done in
+      let sum = total_step k ws old after done in
       let more = dropped_few (length t.harts) (place_of_step k (length (records_of k old))) dropped.0 (place_of_step k (length (records_of k old) + 1)) dropped.2 in
       let size : length after.dropped ≡ length old.dropped + length dropped.0 = ap length dropped.1 ∙ length_append old.dropped dropped.0 in
       let before = fit.few in
@@ -211,6 +211,20 @@ module _ (t : Template) (keeps : KeepsLimits t.text t) where
     many = many_with_name n (Some (hart_of k w).pc) w.names ∙ fit.many;
   }
 
+  -- behind the step of the next piece
+  record IsFitNext (j : ℕ) (w after : Whole) : Type 0 where
+    pub fit : IsFit j after
+    pub sum : total after.traces ≡ total w.traces + 1
+    pub harts : length after.harts ≡ length t.harts
+
+  fit_next : (k j : ℕ) (ws : List Wish) (w before after : Whole) → k ≤ j → total w.traces < 8192 → length w.harts ≡ length t.harts → IsChosen w before → j < length before.harts → IsStepDone (sets_of t) j ws before after → IsFit k w → IsFitNext j w after
+  fit_next k j ws w before after up most harts is lt done fit =
+      let traces : total before.traces ≡ total w.traces = ap (λ (x : Whole). total x.traces) is.1 in
+      let own : length before.harts ≡ length t.harts = ap (λ (x : Whole). length x.harts) is.1 ∙ harts in
+      let at_before : IsFit j before = fit_up k j before up (omega (arith, traces, most)) (fit_chosen k w before is fit) in
+      let sum = total_step j ws before after done in
+      record { fit = fit_step j ws before after done (omega (arith, lt, own)) (omega (arith, traces, most)) at_before; sum = omega (arith, sum, traces); harts = done.count ∙ own }
+
   pub fit_made : (last : Whole) (k : ℕ) (ps : List Tagged) (w : Whole) (m : ℕ) → AreUp k ps → AreInOrder ps m → count_in_head t.names ≤ m → total w.traces + records_of_pieces ps ≤ 8192 → length w.harts ≡ length t.harts
       → Made (sets_of t) last ps w → IsFit k w → (j : ℕ) × IsFit j last × (total last.traces ≡ total w.traces + records_of_pieces ps)
   fit_made last k [] w m up order low most harts made fit =
@@ -219,16 +233,11 @@ module _ (t : Template) (keeps : KeepsLimits t.text t) where
       plus_none : (n : ℕ) → n ≡ n + 0
       plus_none n = omega arith
   fit_made last k ((j, pieces.Leaf ws) ∷ ps) w m up order low most harts made fit =
-      let before : Whole = made.0 in
-      let traces : total before.traces ≡ total w.traces = ap (λ (x : Whole). total x.traces) made.2.1 in
-      let own : length before.harts ≡ length t.harts = ap (λ (x : Whole). length x.harts) made.2.1 ∙ harts in
-      let at_before : IsFit j before = fit_up k j before up.0 (omega (arith, traces, most)) (fit_chosen k w before made.2 fit) in
-      let lt : j < length t.harts = (let h = made.3 in omega (arith, h, own)) in
-      let next : IsFit j made.1 = fit_leaf j ws before made.1 made.4 lt (omega (arith, traces, most)) at_before in
-      let sum = total_leaf j ws before made.1 made.4 in
-      let rest = fit_made last j ps made.1 order.0 up.1 order.3 (let h = order.1 in omega (arith, low, h)) (omega (arith, traces, sum, most)) (made.4.count ∙ own) made.5 next in
+      let next = fit_next k j ws w made.0 made.1 up.0 (omega (arith, most)) harts made.2 made.3 made.4.step fit in
+      let sum = next.sum in
+      let rest = fit_made last j ps made.1 order.0 up.1 order.3 (let h = order.1 in omega (arith, low, h)) (omega (arith, sum, most)) next.harts made.5 next.fit in
       let all = rest.2 in
-      (rest.0, rest.1, omega (arith, all, sum, traces))
+      (rest.0, rest.1, omega (arith, all, sum))
   fit_made last k ((j, pieces.Label n) ∷ ps) w m up order low most harts made fit =
       let before : Whole = made.0 in
       let traces : total before.traces ≡ total w.traces = ap (λ (x : Whole). total x.traces) made.1.1 in
@@ -238,7 +247,12 @@ module _ (t : Template) (keeps : KeepsLimits t.text t) where
       let rest = fit_made last j ps (labelled j n before) (n + 1) up.1 order.1 (omega (arith, above)) (omega (arith, traces, most)) (ap (λ (x : Whole). length x.harts) made.1.1 ∙ harts) made.4 next in
       let all = rest.2 in
       (rest.0, rest.1, omega (arith, all, traces))
-  fit_made last k ((j, pieces.FetchFault causes) ∷ ps) w m up order low most harts made fit = absurd made
+  fit_made last k ((j, pieces.FetchFault causes) ∷ ps) w m up order low most harts made fit =
+      let next = fit_next k j [] w made.0 made.1 up.0 (omega (arith, most)) harts made.2 made.3 made.4.step fit in
+      let sum = next.sum in
+      let rest = fit_made last j ps made.1 m up.1 order low (omega (arith, sum, most)) next.harts made.5 next.fit in
+      let all = rest.2 in
+      (rest.0, rest.1, omega (arith, all, sum))
   fit_made last k ((j, pieces.Stuck) ∷ ps) w m up order low most harts made fit = absurd made
 
   -- ---- names as a certificate lists them

@@ -1,5 +1,5 @@
 -- What is known of a test that begins as its template says is words.
-use Rattle.std.proofs.Common.{◌≡◌, ℕ, zero, suc, ◌+◌, ◌*◌, ◌/◌, ◌^◌, ◌<◌, Bool, true, false, eqb, if◌then◌else◌, List, [], ◌∷◌, length, Option, Some, None, slice_index_or, sym, ap, ◌∙◌, subst, inl, inr, arith}
+use Rattle.std.proofs.Common.{◌≡◌, ◌%◌, ℕ, zero, suc, ◌+◌, ◌*◌, ◌/◌, ◌^◌, ◌<◌, Bool, true, false, eqb, if◌then◌else◌, List, [], ◌∷◌, length, Option, Some, None, slice_index_or, sym, ap, ◌∙◌, subst, inl, inr, arith}
 use Rattle.std.specs.List.{AllByRecursion}
 use Rattle.std.proofs.lemmas.Bool.{cases_Bool, cases_eq, cases_lt, lt-ltb, ne_eqb}
 use Rattle.std.proofs.lemmas.List.{get_or_past}
@@ -111,4 +111,4 @@ module _ (t : Template) (w : Whole) (keeps : KeepsLimits t.text t) (begun : IsBe
       let smaller = and_le_l (hart_of k w).csrs.mstatus sstatus_mask in omega (arith, smaller, small))
 
   pub first_words : IsOfWords k w
-  first_words = record { known = known; fixed = fixed }
+  first_words = record { aligned = subst (λ (n : ℕ). n % 4 ≡ 0) (sym (ap (λ (f : Fixed). f.pc) same)) is_state.aligned; known = known; fixed = fixed }

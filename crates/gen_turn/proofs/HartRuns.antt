@@ -7,7 +7,7 @@ use Rattle.rv_hart.specs.declared.record.Record.{Record}
 use Rattle.tpl_ast.specs.declared.template.Wish.{Wish}
 use Rattle.tpl_ast.specs.Expansion.{Piece}
 use Rattle.tpl_ast.specs.Expansion as pieces
-use Rattle.tpl_admit.specs.Admitting.{Context, Failure, Stand, at, failures_at, failures_in, here, is_value, leaf_failures, left_over, moment_of, unmet_atoms, went_on}
+use Rattle.tpl_admit.specs.Admitting.{Context, Failure, Stand, at, failures_at, failures_in, fetch_failures, here, is_value, leaf_failures, left_over, moment_of, unmet_atoms, went_on}
 use Rattle.part_laws.specs.Partial.{Partial}
 use Rattle.part_machine.specs.Whole.{Whole, hart_of, records_of}
 use Rattle.part_state.specs.Meaning.{partial_of}
@@ -17,9 +17,11 @@ use Rattle.gen_turn.specs.Turns.{with_name}
 use Rattle.gen_turn.proofs.BoundNames.{value_kept}
 use Rattle.gen_turn.proofs.Filled.{IsFilled}
 use Rattle.gen_turn.proofs.Laying.{Tagged, tagged}
+use Rattle.gen_turn.proofs.FaultDone.{IsFaultDone}
 use Rattle.gen_turn.proofs.LeafDone.{IsLater, IsLeafDone}
 use Rattle.gen_turn.proofs.NamesAhead.{AreInOrder}
 use Rattle.gen_turn.proofs.Paths.{IsChosen, Made, labelled}
+use Rattle.gen_turn.proofs.StepDone.{IsStepDone}
 
 -- ---- lists
 
@@ -66,8 +68,8 @@ module _ (sets : ℕ → List ℕ) (last : Whole) (names : ℕ → Option ℕ) (
     start = subst (λ (x : Whole). IsStartOn (partial_of x) end) is.1 later.start;
   }
 
-  leaf_later : (k : ℕ) (ws : List Wish) (old after : Whole) → IsLeafDone sets k ws old after → Later after → Later old
-  leaf_later k ws old after done later = record {
+  step_later : (k : ℕ) (ws : List Wish) (old after : Whole) → IsStepDone sets k ws old after → Later after → Later old
+  step_later k ws old after done later = record {
     named = λ n v h. later.named n v (done.names n v h);
     listed = λ test h. later.listed test (done.listed test h);
     start = start_then (partial_of old) (partial_of after) end done.start later.start;
@@ -82,17 +84,17 @@ module _ (sets : ℕ → List ℕ) (last : Whole) (names : ℕ → Option ℕ) (
 
   pub made_later : (ps : List Tagged) (w : Whole) → Made sets last ps w → Later w
   made_later [] w made = chosen_later w last made (record { named = named; listed = λ test h. h; start = start_same end })
-  made_later ((k, pieces.Leaf ws) ∷ ps) w made = chosen_later w made.0 made.2 (leaf_later k ws made.0 made.1 made.4 (made_later ps made.1 made.5))
+  made_later ((k, pieces.Leaf ws) ∷ ps) w made = chosen_later w made.0 made.2 (step_later k ws made.0 made.1 made.4.step (made_later ps made.1 made.5))
   made_later ((k, pieces.Label n) ∷ ps) w made = chosen_later w made.0 made.1 (label_later k n made.0 (made_later ps (labelled k n made.0) made.4))
-  made_later ((k, pieces.FetchFault causes) ∷ ps) w made = absurd made
+  made_later ((k, pieces.FetchFault causes) ∷ ps) w made = chosen_later w made.0 made.2 (step_later k [] made.0 made.1 made.4.step (made_later ps made.1 made.5))
   made_later ((k, pieces.Stuck) ∷ ps) w made = absurd made
 
   -- what harts before did stays
   pub made_traces : (j : ℕ) (ps : List Tagged) (w : Whole) → AreFrom j ps → Made sets last ps w → take j last.traces ≡ take j w.traces
   made_traces j [] w from made = ap (λ (x : Whole). take j x.traces) made.1
-  made_traces j ((k, pieces.Leaf ws) ∷ ps) w from made = made_traces j ps made.1 from.1 made.5 ∙ made.4.traces j from.0 ∙ ap (λ (x : Whole). take j x.traces) made.2.1
+  made_traces j ((k, pieces.Leaf ws) ∷ ps) w from made = made_traces j ps made.1 from.1 made.5 ∙ made.4.step.traces j from.0 ∙ ap (λ (x : Whole). take j x.traces) made.2.1
   made_traces j ((k, pieces.Label n) ∷ ps) w from made = made_traces j ps (labelled k n made.0) from.1 made.4 ∙ ap (λ (x : Whole). take j x.traces) made.1.1
-  made_traces j ((k, pieces.FetchFault causes) ∷ ps) w from made = absurd made
+  made_traces j ((k, pieces.FetchFault causes) ∷ ps) w from made = made_traces j ps made.1 from.1 made.5 ∙ made.4.step.traces j from.0 ∙ ap (λ (x : Whole). take j x.traces) made.2.1
   made_traces j ((k, pieces.Stuck) ∷ ps) w from made = absurd made
 
   pub made_records : (j : ℕ) (ps : List Tagged) (w : Whole) → AreFrom (j + 1) ps → Made sets last ps w → records_of j last ≡ records_of j w
@@ -162,35 +164,51 @@ module _ (sets : ℕ → List ℕ) (last : Whole) (names : ℕ → Option ℕ) (
       kept = λ j apart. kept_then j w v b.test (kept j apart) (b.kept j apart);
     }
 
-    -- a leaf
+    same_rest : (xs ys zs : List Record) → xs ++ ys ≡ xs ++ zs → ys ≡ zs
+    same_rest [] ys zs h = h
+    same_rest (x ∷ xs) ys zs h = same_rest xs ys zs (ap (λ (l : List Record). drop 1 l) h)
+
+    length_more : (xs : List Record) (x : Record) → length (xs ++ x ∷ []) ≡ length xs + 1
+    length_more [] x = refl
+    length_more (y ∷ xs) x = let h = length_more xs x in omega (arith, h)
+
+    -- the record of a step is the next one, and admission goes on behind it
+    record_next : (ws : List Wish) (old after : Whole) (s : Stand) → (done : IsStepDone sets k ws old after) → IsAt old s → (rest : List Record) → records_of k last ≡ records_of k after ++ rest → s.records ≡ done.record_is ∷ rest
+    record_next ws old after s done a rest is =
+        same_rest (records_of k old) s.records (done.record_is ∷ rest) (sym a.records ∙ is ∙ ap (λ (rs : List Record). rs ++ rest) done.told ∙ append_assoc (records_of k old) (done.record_is ∷ []) rest)
+
+    step_on : (ws : List Wish) (old after : Whole) (ps : List Tagged) (s : Stand) → IsStepDone sets k ws old after → Made sets last ps after → IsAt old s → (rest : List Record) → records_of k last ≡ records_of k after ++ rest → IsAt after (went_on s s.records)
+    step_on ws old after ps s done made a rest is =
+        subst (λ (rs : List Record). IsAt after (went_on s rs)) (sym (record_next ws old after s done a rest is)) (record {
+          step = ap (λ (n : ℕ). n + 1) a.step ∙ sym (ap length done.told ∙ length_more (records_of k old) done.record_is);
+          pc = sym done.goes_to;
+          filled = done.filled end s.regs (made_later ps after made).start a.filled;
+          records = is;
+        })
+
+    -- a `do` leaf
     leaf_step : (ws : List Wish) (old after : Whole) (ps : List Tagged) (s : Stand) → IsLeafDone sets k ws old after → Made sets last ps after → IsAt old s → AreFrom k ps
         → (rest : List Record) → records_of k last ≡ records_of k after ++ rest → (failures_at context (pieces.Leaf ws) s ≡ []) × IsAt after (went_on s s.records)
     leaf_step ws old after ps s done made a from rest is =
-        let first : s.records ≡ done.record_is ∷ rest = same_rest (records_of k old) s.records (done.record_is ∷ rest) (sym a.records ∙ is ∙ ap (λ (rs : List Record). rs ++ rest) done.told ∙ append_assoc (records_of k old) (done.record_is ∷ []) rest) in
-        let later : Later after = made_later ps after made in
-        let others : take k last.traces ≡ take k old.traces = made_traces k ps after from made ∙ done.traces k (omega arith) in
-        let none : unmet_atoms last.dropped k s.step (record { done = done.record_is; regs = s.regs; names = names; others = take k last.traces }) ws ≡ [] =
-        ap (λ (n : ℕ). unmet_atoms last.dropped k n (record { done = done.record_is; regs = s.regs; names = names; others = take k last.traces }) ws) a.step
-        ∙ ap (λ (os : List (List Record)). unmet_atoms last.dropped k (length (records_of k old)) (record { done = done.record_is; regs = s.regs; names = names; others = os }) ws) others
-        ∙ done.admits names last.dropped end s.regs later a.filled in (
+        let first : s.records ≡ done.step.record_is ∷ rest = record_next ws old after s done.step a rest is in
+        let others : take k last.traces ≡ take k old.traces = made_traces k ps after from made ∙ done.step.traces k (omega arith) in
+        let none : unmet_atoms last.dropped k s.step (record { done = done.step.record_is; regs = s.regs; names = names; others = take k last.traces }) ws ≡ [] =
+        ap (λ (n : ℕ). unmet_atoms last.dropped k n (record { done = done.step.record_is; regs = s.regs; names = names; others = take k last.traces }) ws) a.step
+        ∙ ap (λ (os : List (List Record)). unmet_atoms last.dropped k (length (records_of k old)) (record { done = done.step.record_is; regs = s.regs; names = names; others = os }) ws) others
+        ∙ done.admits names last.dropped end s.regs (made_later ps after made) a.filled in (
           ap (leaf_failures context s ws) first
-              ∙ ap (λ (b : Bool). if b then here s else at s (unmet_atoms last.dropped k s.step (moment_of context s done.record_is) ws)) done.fetched
+              ∙ ap (λ (b : Bool). if b then here s else at s (unmet_atoms last.dropped k s.step (moment_of context s done.step.record_is) ws)) done.fetched
               ∙ ap (at s) none,
-          subst (λ (rs : List Record). IsAt after (went_on s rs)) (sym first) (record {
-            step = ap (λ (n : ℕ). n + 1) a.step ∙ sym (ap length done.told ∙ length_more (records_of k old) done.record_is);
-            pc = sym done.goes_to;
-            filled = done.filled end s.regs later.start a.filled;
-            records = is;
-          }),
+          step_on ws old after ps s done.step made a rest is,
         )
-      where
-        same_rest : (xs ys zs : List Record) → xs ++ ys ≡ xs ++ zs → ys ≡ zs
-        same_rest [] ys zs h = h
-        same_rest (x ∷ xs) ys zs h = same_rest xs ys zs (ap (λ (l : List Record). drop 1 l) h)
 
-        length_more : (xs : List Record) (x : Record) → length (xs ++ x ∷ []) ≡ length xs + 1
-        length_more [] x = refl
-        length_more (y ∷ xs) x = let h = length_more xs x in omega (arith, h)
+    -- a `fault` leaf
+    fault_step : (causes : List ℕ) (old after : Whole) (ps : List Tagged) (s : Stand) → IsFaultDone sets k causes old after → Made sets last ps after → IsAt old s
+        → (rest : List Record) → records_of k last ≡ records_of k after ++ rest → (failures_at context (pieces.FetchFault causes) s ≡ []) × IsAt after (went_on s s.records)
+    fault_step causes old after ps s done made a rest is = (
+      ap (fetch_failures s causes) (record_next [] old after s done.step a rest is) ∙ ap (λ (b : Bool). if b then [] else here s) done.fails,
+      step_on [] old after ps s done.step made a rest is,
+    )
 
     -- a label
     label_step : (n : ℕ) (w : Whole) (s : Stand) → IsAt w s → n < length w.names → slice_index_or w.names n None ≡ None → Later (labelled k n w) → failures_at context (pieces.Label n) s ≡ []
@@ -221,11 +239,15 @@ module _ (sets : ℕ → List ℕ) (last : Whole) (names : ℕ → Option ℕ) (
     made_more [] rest w from made = ([], made_records k rest w from made ∙ sym (append-nil (records_of k w)))
     made_more (pieces.Leaf ws ∷ ps) rest w from made =
         let m = made_more ps rest made.1 from made.5 in (
-          made.4.record_is ∷ m.0,
-          m.1 ∙ ap (λ (rs : List Record). rs ++ m.0) (made.4.told ∙ ap (λ (x : Whole). records_of k x ++ made.4.record_is ∷ []) made.2.1) ∙ append_assoc (records_of k w) (made.4.record_is ∷ []) m.0,
+          made.4.step.record_is ∷ m.0,
+          m.1 ∙ ap (λ (rs : List Record). rs ++ m.0) (made.4.step.told ∙ ap (λ (x : Whole). records_of k x ++ made.4.step.record_is ∷ []) made.2.1) ∙ append_assoc (records_of k w) (made.4.step.record_is ∷ []) m.0,
         )
     made_more (pieces.Label n ∷ ps) rest w from made = let m = made_more ps rest (labelled k n made.0) from made.4 in (m.0, m.1 ∙ ap (λ (x : Whole). records_of k x ++ m.0) made.1.1)
-    made_more (pieces.FetchFault causes ∷ ps) rest w from made = absurd made
+    made_more (pieces.FetchFault causes ∷ ps) rest w from made =
+        let m = made_more ps rest made.1 from made.5 in (
+          made.4.step.record_is ∷ m.0,
+          m.1 ∙ ap (λ (rs : List Record). rs ++ m.0) (made.4.step.told ∙ ap (λ (x : Whole). records_of k x ++ made.4.step.record_is ∷ []) made.2.1) ∙ append_assoc (records_of k w) (made.4.step.record_is ∷ []) m.0,
+        )
     made_more (pieces.Stuck ∷ ps) rest w from made = absurd made
 
     pub hart_runs : (ps : List Piece) (rest : List Tagged) (w : Whole) (s : Stand) (m : ℕ) → AreFrom (k + 1) rest → Made sets last (tagged k ps ++ rest) w → AreInOrder (tagged k ps ++ rest) m → IsFree w m → IsAt w s
@@ -237,10 +259,10 @@ module _ (sets : ℕ → List ℕ) (last : Whole) (names : ℕ → Option ℕ) (
         let more = made_more ps rest made.1 from made.5 in
         let step = leaf_step ws made.0 made.1 (tagged k ps ++ rest) s made.4 made.5 (at_chosen w made.0 s made.2 a) (from_here ps rest from) more.0 more.1 in
         let next = hart_runs ps rest made.1 (went_on s s.records) order.0 from made.5 order.3
-        (λ n le. made.4.above order.0 order.2 n le ∙ free_chosen w made.0 m made.2 free n (let h = order.1 in omega (arith, h, le))) step.1 in (
+        (λ n le. made.4.step.above order.0 order.2 n le ∙ free_chosen w made.0 m made.2 free n (let h = order.1 in omega (arith, h, le))) step.1 in (
           ap (λ (fs : List Failure). fs ++ failures_in context ps (went_on s s.records)) step.0 ∙ next.0,
-          behind_then rest w made.1 (made.4.count ∙ ap (λ (x : Whole). length x.harts) made.2.1)
-              (λ j apart. kept_then j w made.0 made.1 (kept_chosen j w made.0 made.2) (let o = made.4.others j apart in record { records = o.0; now = o.1; first = o.2 })) next.1,
+          behind_then rest w made.1 (made.4.step.count ∙ ap (λ (x : Whole). length x.harts) made.2.1)
+              (λ j apart. kept_then j w made.0 made.1 (kept_chosen j w made.0 made.2) (let o = made.4.step.others j apart in record { records = o.0; now = o.1; first = o.2 })) next.1,
         )
     hart_runs (pieces.Label n ∷ ps) rest w s m from made order free a =
         let at_before : IsAt made.0 s = at_chosen w made.0 s made.1 a in
@@ -252,5 +274,12 @@ module _ (sets : ℕ → List ℕ) (last : Whole) (names : ℕ → Option ℕ) (
           behind_then rest w (labelled k n made.0) (ap (λ (x : Whole). length x.harts) made.1.1)
               (λ j apart. kept_then j w made.0 (labelled k n made.0) (kept_chosen j w made.0 made.1) (record { records = refl; now = refl; first = refl })) next.1,
         )
-    hart_runs (pieces.FetchFault causes ∷ ps) rest w s m from made order free a = absurd made
+    hart_runs (pieces.FetchFault causes ∷ ps) rest w s m from made order free a =
+        let more = made_more ps rest made.1 from made.5 in
+        let step = fault_step causes made.0 made.1 (tagged k ps ++ rest) s made.4 made.5 (at_chosen w made.0 s made.2 a) more.0 more.1 in
+        let next = hart_runs ps rest made.1 (went_on s s.records) m from made.5 order (λ n le. made.4.step.above m refl n le ∙ free_chosen w made.0 m made.2 free n le) step.1 in (
+          ap (λ (fs : List Failure). fs ++ failures_in context ps (went_on s s.records)) step.0 ∙ next.0,
+          behind_then rest w made.1 (made.4.step.count ∙ ap (λ (x : Whole). length x.harts) made.2.1)
+              (λ j apart. kept_then j w made.0 made.1 (kept_chosen j w made.0 made.2) (let o = made.4.step.others j apart in record { records = o.0; now = o.1; first = o.2 })) next.1,
+        )
     hart_runs (pieces.Stuck ∷ ps) rest w s m from made order free a = absurd made

@@ -15,6 +15,8 @@ pub mod Agreeing
 pub mod Ending
 pub mod Made
 pub mod OneGenerated
+pub mod BuiltLines
+pub mod SameText
 pub mod MoreTruth
 pub mod BoundNames
 pub mod Judged
@@ -31,6 +33,8 @@ pub mod Shortness
 pub mod Listing
 pub mod SmallValues
 pub mod WordCounts
-pub mod TurnFound
+pub mod StepDone
+pub mod Failing
+pub mod FaultDone
 pub mod FileFits
 pub mod FitTests

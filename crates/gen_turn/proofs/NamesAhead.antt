@@ -62,6 +62,9 @@ if_some false u v h = absurd (cc h)
 leaf_naming : (line : ℕ) (ws : Vec Wish Global) (known : ℕ) → naming_of_item (items.Leaf line ws) known ≡ (if list_all (is_name_below known) (atoms_of ws.items) then Some known else None)
 leaf_naming line ws known = ap (λ (i : Item). naming_of_item i known) (sym (items.rolls-Leaf line ws)) ∙ ap (λ (f : Naming). f known) (fold-roll-Item Naming naming_in (layers.Leaf line ws))
 
+fault_naming : (line : ℕ) (causes : List ℕ) (known : ℕ) → naming_of_item (items.FetchFault line causes) known ≡ Some known
+fault_naming line causes known = ap (λ (i : Item). naming_of_item i known) (sym (items.rolls-FetchFault line causes)) ∙ ap (λ (f : Naming). f known) (fold-roll-Item Naming naming_in (layers.FetchFault line causes))
+
 label_naming : (name known : ℕ) → naming_of_item (items.Label name) known ≡ (if name == known then Some (known + 1) else None)
 label_naming name known = ap (λ (i : Item). naming_of_item i known) (sym (items.rolls-Label name)) ∙ ap (λ (f : Naming). f known) (fold-roll-Item Naming naming_in (layers.Label name))
 
@@ -176,6 +179,12 @@ module _ (k : ℕ) (todo : List (ℕ × Item)) (m : ℕ) where
       let p = if_some (list_all (is_name_below are.0) (atoms_of ws.items)) are.0 are.1 (sym (leaf_naming line ws are.0) ∙ are.3) in
       let same = p.1 in
       (are.0, are.2, p.0, named_less todo are.0 are.1 (omega (arith, same)) are.4)
+
+  pub fault_ahead : (line : ℕ) (causes : List ℕ) → AreNamedAhead ((k, items.FetchFault line causes) ∷ todo) m → AreNamedAhead todo m
+  fault_ahead line causes are =
+      let same : are.0 ≡ are.1 = cc (sym (fault_naming line causes are.0) ∙ are.3) in
+      let le = are.2 in
+      named_less todo m are.1 (omega (arith, le, same)) are.4
 
   pub label_ahead : (name : ℕ) → AreNamedAhead ((k, items.Label name) ∷ todo) m → (m ≤ name) × AreNamedAhead todo (name + 1)
   label_ahead name are =

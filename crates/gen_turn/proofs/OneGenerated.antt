@@ -16,17 +16,17 @@ use Rattle.gen_turn.specs.Generating.{Comes, IsGenerated, IsOfTest}
 use Rattle.gen_turn.specs.Laws.{GeneratedIsOne, SearchesHaveOneResult}
 use Rattle.gen_turn.specs.Rules.{Shown, draft_rules, shown}
 
-one_last : (a b : Shown) (x y : Tally) → (let r : SearchResult Shown = Done a x in r) ≡ Done b y → a ≡ b
+pub one_last : (a b : Shown) (x y : Tally) → (let r : SearchResult Shown = Done a x in r) ≡ Done b y → a ≡ b
 one_last a b x y h = cc h
 
-one_tally : (x y : Tally) → (let r : SearchResult Shown = NoTest x in r) ≡ NoTest y → x ≡ y
+pub one_tally : (x y : Tally) → (let r : SearchResult Shown = NoTest x in r) ≡ NoTest y → x ≡ y
 one_tally x y h = cc h
 
-done_or_not : (a : Shown) (x y : Tally) → (let r : SearchResult Shown = Done a x in r) ≡ NoTest y → ⊥
+pub done_or_not : (a : Shown) (x y : Tally) → (let r : SearchResult Shown = Done a x in r) ≡ NoTest y → ⊥
 done_or_not a x y h = absurd (cc h)
 
 module _ (searches : SearchesHaveOneResult) (ready : BuiltTemplatesAreReady) (t : Template) (seed nodes turns : ℕ) (parses : Parses t.text t) (built : is_template_built t ≡ true) where
-  one_result : (r s : SearchResult Shown) → Comes t seed nodes turns r → Comes t seed nodes turns s → r ≡ s
+  pub one_result : (r s : SearchResult Shown) → Comes t seed nodes turns r → Comes t seed nodes turns s → r ≡ s
   one_result r s a b =
       let first : a.first ≡ b.first = begun_is_one t a.first b.first a.begun b.begun a.test b.test a.told b.told in
       searches t.harts seed turns (shown t nodes a.first) r s (ready t nodes (whole a.first) parses built a.begun a.test) a.searches

@@ -27,15 +27,15 @@ use Rattle.gen_search.proofs.Each.{Each, each_in_turn}
 use Rattle.gen_search.proofs.Ready.{body_before, first_choose, first_label, first_leaf, first_repeat, first_seq, ready_still}
 use Rattle.gen_turn.specs.Drafts.{Drafted}
 use Rattle.gen_turn.specs.Grounds.{IsBuilt, IsGround}
-use Rattle.gen_turn.specs.Rules.{Shown, can_be_taken, draft_of, draft_rules, shown_as, turn_shown}
+use Rattle.gen_turn.specs.Rules.{Shown, can_be_taken, draft_of, draft_rules, turn_shown}
 use Rattle.gen_turn.specs.Turns.{IsDone, IsTurnedTo, with_name, with_names}
-use Rattle.gen_turn.proofs.Laying.{AreWays, IsWay, LaidOut, Tagged, laid_choice, laid_label, laid_leaf, laid_out, laid_repeat, laid_seq}
-use Rattle.gen_turn.proofs.LeafDone.{IsLeafDone, IsTurn, leaf_done, turn_made}
+use Rattle.gen_turn.proofs.Laying.{AreWays, IsWay, LaidOut, Tagged, laid_choice, laid_fault, laid_label, laid_leaf, laid_out, laid_repeat, laid_seq}
+use Rattle.gen_turn.proofs.FaultDone.{IsFaultDone, fault_done}
+use Rattle.gen_turn.proofs.LeafDone.{IsLeafDone, leaf_done, turn_made}
 use Rattle.gen_turn.proofs.Names.{many_with_name}
-use Rattle.gen_turn.proofs.NamesAhead.{AreInOrder, AreNamedAhead, choice_ahead, label_ahead, leaf_ahead, repeat_ahead, seq_ahead}
+use Rattle.gen_turn.proofs.NamesAhead.{AreInOrder, AreNamedAhead, choice_ahead, fault_ahead, label_ahead, leaf_ahead, repeat_ahead, seq_ahead}
 use Rattle.gen_turn.proofs.Ending.{StartIsKept, turned_keeps}
-use Rattle.gen_turn.proofs.Shortness.{IsWithin, choice_within, label_within, leaf_within, length_of_todo, repeat_within, seq_within}
-use Rattle.gen_turn.proofs.TurnFound.{nothing_fetched, turn_found}
+use Rattle.gen_turn.proofs.Shortness.{IsWithin, choice_within, fault_within, label_within, leaf_within, length_of_todo, repeat_within, seq_within}
 use Rattle.gen_turn.proofs.Staying.{chosen_ground, named_ground}
 
 -- ---- tests on a path
@@ -59,7 +59,7 @@ abbrev pub Made : (ℕ → List ℕ) → Whole → List Tagged → Whole → Typ
 Made sets last [] w = IsChosen w last
 Made sets last ((k, pieces.Leaf ws) ∷ ps) w = (before : Whole) × (after : Whole) × IsChosen w before × (k < length before.harts) × IsLeafDone sets k ws before after × Made sets last ps after
 Made sets last ((k, pieces.Label n) ∷ ps) w = (before : Whole) × IsChosen w before × (k < length before.harts) × (n < length before.names) × Made sets last ps (labelled k n before)
-Made sets last ((k, pieces.FetchFault causes) ∷ ps) w = ⊥
+Made sets last ((k, pieces.FetchFault causes) ∷ ps) w = (before : Whole) × (after : Whole) × IsChosen w before × (k < length before.harts) × IsFaultDone sets k causes before after × Made sets last ps after
 Made sets last ((k, pieces.Stuck) ∷ ps) w = ⊥
 
 no_choices : (w : Whole) → IsChosen w w
@@ -72,7 +72,7 @@ made_before : (sets : ℕ → List ℕ) (last : Whole) (n : ℕ) (ps : List Tagg
 made_before sets last n [] w made = chosen_before n w last made
 made_before sets last n ((k, pieces.Leaf ws) ∷ ps) w made = (made.0, made.1, chosen_before n w made.0 made.2, made.3, made.4, made.5)
 made_before sets last n ((k, pieces.Label m) ∷ ps) w made = (made.0, chosen_before n w made.0 made.1, made.2, made.3, made.4)
-made_before sets last n ((k, pieces.FetchFault causes) ∷ ps) w made = absurd made
+made_before sets last n ((k, pieces.FetchFault causes) ∷ ps) w made = (made.0, made.1, chosen_before n w made.0 made.2, made.3, made.4, made.5)
 made_before sets last n ((k, pieces.Stuck) ∷ ps) w made = absurd made
 
 -- ---- alternatives by their numbers
@@ -131,9 +131,11 @@ one_piece p l ps h = ap (λ (m : LaidOut). record { pieces = p ∷ m.pieces; lef
 module _ (met_are_true : MetAreTrue) (are_fetched : StepsAreFetched) (words_are_fetched : NewWordsAreFetched) (found_law : AnswersAreFound) (posable : BuiltLeavesArePosable) (still : StillAllows can_be_taken draft_rules) (t : Template) (turns : ℕ) where
   done_by : (s : Shown) (k : ℕ) (ws : Vec Wish Global) (can : IsGround (draft_of s) k × IsBuilt (length s.template.names) ws.items) (e : Drafted) (draws : List ℕ) → IsDone (draft_of s) k ws.items draws (Taken e) → IsLeafDone (sets_of s.template) k ws.items (whole s.now) e.now
   done_by s k ws can e draws is =
-      let turn : IsTurn (draft_of s) k ws.items draws e.now = turn_made (draft_of s) k ws.items draws e is in
-      leaf_done met_are_true are_fetched words_are_fetched (draft_of s) k ws.items can.0 can.1 draws e.now turn
-      (nothing_fetched (draft_of s) k can.0 ws.items can.1 draws e.now turn) (turn_found (draft_of s) k can.0 ws.items can.1 draws e.now turn found_law posable)
+      leaf_done met_are_true are_fetched words_are_fetched (draft_of s) k ws.items can.0 can.1 draws e.now (turn_made (draft_of s) k can.0 ws.items can.1 draws found_law posable e is)
+
+  -- behind a turn that is taken is the test that it made
+  taken_is : (next : Shown) (e : Drafted) → Taken next ≡ turn_shown (Taken e) → IsTest e.now → whole next.now ≡ e.now
+  taken_is next e same test = ap (λ (f : Shown). whole f.now) (ap (λ (r : Turned Shown). elim r [ Taken f ↦ f | NoneFits ↦ next | Spent ↦ next ]) same) ∙ whole_again e.now test
 
   -- a leaf turn that is taken
   leaf_path : (k line : ℕ) (item : Item) (todo : List (ℕ × Item)) (s next last : Shown) (draws : List ℕ) → IsLeaf item line → s.template ≡ t → can_be_taken s k item → draft_rules.turn k item draws s (Taken next) → IsPath t todo next last → IsPath t ((k, item) ∷ todo) s last
@@ -143,13 +145,12 @@ module _ (met_are_true : MetAreTrue) (are_fetched : StepsAreFetched) (words_are_
       go (Taken e) is same =
           let done : IsLeafDone (sets_of t) k ws.items (whole s.now) e.now =
           subst (λ (u : Template). IsLeafDone (sets_of u) k ws.items (whole s.now) e.now) same_t (done_by s k ws can e draws is) in
-          let next_is : next ≡ shown_as e = ap (λ (r : Turned Shown). elim r [ Taken f ↦ f | NoneFits ↦ next | Spent ↦ next ]) same in
-          let now_is : whole next.now ≡ e.now = ap (λ (f : Shown). whole f.now) next_is ∙ whole_again e.now done.test in
+          let now_is : whole next.now ≡ e.now = taken_is next e same done.step.test in
           record {
             choices = p.choices;
             ps = (k, pieces.Leaf ws.items) ∷ p.ps;
             laid = laid_leaf k todo line ws p.choices ∙ one_piece (k, pieces.Leaf ws.items) (laid_out todo p.choices) p.ps p.laid;
-            taken = p.taken ∙ ap (λ (cs : List ℕ). cs ++ p.choices) (ap (λ (w : Whole). w.choices) now_is ∙ done.choices);
+            taken = p.taken ∙ ap (λ (cs : List ℕ). cs ++ p.choices) (ap (λ (w : Whole). w.choices) now_is ∙ done.step.choices);
             made = (whole s.now, whole next.now, no_choices (whole s.now), can.0.hart, subst (IsLeafDone (sets_of t) k ws.items (whole s.now)) (sym now_is) done, p.made);
             order = λ m named. let a = leaf_ahead k todo m line ws named in (a.0, a.1, a.2, p.order a.0 a.3);
             tested = p.tested;
@@ -157,7 +158,24 @@ module _ (met_are_true : MetAreTrue) (are_fetched : StepsAreFetched) (words_are_
           }
       go NoneFits is same = absurd (cc same)
       go Spent is same = absurd (cc same)
-  leaf_path k line item todo s next last draws (fault _ causes) same_t can gives p = absurd can
+  leaf_path k line item todo s next last draws (fault _ causes) same_t can gives p = go gives.0 gives.1 gives.2
+    where
+      go : (r : Turned Drafted) → IsTurnedTo (draft_of s) k (items.FetchFault line causes) draws r → Taken next ≡ turn_shown r → IsPath t ((k, items.FetchFault line causes) ∷ todo) s last
+      go (Taken e) is same =
+          let done : IsFaultDone (sets_of t) k causes (whole s.now) e.now = fault_done (draft_of s) k can causes draws (sets_of t) e is in
+          let now_is : whole next.now ≡ e.now = taken_is next e same done.step.test in
+          record {
+            choices = p.choices;
+            ps = (k, pieces.FetchFault causes) ∷ p.ps;
+            laid = laid_fault k todo line causes p.choices ∙ one_piece (k, pieces.FetchFault causes) (laid_out todo p.choices) p.ps p.laid;
+            taken = p.taken ∙ ap (λ (cs : List ℕ). cs ++ p.choices) (ap (λ (w : Whole). w.choices) now_is ∙ done.step.choices);
+            made = (whole s.now, whole next.now, no_choices (whole s.now), can.hart, subst (IsFaultDone (sets_of t) k causes (whole s.now)) (sym now_is) done, p.made);
+            order = λ m named. p.order m (fault_ahead k todo m line causes named);
+            tested = p.tested;
+            short = fault_within k todo p.ps p.choices line causes p.short;
+          }
+      go NoneFits is same = absurd (cc same)
+      go Spent is same = absurd (cc same)
 
   label_path : (k name : ℕ) (todo : List (ℕ × Item)) (s last : Shown) → can_be_taken s k (items.Label name) → IsPath t todo (draft_rules.label k name s) last → IsPath t ((k, items.Label name) ∷ todo) s last
   label_path k name todo s last can p =
@@ -199,13 +217,15 @@ module _ (met_are_true : MetAreTrue) (are_fetched : StepsAreFetched) (words_are_
   leaf_test k line item s next draws (leaf _ ws) can gives = go gives.0 gives.1 gives.2
     where
       go : (r : Turned Drafted) → IsTurnedTo (draft_of s) k (items.Leaf line ws) draws r → Taken next ≡ turn_shown r → IsTest (whole next.now)
-      go (Taken e) is same =
-          let done : IsLeafDone (sets_of s.template) k ws.items (whole s.now) e.now = done_by s k ws can e draws is in
-          let next_is : next ≡ shown_as e = ap (λ (r : Turned Shown). elim r [ Taken f ↦ f | NoneFits ↦ next | Spent ↦ next ]) same in
-          subst IsTest (sym (ap (λ (f : Shown). whole f.now) next_is ∙ whole_again e.now done.test)) done.test
+      go (Taken e) is same = let done = done_by s k ws can e draws is in subst IsTest (sym (taken_is next e same done.step.test)) done.step.test
       go NoneFits is same = absurd (cc same)
       go Spent is same = absurd (cc same)
-  leaf_test k line item s next draws (fault _ causes) can gives = absurd can
+  leaf_test k line item s next draws (fault _ causes) can gives = go gives.0 gives.1 gives.2
+    where
+      go : (r : Turned Drafted) → IsTurnedTo (draft_of s) k (items.FetchFault line causes) draws r → Taken next ≡ turn_shown r → IsTest (whole next.now)
+      go (Taken e) is same = let done = fault_done (draft_of s) k can causes draws (sets_of s.template) e is in subst IsTest (sym (taken_is next e same done.step.test)) done.step.test
+      go NoneFits is same = absurd (cc same)
+      go Spent is same = absurd (cc same)
 
   leaf_template : (k line : ℕ) (item : Item) (s next : Shown) (draws : List ℕ) → IsLeaf item line → draft_rules.turn k item draws s (Taken next) → next.template ≡ s.template
   leaf_template k line item s next draws is_leaf gives = go gives.0 gives.2 (turned_keeps (draft_of s) k item line draws gives.0 is_leaf gives.1)

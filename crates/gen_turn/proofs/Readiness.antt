@@ -51,6 +51,7 @@ allowed_append can k (x ∷ xs) ys a b = (a.0, allowed_append can k xs ys a.1 b)
 
 module _ (can : ℕ → Item → Type 0) (k n : ℕ)
     (leaf_can : (line : ℕ) (ws : Vec Wish Global) → is_leaf n ws.items ≡ true → are_built ws.items ≡ true → can k (variants.Leaf line ws))
+    (fault_can : (line : ℕ) (causes : List ℕ) → can k (variants.FetchFault line causes))
     (label_can : (name : ℕ) → name < n → can k (variants.Label name)) where
   abbrev Ready : Item → Type 0
   Ready i = stands n i ≡ true → is_item_built i ≡ true → AreAllowed can k (parts_of i)
@@ -93,7 +94,7 @@ module _ (can : ℕ → Item → Type 0) (k n : ℕ)
 
   ready_step : (x : Item-F Item) (y : Item-F (Proved Ready)) → map-Item _ _ (λ e. e.0) y ≡ x → Ready (roll-Item x)
   ready_step x (layers.Leaf line wishes) is = subst (λ (z : Item-F Item). Ready (roll-Item z)) is (ready_by (layers.Leaf line wishes) (λ h b. (leaf_can line wishes h b, tt)))
-  ready_step x (layers.FetchFault line causes) is = subst (λ (z : Item-F Item). Ready (roll-Item z)) is (ready_by (layers.FetchFault line causes) (λ h b. absurd (cc b)))
+  ready_step x (layers.FetchFault line causes) is = subst (λ (z : Item-F Item). Ready (roll-Item z)) is (ready_by (layers.FetchFault line causes) (λ h b. (fault_can line causes, tt)))
   ready_step x (layers.Label name) is = subst (λ (z : Item-F Item). Ready (roll-Item z)) is (ready_by (layers.Label name) (λ h b. (label_can name (ltb-true name n h), tt)))
   ready_step x (layers.Seq body) is = subst (λ (z : Item-F Item). Ready (roll-Item z)) is (ready_by _ (λ h b. items_ready body.items h b))
   ready_step x (layers.Repeat times body) is = subst (λ (z : Item-F Item). Ready (roll-Item z)) is (ready_by _ (λ h b. items_ready body.items (and_parts (leb times 8192) _ h).1 b))
@@ -152,7 +153,7 @@ module _ (t : Template) (nodes : ℕ) (w : Whole) (keeps : KeepsLimits t.text t)
       let is_start : h.start ≡ start_in t.harts k = starts 0 ∙ ap (start_in t.harts) (omega arith) in
       let g : IsGround draft k = ground k (omega (arith, size)) (ap (λ (s : HartState). s.satp) (sym is_start) ∙ eqb-true h.start.satp 0 parts.0) in
       ready_append (CanTake draft) (of_hart k h.body.items) (all_items (k + 1) hs)
-      (body_ready (CanTake draft) k (length t.names) (λ line ws leaf is. (g, built_leaf ws.items leaf is)) (λ name lt. (g, lt)) h.body.items bodies.0 parts.1)
+      (body_ready (CanTake draft) k (length t.names) (λ line ws leaf is. (g, built_leaf ws.items leaf is)) (λ line causes. g) (λ name lt. (g, lt)) h.body.items bodies.0 parts.1)
       (harts_ready (k + 1) hs (omega (arith, size)) (λ j. starts (suc j) ∙ ap (start_in t.harts) (omega arith)) bodies.1 own.1)
 
 pub built_are_ready : TemplatesKeepLimits → LeavesAreKnown → BuiltTemplatesAreReady

@@ -149,7 +149,7 @@ module _ (d : Drafted) (k : ℕ) (g : IsGround d k) (ws : List Wish) (built : Is
   is_setting : IsSettingOf d.template setting
   is_setting = record { pool = refl; vectors = refl; sets = λ n. refl }
 
-  pub found_at : AnswersAreFound → BuiltLeavesArePosable → (draws : List ℕ) → IsFetched turn [] pc → is_in_ram (λ n. is_there (d.now.memory n)) pc ≡ true → (answer : LeafAnswer)
+  found_at : AnswersAreFound → BuiltLeavesArePosable → (draws : List ℕ) → IsFetched turn [] pc → is_in_ram (λ n. is_there (d.now.memory n)) pc ≡ true → (answer : LeafAnswer)
       → IsTurnLeafAnswer turn pc (mandatory_of ws) (biases_of ws) draws d.nodes answer → (x : Assignment) → answer.solved ≡ answers.Found x → IsFound k d.now (values_in x)
   found_at law posable draws fetched there answer is x =
       let st = stand_at d.template k d.now feet in

@@ -10,7 +10,7 @@ use Rattle.tpl_ast.specs.declared.template.Item.TheViews as views
 use Rattle.tpl_ast.specs.declared.template.Wish.{Wish}
 use Rattle.tpl_ast.specs.Expansion as pieces
 use Rattle.tpl_ast.specs.Lengths.{length_of_body, length_of_harts, length_of_item, longest_body}
-use Rattle.tpl_ast.proofs.Sums.{choose_length, label_length, leaf_length, repeat_length, seq_length}
+use Rattle.tpl_ast.proofs.Sums.{choose_length, fault_length, label_length, leaf_length, repeat_length, seq_length}
 use Rattle.gen_search.specs.Search.{all_items, copies, of_hart}
 use Rattle.gen_turn.proofs.Laying.{Tagged}
 
@@ -62,6 +62,9 @@ longest_at (w ∷ ws) (suc n) way is = let h = longest_at ws n way is in omega (
 module _ (k : ℕ) (todo : List (ℕ × Item)) (ps : List Tagged) (choices : List ℕ) where
   pub leaf_within : (line : ℕ) (ws : Vec Wish Global) → IsWithin ps choices (length_of_todo todo) → IsWithin ((k, pieces.Leaf ws.items) ∷ ps) choices (length_of_todo ((k, items.Leaf line ws) ∷ todo))
   leaf_within line ws h = let one = leaf_length line ws in omega (arith, h, one)
+
+  pub fault_within : (line : ℕ) (causes : List ℕ) → IsWithin ps choices (length_of_todo todo) → IsWithin ((k, pieces.FetchFault causes) ∷ ps) choices (length_of_todo ((k, items.FetchFault line causes) ∷ todo))
+  fault_within line causes h = let one = fault_length line causes in omega (arith, h, one)
 
   pub label_within : (name : ℕ) → IsWithin ps choices (length_of_todo todo) → IsWithin ((k, pieces.Label name) ∷ ps) choices (length_of_todo ((k, items.Label name) ∷ todo))
   label_within name h = let none = label_length name in omega (arith, h, none)

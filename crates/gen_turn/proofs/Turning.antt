@@ -1,5 +1,5 @@
 -- The turn of a `do` leaf where no address is translated.
-use Rattle.std.proofs.Common.{◌≡◌, ℕ, ◌%◌, ◌<◌, ◌≤◌, ◌&&◌, Bool, true, false, leb, List, [], refl, sym, ap}
+use Rattle.std.proofs.Common.{◌≡◌, ℕ, ◌%◌, ◌<◌, ◌≤◌, true, false, List, [], refl, sym}
 use Rattle.rv_mem.specs.Seen.{is_there}
 use Rattle.sv_walk.specs.Translation.{is_in_ram, is_translated}
 use Rattle.rv_hart.specs.Machine.{fetch_view}
@@ -19,17 +19,13 @@ use Rattle.leaf_link.specs.Turns.{Turn}
 use Rattle.turn_laws.specs.Given.{Setting, turn_at}
 use Rattle.leaf_turn.specs.Grounds.{IsSettingOf, IsUntranslated}
 use Rattle.leaf_turn.specs.Wishes.{biases_of, mandatory_of}
-use Rattle.leaf_turn.proofs.Grounding.{fetch_is_settled}
+use Rattle.leaf_turn.proofs.Grounding.{fetch_is_settled, fetch_untranslated}
 use Rattle.gen_search.specs.Search.{Turned, Turned.NoneFits, Turned.Spent}
 use Rattle.gen_turn.specs.Drafts.{Drafted, drafted, setting_of, turn_of, turn_with}
 use Rattle.gen_turn.specs.Touches.{touches_from}
 use Rattle.gen_turn.specs.Turns.{EndsAs, IsDone}
 use Rattle.gen_turn.proofs.Fetching.{fetch_found, fetch_out, fetch_spent, nothing_placed, zeros}
 use Rattle.gen_turn.proofs.Touching.{touches_are_footprints}
-
-and_false : (b c : Bool) → c ≡ false → (b && c) ≡ false
-and_false true c h = h
-and_false false c h = refl
 
 module _ (t : Template) (nodes k : ℕ) (w : Whole) (ws : List Wish) (draws : List ℕ) (untranslated : IsUntranslated k w) where
   abbrev draft : Drafted
@@ -42,7 +38,7 @@ module _ (t : Template) (nodes k : ℕ) (w : Whole) (ws : List Wish) (draws : Li
   setting = setting_of t (all_tests (turn_with draft (λ v. true) k) (mandatory_of ws) vars.A)
 
   pub plain : is_translated (fetch_view turn.fixed) ≡ false
-  plain = and_false _ _ (ap (λ (n : ℕ). leb 0x8000_0000 n) untranslated)
+  plain = fetch_untranslated k w setting (touches_from 0 w.traces) untranslated
 
   pub spent : nodes < 1 → IsDone draft k ws draws Spent
   spent none = record { fetch = answers.Spent; is = fetch_spent turn plain draws nodes none; goes_on = refl }

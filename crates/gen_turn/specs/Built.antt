@@ -1,5 +1,5 @@
 -- The templates that this build takes.
-use Rattle.std.specs.Prelude.{◌≡◌, ℕ, ◌==◌, ◌&&◌, Bool, true, false, List, [], ◌∷◌, map, Vec}
+use Rattle.std.specs.Prelude.{◌≡◌, ℕ, ◌==◌, ◌&&◌, Bool, true, List, [], ◌∷◌, map, Vec}
 use Rattle.std.specs.Global.{Global}
 use Rattle.tpl_ast.specs.declared.template.HartDecl.{HartDecl}
 use Rattle.tpl_ast.specs.declared.template.Item.{Item}
@@ -17,10 +17,10 @@ use Rattle.leaf_turn.specs.Built.{are_built}
 use Rattle.gen_turn.specs.Drafts.{drafted}
 use Rattle.gen_turn.specs.Grounds.{CanTake}
 
--- an item each of whose leaves is built, with the answer for each inner item in its place; `fault` leaves are not built yet
+-- an item each of whose leaves is built, with the answer for each inner item in its place
 abbrev pub built_in : Item-F Bool → Bool
 built_in (layers.Leaf line wishes) = are_built wishes.items
-built_in (layers.FetchFault line causes) = false
+built_in (layers.FetchFault line causes) = true
 built_in (layers.Seq body) = all_true body.items
 built_in (layers.Repeat times body) = all_true body.items
 built_in (layers.Choose line ways) = all_ways ways.items

@@ -1,5 +1,5 @@
 -- Which leaves and labels this build can take.
-use Rattle.std.specs.Prelude.{◌≡◌, ℕ, ◌^◌, ◌<◌, ◌≤◌, true, List, length}
+use Rattle.std.specs.Prelude.{◌≡◌, ℕ, ◌%◌, ◌^◌, ◌<◌, ◌≤◌, true, List, length}
 use Rattle.std.specs.List.{AllByRecursion, list_all}
 use Rattle.rv_csr.specs.declared.access.CsrAccess.{CsrAccess}
 use Rattle.tpl_ast.specs.declared.template.Item.{Item}
@@ -17,8 +17,9 @@ use Rattle.turn_laws.specs.Ahead.{AreVectors}
 use Rattle.turn_laws.specs.Given.{known_at}
 use Rattle.gen_turn.specs.Drafts.{Drafted}
 
--- what is known of hart k and of memory is words, and so are the hart's CSRs that are always known
+-- what is known of hart k and of memory is words, and so are the hart's CSRs that are always known; its pc is a multiple of 4
 pub record IsOfWords (k : ℕ) (w : Whole) : Type 0 where
+  pub aligned : (hart_of k w).pc % 4 ≡ 0
   pub known : AreWords (known_at k w)
   pub fixed : (access : CsrAccess) → fixed_value (fixed_in (hart_of k w) w.memory) access < 2 ^ 32
 
@@ -41,9 +42,10 @@ pub record IsBuilt (names : ℕ) (ws : List Wish) : Type 0 where
   pub short : length ws ≤ most_atoms
   pub once : NamedOnce (atoms_of ws)
 
--- a `do` leaf or a label that can be taken; `fault` leaves are not built yet
+-- a leaf or a label that can be taken
 abbrev pub CanTake : Drafted → ℕ → Item → Type 0
 CanTake d k (items.Leaf line ws) = IsGround d k × IsBuilt (length d.template.names) ws.items
+CanTake d k (items.FetchFault line causes) = IsGround d k
 CanTake d k (items.Label name) = IsGround d k × (name < length d.template.names)
 CanTake d k _ = ⊥
 

@@ -5,12 +5,14 @@ use Rattle.tpl_ast.specs.declared.template.Template.{Template}
 use Rattle.tpl_ast.specs.Parsing.{Parses}
 use Rattle.tpl_admit.specs.declared.certificate.Cert.{Cert}
 use Rattle.tpl_admit.specs.Admission.{Admits}
+use Rattle.tpl_admit.specs.Laws.{with_template}
 use Rattle.part_state.specs.State.{whole}
 use Rattle.part_state.specs.Told.{FitsFile, Tells}
 use Rattle.gen_search.specs.Ready.{BodiesAreReady}
 use Rattle.gen_search.specs.declared.draws.Tally.{Tally}
 use Rattle.gen_search.specs.Search.{Done, SearchResult, Searches}
 use Rattle.gen_turn.specs.declared.making.Generated.{Generated}
+use Rattle.gen_turn.specs.declared.making.Generated.TheVariants as made
 use Rattle.gen_turn.specs.Built.{is_template_built}
 use Rattle.gen_turn.specs.Generating.{Comes, IsGenerated}
 use Rattle.gen_turn.specs.Rules.{Shown, can_be_taken, draft_rules}
@@ -26,6 +28,21 @@ abbrev pub GeneratedIsOne : Type 0
 GeneratedIsOne =
     (t : Template) (seed nodes turns : ℕ) (a b : Generated) → Parses t.text t → is_template_built t ≡ true
     → IsGenerated t seed nodes turns a → IsGenerated t seed nodes turns b → a ≡ b
+
+-- templates that one text is parsed as are built alike, or none of them is
+abbrev pub TextsTellWhatIsBuilt : Type 0
+TextsTellWhatIsBuilt = (text : List ℕ) (t u : Template) → Parses text t → Parses text u → is_template_built t ≡ is_template_built u
+
+-- what is made, with another template in its certificate
+abbrev pub retold : Template → Generated → Generated
+retold t (made.Done c) = made.Done (with_template c t)
+retold t (made.GaveUp none_fits spent last_line) = made.GaveUp none_fits spent last_line
+
+-- and what is made of them is the same
+abbrev pub TextsTellWhatIsMade : Type 0
+TextsTellWhatIsMade =
+    (text : List ℕ) (t u : Template) (seed nodes turns : ℕ) (a b : Generated) → Parses text t → Parses text u → is_template_built u ≡ true
+    → IsGenerated t seed nodes turns a → IsGenerated u seed nodes turns b → retold u a ≡ b
 
 -- the certificate of a test in which a search is done is admitted by its template
 abbrev pub DoneTestsAreAdmitted : Type 0

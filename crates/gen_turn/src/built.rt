@@ -31,14 +31,14 @@ fn are_ways_built(ways: &[(u32, Vec<Item>)]) -> bool
     true
 }
 
-/// Whether each leaf of an item is built. Leaves with a fetch that fails are not built yet.
+/// Whether each leaf of an item is built.
 #[cycle(built)]
 fn is_item_built(item: &Item) -> bool
     ensures { result ≡ is_item_built item.now }
 {
     match item {
         Item::Leaf { line: _, wishes } => are_built(wishes),
-        Item::FetchFault { line: _, causes: _ } => false,
+        Item::FetchFault { line: _, causes: _ } => true,
         Item::Seq(body) => is_body_built(body),
         Item::Repeat { times: _, body } => is_body_built(body),
         Item::Choose { line: _, ways } => are_ways_built(ways),
@@ -59,7 +59,7 @@ fn are_harts_built(harts: &[HartDecl]) -> bool
 }
 
 /// Whether this build takes a template: no address is translated where its harts start, and the atoms of each of its
-/// leaves bar all operations that are not posed.
+/// `do` leaves bar all operations that are not posed.
 pub fn is_template_built(t: &Template) -> bool
     ensures { result ≡ is_template_built t.now }
 {

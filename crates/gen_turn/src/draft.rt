@@ -7,7 +7,7 @@ ghost use Rattle.tpl_ast.specs.Parsing.{Parses};
 ghost use Rattle.gen_turn.specs.Rules.{can_be_taken, draft_rules, shown};
 
 use crate::binding::bind_name;
-use crate::leaf::turn_leaf;
+use crate::leaf::{turn_fault, turn_leaf};
 use gen_search::{OutOfMemory, PartialTest, Turn};
 use part_state::Part;
 use std::alloc::Global;
@@ -125,8 +125,22 @@ impl<'t> PartialTest for Draft<'t> {
                 }
                 Err(_) => Err(OutOfMemory),
             },
-            // Nothing else is a leaf that can be taken.
-            Item::FetchFault { line: _, causes: _ } => unreachable!(),
+            Item::FetchFault { line: _, causes } => match turn_fault(
+                self.alloc,
+                &mut self.part,
+                self.template,
+                self.nodes,
+                hart as u8,
+                causes,
+                draws,
+            ) {
+                Ok(turn) => {
+                    self.part.is_told();
+                    Ok(turn)
+                }
+                Err(_) => Err(OutOfMemory),
+            },
+            // Nothing else is a leaf.
             Item::Label { name: _ } => unreachable!(),
             Item::Seq(_) => unreachable!(),
             Item::Repeat { times: _, body: _ } => unreachable!(),

@@ -1,6 +1,6 @@
 // Laws of the search for a test of a template.
-ghost use Rattle.gen_search.specs.Laws.{HasOneAnswer, StillAllows};
-ghost use Rattle.gen_turn.specs.Laws.{DoneTestsAreAdmitted, DoneTestsFitFiles, GeneratedIsOne, SearchesHaveOneResult};
+ghost use Rattle.gen_search.specs.Laws.{HasOneAnswer, ResultsAreBounded, StillAllows};
+ghost use Rattle.gen_turn.specs.Laws.{DoneTestsAreAdmitted, DoneTestsFitFiles, GeneratedIsOne, SearchesHaveOneResult, TextsTellWhatIsBuilt, TextsTellWhatIsMade};
 ghost use Rattle.gen_turn.specs.Rules.{can_be_taken, draft_rules};
 
 use crate::built::built_templates_are_ready;
@@ -9,7 +9,9 @@ use gen_search::search_laws;
 use leaf_link::{
     fetches_have_one_answer, met_atoms_are_true, steps_are_fetched, values_are_by_places,
 };
-use leaf_turn::{answers_are_found, built_leaves_are_posable, takings_are_one};
+use leaf_turn::{
+    answers_are_found, answers_are_playable, built_leaves_are_posable, takings_are_one,
+};
 use tpl_ast::template_law;
 use turn_laws::given_places_are_known;
 
@@ -21,17 +23,18 @@ pub fn turns_have_one_answer()
 {
     leaf_link::turns_have_one_answer();
     fetches_have_one_answer();
-    values_are_by_places();
     given_places_are_known();
     answers_are_found();
+    answers_are_playable();
     built_leaves_are_posable();
     takings_are_one();
 }
 
 /// Does nothing. Its contract says that the search from a test on which all leaves and labels of its template can be
-/// taken has one result at most.
+/// taken has one result at most, and that a result tells of at most as many leaf turns as were asked for.
 pub fn searches_have_one_result()
-    ensures { SearchesHaveOneResult }
+    ensures one { SearchesHaveOneResult }
+    ensures bounded { ResultsAreBounded draft_rules }
 {
     turns_have_one_answer();
     search_laws::<Draft>();
@@ -44,6 +47,17 @@ pub fn generated_is_one()
 {
     searches_have_one_result();
     built_templates_are_ready();
+}
+
+/// Does nothing. Its contract says that a text tells whether its template is built, and what is made of it: the templates
+/// that one text is parsed as differ in how their lists are kept alone.
+pub fn texts_tell_what_is_made()
+    ensures built { TextsTellWhatIsBuilt }
+    ensures made { TextsTellWhatIsMade }
+{
+    searches_have_one_result();
+    built_templates_are_ready();
+    search_laws::<Draft>();
 }
 
 /// Does nothing. Its contract says that the certificate of a test in which a search is done is admitted by its template,

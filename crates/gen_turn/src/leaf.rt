@@ -1,4 +1,4 @@
-// The turn of a `do` leaf.
+// The turns of leaves.
 ghost use Rattle.std.specs.Prelude.{◌≡◌, ◌%◌, ◌<◌, ◌≤◌, true, length, OnOk, IfOk};
 ghost use Rattle.std.specs.List.{list_all};
 ghost use Rattle.rv_mem.specs.Seen.{is_there};
@@ -9,17 +9,20 @@ ghost use Rattle.part_machine.specs.Whole.{hart_of};
 ghost use Rattle.part_state.specs.State.{here};
 ghost use Rattle.leaf_link.specs.Answers.{values_in};
 ghost use Rattle.gen_search.specs.Wholes.{answered};
-ghost use Rattle.leaf_turn.specs.Answers.{AreKept, IsFound};
+ghost use Rattle.leaf_turn.specs.Answers.{AreKept, IsPlayable};
 ghost use Rattle.gen_turn.specs.Drafts.{drafted};
 ghost use Rattle.gen_turn.specs.Grounds.{IsBuilt, IsGround, IsSameGround};
-ghost use Rattle.gen_turn.specs.Turns.{IsDone, IsLeafTaken};
+ghost use Rattle.gen_turn.specs.Turns.{IsDone, IsFailed, IsLeafTaken};
 
 use crate::binding::bind_names;
 use crate::dropping::drop_biases;
+use dom_set::Set;
 use fd_prob::Assignment;
 use fd_solve::Solved;
 use gen_search::Turn;
-use leaf_turn::{OutOfMemory, Step, known_is_words, leaf_answer, take};
+use leaf_turn::{
+    OutOfMemory, Step, answers_are_playable, fault_answer, known_is_words, leaf_answer, take,
+};
 use part_state::Part;
 use rv_mem::{Seen, Words};
 use std::alloc::Global;
@@ -49,7 +52,7 @@ fn take_leaf(
     x: &Assignment,
 ) -> Result<(), OutOfMemory>
     requires hart { hart < length part.old.now.harts }
-    requires found { IsFound hart (here part.old) (values_in x.now) }
+    requires playable { IsPlayable hart (here part.old) (values_in x.now) }
     requires below { list_all (is_name_below (length part.old.now.names)) (atoms_of wishes.now) ≡ true }
     requires short { length wishes.now ≤ most_atoms }
     ensures taken { OnOk result (IsLeafTaken hart wishes.now dropped.now (values_in x.now) (here part.old) (here part.new)) }
@@ -91,6 +94,7 @@ pub fn turn_leaf(
     ensures ground { OnOk result (IsSameGround (here part.old) (here part.new)) }
     ensures kept { OnOk result (AreKept part.old part.new) }
 {
+    answers_are_playable();
     // The fetch has one pair of page table entries where no address is translated.
     if nodes < 1 {
         return Ok(Turn::Spent);
@@ -104,6 +108,40 @@ pub fn turn_leaf(
         Solved::Spent => Ok(Turn::Spent),
         Solved::Found(x) => {
             take_leaf(part, hart, wishes, answer.dropped.as_slice(), &x)?;
+            Ok(Turn::Taken)
+        }
+    }
+}
+
+/// Makes the turn of a `fault` leaf of a hart, with the 16 draws of the turn and `nodes` for the budget of its problem.
+pub fn turn_fault(
+    alloc: Global,
+    part: &mut Part,
+    t: &Template,
+    nodes: u64,
+    hart: u8,
+    causes: &Set,
+    draws: &[u32; 16],
+) -> Result<Turn, OutOfMemory>
+    requires ground { IsGround (drafted t.now nodes (here part.old)) hart }
+    ensures turned { IfOk result (λ turn. IsFailed (drafted t.now nodes (here part.old)) hart causes.now draws.now (answered turn (drafted t.now nodes (here part.new)))) }
+    ensures ground { OnOk result (IsSameGround (here part.old) (here part.new)) }
+    ensures kept { OnOk result (AreKept part.old part.new) }
+{
+    // The fetch has one pair of page table entries where no address is translated.
+    if nodes < 1 {
+        return Ok(Turn::Spent);
+    }
+    // A fetch from RAM succeeds.
+    if is_in_ram(part, hart) {
+        return Ok(Turn::NoneFits);
+    }
+    match fault_answer(alloc, part, hart, t, causes, draws, nodes)? {
+        Solved::NoneFits => Ok(Turn::NoneFits),
+        Solved::Spent => Ok(Turn::Spent),
+        Solved::Found(x) => {
+            // No atom binds a name, and there are no biases.
+            take_leaf(part, hart, &[], &[], &x)?;
             Ok(Turn::Taken)
         }
     }

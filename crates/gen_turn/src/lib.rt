@@ -1,6 +1,6 @@
 //! Leaf turns, labels and choices on the test of a template: what the search for the test works on. A leaf turn answers
 //! the leaf where its hart stands, starts the places of the answer, takes its step, binds names, and lists the biases
-//! that were not kept. Addresses are not translated here, and of leaves only those are taken whose operations are
+//! that were not kept. Addresses are not translated here, and of `do` leaves only those are taken whose operations are
 //! posed.
 #![tactic(auto)]
 
@@ -15,6 +15,7 @@ mod making;
 pub use built::{built_templates_are_ready, is_template_built};
 pub use draft::{Draft, DraftWhole};
 pub use laws::{
-    done_tests_are_certified, generated_is_one, searches_have_one_result, turns_have_one_answer,
+    done_tests_are_certified, generated_is_one, searches_have_one_result, texts_tell_what_is_made,
+    turns_have_one_answer,
 };
 pub use making::{Found, Generated, generate};

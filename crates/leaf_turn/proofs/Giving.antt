@@ -17,7 +17,6 @@ use Rattle.rv_csr.specs.declared.table.Register.TheVariants.{Sstatus, Satp, Msta
 use Rattle.rv_csr.specs.State.{CsrValues, with_first}
 use Rattle.rv_csr.specs.Table.{register_at}
 use Rattle.rv_csr.specs.Traps.{takes_trap, trapped_to}
-use Rattle.fd_prob.specs.declared.slot.Slot.{Slot}
 use Rattle.part_machine.specs.Whole.{Bare, Whole, bare_after, no_hart, with_csr, with_register, fixed_in, hart_of, next_of, record_in, stepped}
 use Rattle.rv_hart.specs.Fixed.{Fixed}
 use Rattle.rv_hart.specs.Whole.{record_of}
@@ -28,12 +27,11 @@ use Rattle.part_state.specs.Probing.{IsProbe}
 use Rattle.part_state.specs.declared.probe.Probe.{Probe}
 use Rattle.part_state.specs.declared.probe.Probe.TheVariants.{Clash, Missing, Outside, Ready}
 use Rattle.leaf_link.specs.Values.{Values}
-use Rattle.leaf_link.specs.Placing.{IsInstruction, StaysOrTraps, StepsStayOrTrap, ValuesAreByPlaces, ValuesAreInstructions, value_at}
-use Rattle.leaf_link.specs.Problems.{key_of}
+use Rattle.leaf_link.specs.Placing.{StaysOrTraps, value_at}
 use Rattle.turn_laws.specs.Ahead.{AreAmong, IsUnderway, LogsAreShort, OneMoreIsGiven, PlacesAreNext, unknown_in}
-use Rattle.turn_laws.specs.Laws.{CandidatesAreSteps, FixedPartsStay, GivenPlacesAreKnown, GivenTestsAreTests, IsTaken, OthersStay}
+use Rattle.turn_laws.specs.Laws.{PlayedStepsAreNext, FixedPartsStay, GivenPlacesAreKnown, GivenTestsAreTests, IsTaken, OthersStay}
 use Rattle.turn_laws.specs.Given.{CanGive, all_given, given_to, known_at, turn_at}
-use Rattle.leaf_turn.specs.Answers.{AreAsked, AreGiven, IsFound, IsStill, IsTakenBy, new_at}
+use Rattle.leaf_turn.specs.Answers.{AreAsked, AreGiven, IsPlayable, IsStill, IsTakenBy, new_at}
 use Rattle.leaf_link.specs.Candidates.{accesses_in, registers_from}
 
 -- some of the places are given, and so many at most are left
@@ -43,7 +41,7 @@ pub record AreGoing (k : ℕ) (x : Values) (left : ℕ) (old now : Whole) : Type
   pub among : AreAmong places (new_at k old x)
   pub asked : AreAsked k (new_at k old x) places old
   pub is : now ≡ all_given k places old
-  pub few : (f : IsFound k old x) → unknown_in (enlarged (known_at k old) (given_to places)) f.candidate.log ≤ left
+  pub few : (f : IsPlayable k old x) → unknown_in (enlarged (known_at k old) (given_to places)) f.log ≤ left
 
 pub begun : (k : ℕ) (x : Values) (w : Whole) → LogsAreShort → AreGoing k x 10 w w
 begun k x w short = record {
@@ -52,14 +50,8 @@ begun k x w short = record {
   among = λ place v h. absurd (cc);
   asked = tt;
   is = refl;
-  few = λ f. short f.setting f.feet k w f.leaf (new_at k w x) (enlarged (known_at k w) (given_to [])) f.candidate;
+  few = λ f. short (turn_at f.setting f.feet k w) (new_at k w x) (enlarged (known_at k w) (given_to [])) f.log f.change f.played;
 }
-
-pub same_values : (k : ℕ) (w : Whole) (x : Values) → (f : IsFound k w x) → key_of (turn_at f.setting f.feet k w) f.leaf (new_at k w x) f.candidate ≡ x
-same_values k w x f = fun_ext (λ (s : Slot). sym (f.values s))
-
-pub instruction_of : (k : ℕ) (w : Whole) (x : Values) → ValuesAreInstructions → IsFound k w x → IsInstruction x
-instruction_of k w x law f = subst IsInstruction (same_values k w x f) (law (turn_at f.setting f.feet k w) f.leaf (new_at k w x) f.candidate).0
 
 -- one place more, which is what the step lacks behind those before it
 asked_more : (k : ℕ) (new : Known) (es : List (Place × ℕ)) (place : Place) (v : ℕ) (w : Whole) → AreAsked k new es w → next_of k (all_given k es w) ≡ Lacks place → new place ≡ Some v → AreAsked k new (es ++ (place, v) ∷ []) w
@@ -72,17 +64,15 @@ pub record IsGoingOn (k : ℕ) (x : Values) (left : ℕ) (old now : Whole) (plac
   pub can : CanStart k place (value_at x place) now
   pub going : AreGoing k x (left - 1) old (place_given k place (value_at x place) now)
 
-pub going_on : (k : ℕ) (x : Values) (left : ℕ) (old now : Whole) (place : Place) → PlacesAreNext → OneMoreIsGiven → ValuesAreByPlaces → IsTest old → k < length old.harts → IsFound k old x
+pub going_on : (k : ℕ) (x : Values) (left : ℕ) (old now : Whole) (place : Place) → PlacesAreNext → OneMoreIsGiven → IsTest old → k < length old.harts → IsPlayable k old x
     → AreGoing k x left old now → next_of k now ≡ Lacks place → IsGoingOn k x left old now place
-going_on k x left old now place next appended by_places test l f g lacks =
+going_on k x left old now place next appended test l f g lacks =
     let value : ℕ = value_at x place in
     let new : Known = new_at k old x in
     let first : next_of k (all_given k g.places old) ≡ Lacks place = ap (λ (w : Whole). next_of k w) (sym g.is) ∙ lacks in
-    let u = next f.setting f.feet k old f.leaf new g.places test l f.fetched.aligned f.vectors g.can g.among f.candidate in
+    let u = next f.setting f.feet k old new g.places f.log f.change test l f.aligned f.vectors g.can g.among f.played in
     let n = u.lacks place first in
-    let is : n.value ≡ value =
-    by_places (turn_at f.setting f.feet k old) f.walk f.pa f.leaf new f.fetched f.candidate f.little place n.value n.new_is
-    ∙ ap (λ (y : Values). value_at y place) (same_values k old x f) in
+    let is : n.value ≡ value = f.values place n.value n.new_is in
     let new_is : new place ≡ Some value = n.new_is ∙ ap (λ (v : ℕ). Some v) is in
     let more = u.among place value first new_is in
     let fewer = u.fewer place value first new_is in
@@ -98,22 +88,22 @@ going_on k x left old now place next appended by_places test l f g lacks =
         asked = asked_more k new g.places place value old g.asked first new_is;
         is = ap (λ (w : Whole). place_given k place value w) g.is ∙ sym (appended k g.places place value old);
         few = λ h.
-            let one = (next h.setting h.feet k old h.leaf new g.places test l h.fetched.aligned h.vectors g.can g.among h.candidate).fewer place value first new_is in
+            let one = (next h.setting h.feet k old new g.places h.log h.change test l h.aligned h.vectors g.can g.among h.played).fewer place value first new_is in
             let all = g.few h in
             omega (arith, one, all);
       };
     }
 
 -- where it lacks none, all are given
-pub all_are_given : (k : ℕ) (x : Values) (left : ℕ) (old now : Whole) → PlacesAreNext → IsTest old → k < length old.harts → IsFound k old x
+pub all_are_given : (k : ℕ) (x : Values) (left : ℕ) (old now : Whole) → PlacesAreNext → IsTest old → k < length old.harts → IsPlayable k old x
     → AreGoing k x left old now → ((place : Place) → next_of k now ≡ Lacks place → ⊥) → AreGiven k x old now
 all_are_given k x left old now next test l f g none = go (next_of k (all_given k g.places old)) refl
   where
     same : next_of k now ≡ next_of k (all_given k g.places old)
     same = ap (λ (w : Whole). next_of k w) g.is
 
-    under : IsUnderway k old f.setting f.feet f.leaf (new_at k old x) g.places f.candidate
-    under = next f.setting f.feet k old f.leaf (new_at k old x) g.places test l f.fetched.aligned f.vectors g.can g.among f.candidate
+    under : IsUnderway k old (new_at k old x) g.places f.log
+    under = next f.setting f.feet k old (new_at k old x) g.places f.log f.change test l f.aligned f.vectors g.can g.among f.played
 
     go : (a : Answer Access Change) → next_of k (all_given k g.places old) ≡ a → AreGiven k x old now
     go (Does xs c) e = record { places = g.places; can = g.can; listed = under.listed xs c e; asked = g.asked; now = g.is }
@@ -121,29 +111,26 @@ all_are_given k x left old now next test l f g none = go (next_of k (all_given k
     go Nowhere e = absurd (under.somewhere e)
 
 -- THE STEP
-pub ready : (k : ℕ) (x : Values) (old now : Whole) → CandidatesAreSteps → IsTest old → k < length old.harts → (f : IsFound k old x) → AreGiven k x old now
-    → IsTaken k old f.setting f.feet f.leaf (new_at k old x) f.candidate now
+pub ready : (k : ℕ) (x : Values) (old now : Whole) → PlayedStepsAreNext → IsTest old → k < length old.harts → (f : IsPlayable k old x) → AreGiven k x old now → IsTaken k f.log f.change now
 ready k x old now steps test l f g =
-    subst (λ (w : Whole). IsTaken k old f.setting f.feet f.leaf (new_at k old x) f.candidate w) (sym g.now)
-    (steps f.setting f.feet k old f.leaf (new_at k old x) g.places test l f.footprint g.can g.listed f.candidate)
+    subst (λ (w : Whole). IsTaken k f.log f.change w) (sym g.now) (steps f.setting f.feet k old (new_at k old x) g.places f.log f.change test l f.footprint g.can g.listed f.played)
 
-pub taken_by : (k : ℕ) (x : Values) (r : Record) (old now new : Whole) → CandidatesAreSteps → FixedPartsStay → IsTest old → k < length old.harts → IsFound k old x → AreGiven k x old now
+pub taken_by : (k : ℕ) (x : Values) (r : Record) (old now new : Whole) → PlayedStepsAreNext → FixedPartsStay → IsTest old → k < length old.harts → IsPlayable k old x → AreGiven k x old now
     → ((xs : List Access) (c : Change) → next_of k now ≡ Does xs c → new ≡ stepped k xs c now)
     → ((xs : List Access) (c : Change) → next_of k now ≡ Does xs c → r ≡ record_in (hart_of k now) now.memory xs c)
     → IsTakenBy k x r old new
 taken_by k x r old now new steps fixed test l f g goes records =
     let t = ready k x old now steps test l f g in
-    let c = f.candidate in
     let same : fixed_in (hart_of k now) now.memory ≡ fixed_in (hart_of k old) old.memory =
     ap (λ (w : Whole). fixed_in (hart_of k w) w.memory) g.now ∙ fixed k g.places old test l g.can in
     record {
       given = now;
       places = g;
-      log = c.log;
-      change = c.change;
-      plays = c.is.plays;
-      now = goes (accesses_in c.log) c.change t.next;
-      record_is = records (accesses_in c.log) c.change t.next ∙ ap (λ (h : Fixed). record_of h (accesses_in c.log) c.change) same;
+      log = f.log;
+      change = f.change;
+      plays = f.played.plays;
+      now = goes (accesses_in f.log) f.change t.next;
+      record_is = records (accesses_in f.log) f.change t.next ∙ ap (λ (h : Fixed). record_of h (accesses_in f.log) f.change) same;
     }
 
 pub harts_stay : (k : ℕ) (x : Values) (old now : Whole) → OthersStay → (places : List (Place × ℕ)) → now ≡ all_given k places old → k < length old.harts → k < length now.harts
@@ -218,13 +205,11 @@ pub same_change : (a b : List Entry) (c d : Change) → (let r : Answer Entry Ch
 same_change a b c d e = cc e
 
 -- the step of an answer goes on or traps
-stays_or_traps : (k : ℕ) (x : Values) (r : Record) (old new : Whole) → StepsStayOrTrap → IsFound k old x → (t : IsTakenBy k x r old new) → StaysOrTraps t.change.control
-stays_or_traps k x r old new law f t =
-    subst (λ (c : Change). StaysOrTraps c.control) (same_change f.candidate.log t.log f.candidate.change t.change (sym f.candidate.is.plays ∙ t.plays))
-    (law (turn_at f.setting f.feet k old) f.walk f.pa f.leaf (new_at k old x) f.fetched f.candidate f.little)
+stays_or_traps : (k : ℕ) (x : Values) (r : Record) (old new : Whole) → IsPlayable k old x → (t : IsTakenBy k x r old new) → StaysOrTraps t.change.control
+stays_or_traps k x r old new f t = subst (λ (c : Change). StaysOrTraps c.control) (same_change f.log t.log f.change t.change (sym f.played.plays ∙ t.plays)) f.control
 
-pub still : (k : ℕ) (x : Values) (r : Record) (old new : Whole) → OthersStay → StepsStayOrTrap → IsFound k old x → IsTakenBy k x r old new → IsStill old new
-still k x r old new others law f t =
+pub still : (k : ℕ) (x : Values) (r : Record) (old new : Whole) → OthersStay → IsPlayable k old x → IsTakenBy k x r old new → IsStill old new
+still k x r old new others f t =
     let places = t.places.places in
     let b = others k places old in
     let given : Whole = all_given k places old in
@@ -237,7 +222,7 @@ still k x r old new others law f t =
       harts = ap (λ (w : Whole). length w.harts) is ∙ length-set given.harts k (bare_after t.change (hart_of k given)) ∙ b.harts;
       satp = λ j.
           ap (λ (w : Whole). (hart_of j w).csrs.satp) is
-          ∙ set_satp given.harts k (bare_after t.change (hart_of k given)) no_hart (control_satp (hart_of k given).privilege (hart_of k given).pc t.change.control (hart_of k given).csrs (stays_or_traps k x r old new law f t)) j
+          ∙ set_satp given.harts k (bare_after t.change (hart_of k given)) no_hart (control_satp (hart_of k given).privilege (hart_of k given).pc t.change.control (hart_of k given).csrs (stays_or_traps k x r old new f t)) j
           ∙ all_satp k places old j;
     }
 

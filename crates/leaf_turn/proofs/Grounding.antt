@@ -110,13 +110,15 @@ stand_tells t k w own st s feet test l plain m setting footprint =
 
 -- ---- the fetch
 
+pub fetch_untranslated : (k : ℕ) (w : Whole) (s : Setting) (feet : List Touch) → IsUntranslated k w → is_translated (fetch_view (turn_at s feet k w).fixed) ≡ false
+fetch_untranslated k w s feet plain = and_false _ _ (ap (λ (n : ℕ). leb 0x8000_0000 n) plain)
+
 pub fetch_is_settled : (k : ℕ) (w : Whole) (s : Setting) (feet : List Touch) (pc : ℕ) → IsUntranslated k w → (hart_of k w).pc ≡ pc → pc % 4 ≡ 0 → is_in_ram (λ n. is_there (w.memory n)) pc ≡ true
     → IsFetched (turn_at s feet k w) [] pc
 fetch_is_settled k w s feet pc plain is aligned there =
     let turn : Turn = turn_at s feet k w in
-    let none : is_translated (fetch_view turn.fixed) ≡ false = and_false _ _ (ap (λ (n : ℕ). leb 0x8000_0000 n) plain) in
     record {
-      translates = plain_fetch turn (by_known turn.known) none ∙ ap (λ (n : ℕ). Does [] (arrived turn.fixed.ram ForFetch n)) is ∙ ap (λ (b : Bool). Does [] (if b then At pc else Fails (access_cause ForFetch))) there;
+      translates = plain_fetch turn (by_known turn.known) (fetch_untranslated k w s feet plain) ∙ ap (λ (n : ℕ). Does [] (arrived turn.fixed.ram ForFetch n)) is ∙ ap (λ (b : Bool). Does [] (if b then At pc else Fails (access_cause ForFetch))) there;
       aligned = ap (λ (n : ℕ). n % 4) is ∙ aligned;
     }
 

@@ -12,3 +12,5 @@ pub mod Knowing
 pub mod Plainness
 pub mod Wholly
 pub mod Building
+pub mod Playing
+pub mod Failing

@@ -10,7 +10,7 @@ use Rattle.part_machine.specs.Whole.{Whole, fixed_in, hart_of, next_of, stepped}
 use Rattle.part_state.specs.Meaning.{place_given}
 use Rattle.leaf_link.specs.Candidates.{accesses_in}
 use Rattle.turn_laws.specs.Given.{all_given}
-use Rattle.turn_laws.specs.Laws.{CandidatesAreSteps}
+use Rattle.turn_laws.specs.Laws.{PlayedStepsAreNext}
 use Rattle.leaf_turn.specs.Answers.{AreAsked, TakingsAreOne, new_at}
 use Rattle.leaf_turn.proofs.Giving.{ready, same_change}
 
@@ -41,7 +41,7 @@ one_list k new (e ∷ es) (f ∷ fs) w xs ys c d a b done other =
     (subst (λ (g : Place × ℕ). next_of k (all_given k fs (place_given k g.0 g.1 w)) ≡ Does ys d) (sym head) other) in
     λ i. head i ∷ rest i
 
-pub one_taking : CandidatesAreSteps → TakingsAreOne
+pub one_taking : PlayedStepsAreNext → TakingsAreOne
 one_taking steps k x r s old new other test l f t u =
     let first = ready k x old t.given steps test l f t.places in
     let second = ready k x old u.given steps test l f u.places in

@@ -14,11 +14,12 @@ use Rattle.rv_hart.specs.Machine.{data_view, fetch_view}
 use Rattle.leaf_link.specs.Turns.{Turn}
 use Rattle.leaf_link.specs.Values.{given_by}
 use Rattle.leaf_link.specs.Reaching.{Walks}
+use Rattle.leaf_link.specs.FetchAnswers.{fetch_space}
 use Rattle.leaf_link.specs.FetchRows.{FetchRow, FetchWalks, entry_values}
 use Rattle.leaf_link.specs.Extras.{BiasesAreKept}
 use Rattle.leaf_turn.specs.Untranslated.{FetchRowsAreThere, LeafAnswersWithoutRows, RowsAreThere, no_entries, rows_without}
 
-without : (ram : ℕ → Bool) (v : View) (kind : Kind) (va : ℕ) → is_translated v ≡ false → translated ram v kind va ≡ Done (arrived ram kind va)
+pub without : (ram : ℕ → Bool) (v : View) (kind : Kind) (va : ℕ) → is_translated v ≡ false → translated ram v kind va ≡ Done (arrived ram kind va)
 unfolding translated
 without ram v kind va h = rw h refl
 
@@ -72,6 +73,9 @@ rows_are_there t kind h = record {
 }
 
 -- THE PC
+pub one_pair : (t : Turn) → is_translated (fetch_view t.fixed) ≡ false → fetch_space t ≡ 1
+one_pair t h = rw h refl
+
 pub plain_fetch : (t : Turn) (tell : Teller) → is_translated (fetch_view t.fixed) ≡ false → answer_told tell (translated t.fixed.ram (fetch_view t.fixed) ForFetch t.fixed.pc) ≡ Does [] (arrived t.fixed.ram ForFetch t.fixed.pc)
 plain_fetch t tell h = ap (λ (s : Script Reached). answer_told tell s) (without t.fixed.ram (fetch_view t.fixed) ForFetch t.fixed.pc h)
 

@@ -1,5 +1,5 @@
 -- The answer of a leaf, and the test behind its step.
-use Rattle.std.specs.Prelude.{◌≡◌, ◌<◌, ◌++◌, ℕ, true, List, [], ◌∷◌, Some, length}
+use Rattle.std.specs.Prelude.{◌≡◌, ◌%◌, ◌<◌, ◌++◌, ℕ, true, List, [], ◌∷◌, Some, length}
 use Rattle.rv_isa.specs.Table.{row_of}
 use Rattle.rv_script.specs.declared.place.Place.{Place}
 use Rattle.rv_script.specs.Folds.{Answer.Does, Answer.Missing as Lacks, Entry, Known, by_known}
@@ -18,11 +18,12 @@ use Rattle.part_state.specs.Meaning.{IsTest, place_given}
 use Rattle.part_state.specs.State.{State, Test, tests}
 use Rattle.leaf_link.specs.Values.{Values, new_places}
 use Rattle.leaf_link.specs.Candidates.{IsCandidate, accesses_in}
-use Rattle.leaf_link.specs.Placing.{asks_little}
+use Rattle.leaf_link.specs.Placing.{IsInstruction, StaysOrTraps, asks_little, value_at}
 use Rattle.leaf_link.specs.Problems.{key_of}
 use Rattle.leaf_link.specs.Ways.{IsFetched}
 use Rattle.turn_laws.specs.Ahead.{AreVectors}
 use Rattle.turn_laws.specs.Given.{AreListed, CanGive, Setting, all_given, known_at, turn_at}
+use Rattle.turn_laws.specs.Played.{IsPlayed}
 
 -- the places that an answer's values start
 abbrev pub new_at : ℕ → Whole → Values → Known
@@ -41,6 +42,20 @@ pub record IsFound (k : ℕ) (w : Whole) (x : Values) : Type 0 where
   pub candidate : IsCandidate (turn_at setting feet k w) leaf (new_at k w x)
   pub values : (s : Slot) → x s ≡ key_of (turn_at setting feet k w) leaf (new_at k w x) candidate s
   pub little : asks_little (row_of candidate.instr.op) ≡ true
+
+-- values are those of a step that a hart can make: it is played on what they start, each new place has its value among them, and the step goes on as it is or traps
+pub record IsPlayable (k : ℕ) (w : Whole) (x : Values) : Type 0 where
+  pub setting : Setting
+  pub feet : List Touch
+  pub log : List Entry
+  pub change : Change
+  pub vectors : AreVectors setting.vectors
+  pub footprint : IsFootprint feet (footprints_of (λ j. records_of j w))
+  pub aligned : (hart_of k w).pc % 4 ≡ 0
+  pub played : IsPlayed (turn_at setting feet k w) (new_at k w x) log change
+  pub values : (place : Place) (v : ℕ) → new_at k w x place ≡ Some v → v ≡ value_at x place
+  pub instruction : IsInstruction x
+  pub control : StaysOrTraps change.control
 
 -- each place is what the next step lacks when its turn comes, and has its new value
 abbrev pub AreAsked : ℕ → Known → List (Place × ℕ) → Whole → Type 0
@@ -68,7 +83,7 @@ pub record IsTakenBy (k : ℕ) (x : Values) (r : Record) (old new : Whole) : Typ
 -- the values of an answer, taken on a test, give one record and one test
 abbrev pub TakingsAreOne : Type 0
 TakingsAreOne =
-    (k : ℕ) (x : Values) (r s : Record) (old new other : Whole) → IsTest old → k < length old.harts → IsFound k old x
+    (k : ℕ) (x : Values) (r s : Record) (old new other : Whole) → IsTest old → k < length old.harts → IsPlayable k old x
     → IsTakenBy k x r old new → IsTakenBy k x s old other → (r ≡ s) × (new ≡ other)
 
 -- RAM, names, choices and dropped biases are as they were, there are as many harts, and what is translated stays

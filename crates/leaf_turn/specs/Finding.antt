@@ -1,23 +1,25 @@
 -- That what is found for a leaf can be taken.
-use Rattle.std.specs.Prelude.{◌≡◌, ℕ, ◌++◌, true, false, List, []}
+use Rattle.std.specs.Prelude.{◌≡◌, ℕ, ◌%◌, ◌++◌, Bool, true, false, List, []}
 use Rattle.sv_walk.specs.Translation.{is_translated}
 use Rattle.foot_map.specs.declared.touch.Touch.{Touch}
 use Rattle.foot_map.specs.Races.{IsFootprint}
-use Rattle.rv_hart.specs.Machine.{data_view}
+use Rattle.rv_hart.specs.Machine.{data_view, fetch_view}
 use Rattle.fd_prob.specs.declared.problem.Assignment.{Assignment}
 use Rattle.fd_solve.specs.declared.answers.Solved.TheVariants as answers
 use Rattle.tpl_ast.specs.declared.template.Atom.{Atom}
 use Rattle.tpl_admit.specs.Races.{footprints_of}
-use Rattle.part_machine.specs.Whole.{Whole, records_of}
+use Rattle.part_machine.specs.Whole.{Whole, hart_of, records_of}
 use Rattle.leaf_link.specs.Answers.{values_in}
+use Rattle.leaf_link.specs.FetchAnswers.{IsFaultAnswer}
 use Rattle.leaf_link.specs.Firsts.{IsTurnAnswer}
 use Rattle.leaf_link.specs.KindLaws.{IsPosed}
+use Rattle.leaf_link.specs.Values.{Values}
 use Rattle.leaf_pose.specs.declared.stand.Stand.{Stand}
 use Rattle.leaf_pose.specs.Posed.{are_posable}
 use Rattle.leaf_pose.specs.Stands.{IsStandOf}
 use Rattle.turn_laws.specs.Ahead.{AreVectors}
 use Rattle.turn_laws.specs.Given.{Setting, turn_at}
-use Rattle.leaf_turn.specs.Answers.{IsFound}
+use Rattle.leaf_turn.specs.Answers.{IsFound, IsPlayable}
 
 -- what is found for a leaf's atoms and the biases that are kept, where the atoms bar each operation that isn't posed
 abbrev pub AnswersAreFound : Type 0
@@ -26,3 +28,14 @@ AnswersAreFound =
     → AreVectors s.vectors → IsFootprint feet (footprints_of (λ j. records_of j w)) → is_translated (data_view (turn_at s feet k w).fixed) ≡ false
     → IsStandOf st (turn_at s feet k w) [] st.pc → are_posable st leaf ≡ true → IsPosed (turn_at s feet k w) [] st.pc (leaf ++ kept)
     → IsTurnAnswer (turn_at s feet k w) st.pc (leaf ++ kept) draws nodes (answers.Found x) → IsFound k w (values_in x)
+
+-- what is found is a step that the hart can make
+abbrev pub FoundArePlayable : Type 0
+FoundArePlayable = (k : ℕ) (w : Whole) (x : Values) → IsFound k w x → IsPlayable k w x
+
+-- and so is what is found for a `fault` leaf where no address is translated
+abbrev pub FaultsArePlayable : Type 0
+FaultsArePlayable =
+    (k : ℕ) (w : Whole) (s : Setting) (feet : List Touch) (causes : ℕ → Bool) (draws : List ℕ) (nodes : ℕ) (x : Assignment)
+    → AreVectors s.vectors → IsFootprint feet (footprints_of (λ j. records_of j w)) → (hart_of k w).pc % 4 ≡ 0 → is_translated (fetch_view (turn_at s feet k w).fixed) ≡ false
+    → IsFaultAnswer (turn_at s feet k w) causes draws nodes (answers.Found x) → IsPlayable k w (values_in x)

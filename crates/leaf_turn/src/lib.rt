@@ -6,6 +6,7 @@
 mod answer;
 mod built;
 mod error;
+mod fault;
 mod known;
 mod laws;
 mod stand;
@@ -15,8 +16,9 @@ mod wishes;
 pub use answer::{answer_of, leaf_answer};
 pub use built::{are_built, built_leaves_are_posable};
 pub use error::OutOfMemory;
+pub use fault::fault_answer;
 pub use known::known_is_words;
-pub use laws::{answers_are_found, rows_are_there, takings_are_one};
+pub use laws::{answers_are_found, answers_are_playable, rows_are_there, takings_are_one};
 pub use stand::{names_of, stand_of};
 pub use taking::{Step, take};
 pub use wishes::{biases_of, mandatory_of};

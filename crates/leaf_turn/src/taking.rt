@@ -9,16 +9,15 @@ ghost use Rattle.leaf_link.specs.Values.{instr_in};
 ghost use Rattle.rv_script.specs.Logs.{enlarged};
 ghost use Rattle.leaf_link.specs.Candidates.{registers_from};
 ghost use Rattle.turn_laws.specs.Given.{known_at};
-ghost use Rattle.leaf_turn.specs.Answers.{AreGiven, AreKept, IsFound, IsStill, IsTakenBy, new_at};
+ghost use Rattle.leaf_turn.specs.Answers.{AreGiven, AreKept, IsPlayable, IsStill, IsTakenBy, new_at};
 
 use crate::OutOfMemory;
 use fd_prob::{Assignment, Slot};
-use leaf_link::values_are_by_places;
 use part_state::{Part, Probe};
 use rv_hart::Record;
 use rv_isa::{Instr, OPS, codec_laws, encode};
 use rv_script::Place;
-use turn_laws::{candidates_are_steps, given_places_are_known, places_are_next};
+use turn_laws::{given_places_are_known, places_are_next, played_steps_are_next};
 
 /// The instruction of an answer.
 fn instruction(x: &Assignment) -> Instr
@@ -56,11 +55,10 @@ fn value_at(x: &Assignment, place: Place) -> u32
 /// Gives the hart what an answer starts, place by place, as its next step asks for it.
 fn give(part: &mut Part, hart: u8, x: &Assignment) -> Result<(), OutOfMemory>
     requires hart { hart < length part.old.now.harts }
-    requires found { IsFound hart (here part.old) (values_in x.now) }
+    requires playable { IsPlayable hart (here part.old) (values_in x.now) }
     ensures given { OnOk result (AreGiven hart (values_in x.now) (here part.old) (here part.new)) }
     ensures kept { AreKept part.old part.new }
 {
-    values_are_by_places();
     places_are_next();
     given_places_are_known();
     part.is_test();
@@ -87,16 +85,15 @@ pub struct Step {
 
 fn give_and_step(part: &mut Part, hart: u8, x: &Assignment) -> Result<Step, OutOfMemory>
     requires hart { hart < length part.old.now.harts }
-    requires found { IsFound hart (here part.old) (values_in x.now) }
+    requires playable { IsPlayable hart (here part.old) (values_in x.now) }
     ensures taken { IfOk result (λ s. IsTakenBy hart (values_in x.now) s.record (here part.old) (here part.new)) }
     ensures before { IfOk result (λ s. s.before ≡ registers_from (enlarged (known_at hart (here part.old)) (new_at hart (here part.old) (values_in x.now))) 0 32) }
     ensures fit { IfOk result (λ s. IsFitRecord s.record) }
     ensures still { OnOk result (IsStill (here part.old) (here part.new)) }
     ensures kept { AreKept part.old part.new }
 {
-    candidates_are_steps();
+    played_steps_are_next();
     given_places_are_known();
-    values_are_by_places();
     part.is_test();
     give(part, hart, x)?;
     let before = part.hart(hart).regs;
@@ -107,7 +104,7 @@ fn give_and_step(part: &mut Part, hart: u8, x: &Assignment) -> Result<Step, OutO
 /// Starts the places of an answer and takes its step. A refusal changes nothing.
 pub fn take(part: &mut Part, hart: u8, x: &Assignment) -> Result<Step, OutOfMemory>
     requires hart { hart < length part.old.now.harts }
-    requires found { IsFound hart (here part.old) (values_in x.now) }
+    requires playable { IsPlayable hart (here part.old) (values_in x.now) }
     ensures taken { IfOk result (λ s. IsTakenBy hart (values_in x.now) s.record (here part.old) (here part.new)) }
     ensures before { IfOk result (λ s. s.before ≡ registers_from (enlarged (known_at hart (here part.old)) (new_at hart (here part.old) (values_in x.now))) 0 32) }
     ensures fit { IfOk result (λ s. IsFitRecord s.record) }

@@ -1,3 +1,4 @@
 pub mod Members
 pub mod Spans
 pub mod Quarters
+pub mod Parts

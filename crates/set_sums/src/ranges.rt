@@ -3,7 +3,6 @@ ghost use Rattle.std.specs.Prelude.{◌≡◌, ℕ, ◌+◌, ◌-◌, ◌%◌, �
 ghost use Rattle.dom_set.specs.Elements.{is_in};
 ghost use Rattle.set_sums.specs.Spans.{AreCovered, AreKept, AreNegated, AreNegatives, HasDifferencesWithin, HasHalves, HasSumsWithin, HaveHalves, HaveHalvesOf, HaveRound, HaveSums, HaveSumsOf, HaveSumsWith, IsAround, IsBetween, IsMet, IsOfRanges, MayMeet};
 
-use crate::remainders::{class_differences, class_sums};
 use dom_set::{OutOfMemory, Set, set_laws};
 use std::alloc::Global;
 
@@ -35,7 +34,7 @@ pub fn shifted(alloc: Global, set: &Set, distance: u32) -> Result<Set, OutOfMemo
 }
 
 /// Each element minus the distance, modulo 2^32.
-fn lowered(alloc: Global, set: &Set, distance: u32) -> Result<Set, OutOfMemory>
+pub fn lowered(alloc: Global, set: &Set, distance: u32) -> Result<Set, OutOfMemory>
     ensures { IfOk result (λ s. (v : ℕ) → v < 2 ^ 32 → is_in s v ≡ is_in set.now ((v + distance) % 2 ^ 32)) }
 {
     let lowered = shifted(alloc, set, 0u32.wrapping_sub(distance))?;
@@ -131,16 +130,16 @@ fn merged_spans(alloc: Global, set: &Set) -> Result<Vec<Span>, OutOfMemory>
     Ok(merged)
 }
 
-/// Ranges around the elements: one for each where they are few, and else the spans of the set, or two at most where
-/// these are too many.
+/// Ranges around the elements: the spans of the set, one for each element where these are few and not all numbers of
+/// the spans, or two at most where the spans are too many.
 fn parts(alloc: Global, set: &Set) -> Result<Vec<Span>, OutOfMemory>
     ensures { IfOk result (λ parts. AreCovered set.now parts.items) }
 {
-    if set.size() <= FEW {
+    let parts = merged_spans(alloc, set)?;
+    if set.size() <= FEW && set.size() > parts.len() as u64 {
         let parts = elements(alloc, set)?;
         return Ok(parts);
     }
-    let parts = merged_spans(alloc, set)?;
     if parts.len() <= MANY / 2 {
         return Ok(parts);
     }
@@ -215,13 +214,15 @@ fn count_met(first: Span, others: &[Span], windows: &[Span]) -> usize {
     count
 }
 
-/// How many sums of ranges are kept, at most: more where the windows are narrow, since then few numbers are left.
-fn most_of(windows: &[Span]) -> usize {
+/// How many sums of ranges are kept, at most, where so many pairs of sets share them: more where the windows are narrow,
+/// since then few numbers are left.
+fn most_of(windows: &[Span], pairs: usize) -> usize {
     let mut width = 0u64;
     for window in windows {
         width = width.saturating_add(u64::from(window.1.saturating_sub(window.0)));
     }
-    if width < NARROW { MORE } else { MANY }
+    let most = if width < NARROW { MORE } else { MANY };
+    most.checked_div(pairs).unwrap_or(most)
 }
 
 /// How many pairs there are besides so many, as `push_pairs` finds them, until there are too many.
@@ -253,8 +254,8 @@ fn count_pairs(
 }
 
 /// Whether more sums of ranges would be kept than at most.
-fn are_many(firsts: &[Span], others: &[Span], windows: &[Span]) -> bool {
-    let most = most_of(windows);
+fn are_many(firsts: &[Span], others: &[Span], windows: &[Span], pairs: usize) -> bool {
+    let most = most_of(windows, pairs);
     firsts.len().saturating_mul(others.len()) > most
         && count_pairs(0, most, firsts, others, windows) > most
 }
@@ -282,12 +283,13 @@ fn both_parts(
     first: &Set,
     second: &Set,
     windows: &[Span],
+    pairs: usize,
 ) -> Result<(Vec<Span>, Vec<Span>), OutOfMemory>
     ensures { IfOk result (λ both. AreCovered first.now both.0.items × AreCovered second.now both.1.items) }
 {
     let firsts = parts(alloc, first)?;
     let seconds = parts(alloc, second)?;
-    if !are_many(&firsts, &seconds, windows) {
+    if !are_many(&firsts, &seconds, windows, pairs) {
         return Ok((firsts, seconds));
     }
     let narrower = is_narrower(alloc, first, second)?;
@@ -439,40 +441,20 @@ fn negated(alloc: Global, ranges: &[Span]) -> Result<Vec<Span>, OutOfMemory>
     Ok(negated)
 }
 
-/// The sums of elements of two sets that are in the domain, by ranges.
-fn sums_around(alloc: Global, first: &Set, second: &Set, domain: &Set) -> Result<Set, OutOfMemory>
-    ensures { IfOk result (HasSumsWithin first.now second.now domain.now) }
-{
-    let windows = windows_of(alloc, domain)?;
-    let (firsts, others) = both_parts(alloc, first, second, &windows)?;
-    let ranges = range_sums(alloc, &firsts, &others, &windows)?;
-    let sums = words_of(alloc, &ranges)?;
-    Ok(sums)
-}
-
-/// The sums of elements of two sets, modulo 2^32, that are in the domain, and perhaps more: just all sums where one of
-/// the sets has one element.
-pub fn sums_within(
+/// The sums of elements of two sets that are in the domain, by ranges. So many pairs of sets share the most sums.
+pub fn sums_around(
     alloc: Global,
     first: &Set,
     second: &Set,
     domain: &Set,
+    pairs: usize,
 ) -> Result<Set, OutOfMemory>
     ensures { IfOk result (HasSumsWithin first.now second.now domain.now) }
 {
-    first.element_laws();
-    second.element_laws();
-    if let Some(x) = second.only() {
-        let sums = shifted(alloc, first, x)?;
-        return Ok(sums);
-    }
-    if let Some(x) = first.only() {
-        let sums = shifted(alloc, second, x)?;
-        return Ok(sums);
-    }
-    let around = sums_around(alloc, first, second, domain)?;
-    let classes = class_sums(alloc, first, second, 1)?;
-    let sums = around.and(alloc, &classes)?;
+    let windows = windows_of(alloc, domain)?;
+    let (firsts, others) = both_parts(alloc, first, second, &windows, pairs)?;
+    let ranges = range_sums(alloc, &firsts, &others, &windows)?;
+    let sums = words_of(alloc, &ranges)?;
     Ok(sums)
 }
 
@@ -483,6 +465,7 @@ fn difference_parts(
     first: &Set,
     second: &Set,
     windows: &[Span],
+    pairs: usize,
 ) -> Result<(Vec<Span>, Vec<Span>), OutOfMemory>
     requires { All (λ w. w < 2 ^ 32) second.now }
     ensures { IfOk result (λ both. AreCovered first.now both.0.items × AreNegatives second.now both.1.items) }
@@ -490,7 +473,7 @@ fn difference_parts(
     let wholes = parts(alloc, first)?;
     let seconds = parts(alloc, second)?;
     let others = negated(alloc, &seconds)?;
-    if !are_many(&wholes, &others, windows) {
+    if !are_many(&wholes, &others, windows, pairs) {
         return Ok((wholes, others));
     }
     let narrower = is_narrower(alloc, first, second)?;
@@ -503,42 +486,23 @@ fn difference_parts(
     Ok((wholes, others))
 }
 
-/// The words of the domain that give an element of the first set when one of the second is added, by ranges.
-fn differences_around(
+/// The words of the domain that give an element of the first set when one of the second is added, by ranges. So many
+/// pairs of sets share the most sums.
+pub fn differences_around(
     alloc: Global,
     first: &Set,
     second: &Set,
     domain: &Set,
+    pairs: usize,
 ) -> Result<Set, OutOfMemory>
     ensures { IfOk result (HasDifferencesWithin first.now second.now domain.now) }
 {
     second.element_laws();
     domain.element_laws();
     let windows = windows_of(alloc, domain)?;
-    let (firsts, others) = difference_parts(alloc, first, second, &windows)?;
+    let (firsts, others) = difference_parts(alloc, first, second, &windows, pairs)?;
     let ranges = range_sums(alloc, &firsts, &others, &windows)?;
     let differences = words_of(alloc, &ranges)?;
-    Ok(differences)
-}
-
-/// The words of the domain that give an element of the first set when one of the second is added, modulo 2^32, and
-/// perhaps more: just all such words where the second set has one element.
-pub fn differences_within(
-    alloc: Global,
-    first: &Set,
-    second: &Set,
-    domain: &Set,
-) -> Result<Set, OutOfMemory>
-    ensures { IfOk result (HasDifferencesWithin first.now second.now domain.now) }
-{
-    domain.element_laws();
-    if let Some(x) = second.only() {
-        let differences = lowered(alloc, first, x)?;
-        return Ok(differences);
-    }
-    let around = differences_around(alloc, first, second, domain)?;
-    let classes = class_differences(alloc, first, second)?;
-    let differences = around.and(alloc, &classes)?;
     Ok(differences)
 }
 

@@ -12,10 +12,10 @@ use std::alloc::Global;
 type Pattern = (u32, u32);
 
 /// So many low bits are looked at, at most: all those of a branch's distance.
-const MOST: u32 = 13;
+pub const MOST: u32 = 13;
 
 /// The mask of so many low bits.
-fn low_mask(count: u32) -> u32
+pub fn low_mask(count: u32) -> u32
     requires { count < 32 }
     ensures { result ≡ 2 ^ count - 1 }
 {

@@ -9,58 +9,60 @@ use Rattle.tpl_admit.specs.WellFormed.{IsWellFormed}
 use Rattle.tpl_ast.specs.declared.fault.Fault.{Fault}
 use Rattle.trace_text.specs.Faults.{fault_text}
 use Rattle.trace_text.specs.Report.{report_text}
-use Rattle.trace_text.specs.Verdicts.{malformed_text, verdict_text}
+use Rattle.trace_text.specs.Verdicts.{gave_up_text, malformed_text, verdict_text}
 use Rattle.tpl_ast.specs.Laws.{LongTextsAreRefused, TemplatesKeepLimits}
 use Rattle.tool_texts.specs.declared.command.Command.{Command}
 use Rattle.tool_texts.specs.declared.command.Command.TheVariants.{Gen, List as Listing, Replay}
+use Rattle.tool_texts.specs.declared.command.Effort.{Effort}
 use Rattle.tool_texts.specs.Commands.{limit_of, Answers}
 use Rattle.tool_texts.specs.Gen.{GenAnswers}
 use Rattle.tool_texts.specs.Laws.{LimitsLoseNothing, OneAnswer, RefusalsAreReported, TextsAreShort}
 use Rattle.tool_texts.specs.Listing.{ListAnswers}
 use Rattle.tool_texts.specs.Replay.{ReplayAnswers}
-use Rattle.tool_texts.specs.Tests.{IsTemplateLine}
+use Rattle.tool_texts.specs.Tests.{IsRefusal, IsTemplateLine}
 use Rattle.tool_texts.proofs.Files.{FilesHaveTheirLengths}
 use Rattle.tool_texts.proofs.Replays.{Rests, long_replay, one_replay}
-use Rattle.tool_texts.proofs.Tests.{long_line, no_test, one_line, one_test, test_short}
+use Rattle.tool_texts.proofs.Tests.{TextsTell, long_refusal, no_test, one_refusal, one_test, test_short}
 
 -- ---- one answer
 
-one_gen : (bytes : List ℕ) (s : ℕ) (o r : List ℕ) → GenAnswers bytes s o r → (s' : ℕ) (o' r' : List ℕ) → GenAnswers bytes s' o' r' → (s ≡ s') × (o ≡ o') × (r ≡ r')
-one_gen bytes s o r (inl a) s' o' r' (inl b) =
-    let same = one_test bytes a.1.certificate b.1.certificate a.1.test b.1.test in
-    (a.0 ∙ sym b.0, a.1.out_is ∙ same.0 ∙ sym b.1.out_is, a.1.report_is ∙ same.1 ∙ sym b.1.report_is)
-one_gen bytes s o r (inl a) s' o' r' (inr b) = absurd (no_test bytes r' a.1.certificate a.1.test b.2)
-one_gen bytes s o r (inr a) s' o' r' (inl b) = absurd (no_test bytes r b.1.certificate b.1.test a.2)
-one_gen bytes s o r (inr a) s' o' r' (inr b) = (a.0 ∙ sym b.0, a.1 ∙ sym b.1, one_line bytes r r' a.2 b.2)
+module _ (tell : TextsTell) (effort : Effort) (bytes : List ℕ) where
+  one_gen : (s : ℕ) (o r : List ℕ) → GenAnswers effort bytes s o r → (s' : ℕ) (o' r' : List ℕ) → GenAnswers effort bytes s' o' r' → (s ≡ s') × (o ≡ o') × (r ≡ r')
+  one_gen s o r (inl a) s' o' r' (inl b) =
+      let same = one_test tell effort bytes a.1.certificate b.1.certificate a.1.test b.1.test in
+      (a.0 ∙ sym b.0, a.1.out_is ∙ same.0 ∙ sym b.1.out_is, a.1.report_is ∙ same.1 ∙ sym b.1.report_is)
+  one_gen s o r (inl a) s' o' r' (inr b) = absurd (no_test tell effort bytes s' r' a.1.certificate a.1.test b.1)
+  one_gen s o r (inr a) s' o' r' (inl b) = absurd (no_test tell effort bytes s r b.1.certificate b.1.test a.1)
+  one_gen s o r (inr a) s' o' r' (inr b) = let same = one_refusal tell effort bytes s s' r r' a.1 b.1 in (same.0, a.0 ∙ sym b.0, same.1)
 
-one_listing : (bytes : List ℕ) (s : ℕ) (o r : List ℕ) → ListAnswers bytes s o r → (s' : ℕ) (o' r' : List ℕ) → ListAnswers bytes s' o' r' → (s ≡ s') × (o ≡ o') × (r ≡ r')
-one_listing bytes s o r (inl a) s' o' r' (inl b) =
-    let same = one_test bytes a.1.certificate b.1.certificate a.1.test b.1.test in
-    (a.0 ∙ sym b.0, a.1.out_is ∙ same.1 ∙ sym b.1.out_is, a.2 ∙ sym b.2)
-one_listing bytes s o r (inl a) s' o' r' (inr b) = absurd (no_test bytes r' a.1.certificate a.1.test b.2)
-one_listing bytes s o r (inr a) s' o' r' (inl b) = absurd (no_test bytes r b.1.certificate b.1.test a.2)
-one_listing bytes s o r (inr a) s' o' r' (inr b) = (a.0 ∙ sym b.0, a.1 ∙ sym b.1, one_line bytes r r' a.2 b.2)
+  one_listing : (s : ℕ) (o r : List ℕ) → ListAnswers effort bytes s o r → (s' : ℕ) (o' r' : List ℕ) → ListAnswers effort bytes s' o' r' → (s ≡ s') × (o ≡ o') × (r ≡ r')
+  one_listing s o r (inl a) s' o' r' (inl b) =
+      let same = one_test tell effort bytes a.1.certificate b.1.certificate a.1.test b.1.test in
+      (a.0 ∙ sym b.0, a.1.out_is ∙ same.1 ∙ sym b.1.out_is, a.2 ∙ sym b.2)
+  one_listing s o r (inl a) s' o' r' (inr b) = absurd (no_test tell effort bytes s' r' a.1.certificate a.1.test b.1)
+  one_listing s o r (inr a) s' o' r' (inl b) = absurd (no_test tell effort bytes s r b.1.certificate b.1.test a.1)
+  one_listing s o r (inr a) s' o' r' (inr b) = let same = one_refusal tell effort bytes s s' r r' a.1 b.1 in (same.0, a.0 ∙ sym b.0, same.1)
 
-pub one_answer : Rests → OneAnswer
-one_answer rests (Gen seed) bytes fits s o r a s' o' r' b = one_gen bytes s o r a s' o' r' b
-one_answer rests (Listing seed) bytes fits s o r a s' o' r' b = one_listing bytes s o r a s' o' r' b
-one_answer rests Replay bytes fits s o r a s' o' r' b = one_replay rests bytes fits s o r a s' o' r' b
+pub one_answer : Rests → TextsTell → OneAnswer
+one_answer rests tell (Gen effort) bytes fits s o r a s' o' r' b = one_gen tell effort bytes s o r a s' o' r' b
+one_answer rests tell (Listing effort) bytes fits s o r a s' o' r' b = one_listing tell effort bytes s o r a s' o' r' b
+one_answer rests tell Replay bytes fits s o r a s' o' r' b = one_replay rests bytes fits s o r a s' o' r' b
 
 -- ---- limits
 
-long_gen : TemplatesKeepLimits → LongTextsAreRefused → (a b : List ℕ) → 65537 ≤ length a → 65537 ≤ length b → (s : ℕ) (o r : List ℕ) → GenAnswers a s o r → GenAnswers b s o r
-long_gen keep refused a b many many' s o r (inl v) = absurd (omega (arith, many, test_short keep a v.1.certificate v.1.test))
-long_gen keep refused a b many many' s o r (inr w) = inr (w.0, w.1, long_line refused a b r many many' w.2)
+long_gen : TemplatesKeepLimits → LongTextsAreRefused → (effort : Effort) (a b : List ℕ) → 65537 ≤ length a → 65537 ≤ length b → (s : ℕ) (o r : List ℕ) → GenAnswers effort a s o r → GenAnswers effort b s o r
+long_gen keep refused effort a b many many' s o r (inl v) = absurd (omega (arith, many, test_short keep effort a v.1.certificate v.1.test))
+long_gen keep refused effort a b many many' s o r (inr w) = inr (w.0, long_refusal keep refused effort a b s r many many' w.1)
 
-long_listing : TemplatesKeepLimits → LongTextsAreRefused → (a b : List ℕ) → 65537 ≤ length a → 65537 ≤ length b → (s : ℕ) (o r : List ℕ) → ListAnswers a s o r → ListAnswers b s o r
-long_listing keep refused a b many many' s o r (inl v) = absurd (omega (arith, many, test_short keep a v.1.certificate v.1.test))
-long_listing keep refused a b many many' s o r (inr w) = inr (w.0, w.1, long_line refused a b r many many' w.2)
+long_listing : TemplatesKeepLimits → LongTextsAreRefused → (effort : Effort) (a b : List ℕ) → 65537 ≤ length a → 65537 ≤ length b → (s : ℕ) (o r : List ℕ) → ListAnswers effort a s o r → ListAnswers effort b s o r
+long_listing keep refused effort a b many many' s o r (inl v) = absurd (omega (arith, many, test_short keep effort a v.1.certificate v.1.test))
+long_listing keep refused effort a b many many' s o r (inr w) = inr (w.0, long_refusal keep refused effort a b s r many many' w.1)
 
 -- to bytes that reach its limit a command answers alike
 long_answer : Rests → TemplatesKeepLimits → LongTextsAreRefused → (command : Command) (a b : List ℕ) → limit_of command ≤ length a → limit_of command ≤ length b
     → (s : ℕ) (o r : List ℕ) → Answers command a s o r → Answers command b s o r
-long_answer rests keep refused (Gen seed) a b many many' s o r v = long_gen keep refused a b many many' s o r v
-long_answer rests keep refused (Listing seed) a b many many' s o r v = long_listing keep refused a b many many' s o r v
+long_answer rests keep refused (Gen effort) a b many many' s o r v = long_gen keep refused effort a b many many' s o r v
+long_answer rests keep refused (Listing effort) a b many many' s o r v = long_listing keep refused effort a b many many' s o r v
 long_answer rests keep refused Replay a b many many' s o r v = long_replay rests a b many many' s o r v
 
 pub limits_lose_nothing : Rests → TemplatesKeepLimits → LongTextsAreRefused → LimitsLoseNothing
@@ -76,13 +78,13 @@ limits_lose_nothing rests keep refused command bytes s o r =
 
 -- ---- what is told to `out`
 
-reported_gen : (bytes : List ℕ) (s : ℕ) (o r : List ℕ) → GenAnswers bytes s o r → s ≢ 0 → s ≢ 10 → o ≡ []
-reported_gen bytes s o r (inl a) some other = absurd (some a.0)
-reported_gen bytes s o r (inr a) some other = a.1
+reported_gen : (effort : Effort) (bytes : List ℕ) (s : ℕ) (o r : List ℕ) → GenAnswers effort bytes s o r → s ≢ 0 → s ≢ 10 → o ≡ []
+reported_gen effort bytes s o r (inl a) some other = absurd (some a.0)
+reported_gen effort bytes s o r (inr a) some other = a.0
 
-reported_listing : (bytes : List ℕ) (s : ℕ) (o r : List ℕ) → ListAnswers bytes s o r → s ≢ 0 → s ≢ 10 → o ≡ []
-reported_listing bytes s o r (inl a) some other = absurd (some a.0)
-reported_listing bytes s o r (inr a) some other = a.1
+reported_listing : (effort : Effort) (bytes : List ℕ) (s : ℕ) (o r : List ℕ) → ListAnswers effort bytes s o r → s ≢ 0 → s ≢ 10 → o ≡ []
+reported_listing effort bytes s o r (inl a) some other = absurd (some a.0)
+reported_listing effort bytes s o r (inr a) some other = a.0
 
 reported_replay : (bytes : List ℕ) (s : ℕ) (o r : List ℕ) → ReplayAnswers bytes s o r → s ≢ 0 → s ≢ 10 → o ≡ []
 reported_replay bytes s o r (inl a) some other = absurd (some a.0)
@@ -90,8 +92,8 @@ reported_replay bytes s o r (inr (inl a)) some other = a.1
 reported_replay bytes s o r (inr (inr a)) some other = absurd (other a.0)
 
 pub refusals_are_reported : RefusalsAreReported
-refusals_are_reported (Gen seed) bytes s o r a some other = reported_gen bytes s o r a some other
-refusals_are_reported (Listing seed) bytes s o r a some other = reported_listing bytes s o r a some other
+refusals_are_reported (Gen effort) bytes s o r a some other = reported_gen effort bytes s o r a some other
+refusals_are_reported (Listing effort) bytes s o r a some other = reported_listing effort bytes s o r a some other
 refusals_are_reported Replay bytes s o r a some other = reported_replay bytes s o r a some other
 
 -- ---- how long texts are
@@ -103,19 +105,24 @@ pub record Lengths : Type 0 where
   pub fault : (f : Fault) → length (fault_text f) ≤ 256
   pub malformed : (part : ℕ) → length (malformed_text part) ≤ 256
   pub verdict : (v : Verdict) → length (verdict_text v) ≤ 256
+  pub gave_up : (none_fits spent last_line : ℕ) → length (gave_up_text none_fits spent last_line) ≤ 256
 
 short_line : Lengths → (text line : List ℕ) → IsTemplateLine text line → length line < 16777216
 short_line lengths text line (inl why) = omega (arith, ap length why.2, lengths.fault why.0)
 short_line lengths text line (inr why) = omega (arith, ap length why.3)
 
-short_gen : Lengths → (bytes : List ℕ) (s : ℕ) (o r : List ℕ) → GenAnswers bytes s o r → (length o < 16777216) × (length r < 16777216)
-short_gen lengths bytes s o r (inl a) =
-    (omega (arith, ap length a.1.out_is, lengths.files a.1.certificate, a.1.test.well_formed.size), omega (arith, ap length a.1.report_is, lengths.report a.1.certificate a.1.test.well_formed))
-short_gen lengths bytes s o r (inr a) = (omega (arith, ap length a.1), short_line lengths bytes r a.2)
+short_refusal : Lengths → (effort : Effort) (text : List ℕ) (status : ℕ) (line : List ℕ) → IsRefusal effort text status line → length line < 16777216
+short_refusal lengths effort text status line (inl why) = short_line lengths text line why.1
+short_refusal lengths effort text status line (inr up) = omega (arith, ap length up.1.line_is, lengths.gave_up up.1.none_fits up.1.spent up.1.last_line)
 
-short_listing : Lengths → (bytes : List ℕ) (s : ℕ) (o r : List ℕ) → ListAnswers bytes s o r → (length o < 16777216) × (length r < 16777216)
-short_listing lengths bytes s o r (inl a) = (omega (arith, ap length a.1.out_is, lengths.report a.1.certificate a.1.test.well_formed), omega (arith, ap length a.2))
-short_listing lengths bytes s o r (inr a) = (omega (arith, ap length a.1), short_line lengths bytes r a.2)
+short_gen : Lengths → (effort : Effort) (bytes : List ℕ) (s : ℕ) (o r : List ℕ) → GenAnswers effort bytes s o r → (length o < 16777216) × (length r < 16777216)
+short_gen lengths effort bytes s o r (inl a) =
+    (omega (arith, ap length a.1.out_is, lengths.files a.1.certificate, a.1.test.found.well_formed.size), omega (arith, ap length a.1.report_is, lengths.report a.1.certificate a.1.test.found.well_formed))
+short_gen lengths effort bytes s o r (inr a) = (omega (arith, ap length a.0), short_refusal lengths effort bytes s r a.1)
+
+short_listing : Lengths → (effort : Effort) (bytes : List ℕ) (s : ℕ) (o r : List ℕ) → ListAnswers effort bytes s o r → (length o < 16777216) × (length r < 16777216)
+short_listing lengths effort bytes s o r (inl a) = (omega (arith, ap length a.1.out_is, lengths.report a.1.certificate a.1.test.found.well_formed), omega (arith, ap length a.2))
+short_listing lengths effort bytes s o r (inr a) = (omega (arith, ap length a.0), short_refusal lengths effort bytes s r a.1)
 
 short_replay : Lengths → (bytes : List ℕ) (s : ℕ) (o r : List ℕ) → ReplayAnswers bytes s o r → (length o < 16777216) × (length r < 16777216)
 short_replay lengths bytes s o r (inl a) = (omega (arith, ap length a.2, lengths.verdict Yes), omega (arith, ap length a.3))
@@ -123,6 +130,6 @@ short_replay lengths bytes s o r (inr (inl a)) = (omega (arith, ap length a.1), 
 short_replay lengths bytes s o r (inr (inr a)) = (omega (arith, ap length a.1.line_is, lengths.verdict (No a.1.kind a.1.hart a.1.step)), omega (arith, ap length a.2))
 
 pub texts_are_short : Lengths → TextsAreShort
-texts_are_short lengths (Gen seed) bytes s o r a = short_gen lengths bytes s o r a
-texts_are_short lengths (Listing seed) bytes s o r a = short_listing lengths bytes s o r a
+texts_are_short lengths (Gen effort) bytes s o r a = short_gen lengths effort bytes s o r a
+texts_are_short lengths (Listing effort) bytes s o r a = short_listing lengths effort bytes s o r a
 texts_are_short lengths Replay bytes s o r a = short_replay lengths bytes s o r a

@@ -10,6 +10,8 @@ pub enum Status {
     Done,
     /// The bytes are no template that this build generates from.
     NoTemplate,
+    /// All leaf turns were made, and a further one was needed.
+    GaveUp,
     /// The bytes are no file.
     Malformed,
     /// The bytes are the file of a certificate that is not valid.
@@ -24,6 +26,7 @@ impl Status {
         match self {
             Status::Done => 0,
             Status::NoTemplate => 3,
+            Status::GaveUp => 5,
             Status::Malformed => 9,
             Status::Invalid => 10,
         }

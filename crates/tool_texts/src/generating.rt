@@ -8,18 +8,23 @@ ghost use Rattle.tool_texts.specs.Gen.{GenAnswers};
 
 use crate::OutOfMemory;
 use crate::answer::{Answer, Status};
+use crate::command::Effort;
 use crate::test::{NoTest, report_of, test_of};
 use elf_image::write;
 use std::alloc::Global;
 use tpl_admit::Cert;
 
 /// What `gen` answers to the bytes that it read.
-pub(crate) fn gen_answer(alloc: Global, bytes: &[u8]) -> Result<Answer, OutOfMemory>
-    ensures { IfOk result (λ a. GenAnswers bytes.now (number_of a.status) a.out.items a.report.items) }
+pub(crate) fn gen_answer(
+    alloc: Global,
+    effort: &Effort,
+    bytes: &[u8],
+) -> Result<Answer, OutOfMemory>
+    ensures { IfOk result (λ a. GenAnswers effort.now bytes.now (number_of a.status) a.out.items a.report.items) }
 {
-    match test_of(alloc, bytes) {
+    match test_of(alloc, effort, bytes) {
         Ok(test) => told(alloc, &test),
-        Err(NoTest::NoTemplate(line)) => Ok(Answer::to_report(alloc, Status::NoTemplate, line)),
+        Err(NoTest::Refused(status, line)) => Ok(Answer::to_report(alloc, status, line)),
         Err(NoTest::OutOfMemory) => Err(OutOfMemory),
     }
 }

@@ -2,6 +2,7 @@
 ghost use Rattle.tool_texts.specs.Laws.{OneAnswer, LimitsLoseNothing, RefusalsAreReported, TextsAreShort};
 
 use elf_image::{file_lengths, one_first_wrong, one_spelling};
+use gen_turn::texts_tell_what_is_made;
 use replay_check::one_verdict;
 use tpl_admit::said_law;
 use tpl_ast::{language_laws, layout_law, template_law};
@@ -19,6 +20,7 @@ pub fn answer_laws()
     one_verdict();
     one_first_wrong();
     said_law();
+    texts_tell_what_is_made();
     layout_law();
     file_lengths();
     template_law();

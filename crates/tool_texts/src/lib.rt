@@ -11,6 +11,6 @@ mod replaying;
 mod test;
 
 pub use answer::{Answer, Status};
-pub use command::{Command, answer_to};
+pub use command::{Command, Effort, answer_to};
 pub use error::OutOfMemory;
 pub use laws::answer_laws;

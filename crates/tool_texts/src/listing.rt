@@ -5,18 +5,21 @@ ghost use Rattle.tool_texts.specs.Listing.{ListAnswers};
 
 use crate::OutOfMemory;
 use crate::answer::{Answer, Status};
+use crate::command::Effort;
 use crate::test::{NoTest, report_of, test_of};
 use std::alloc::Global;
 
 /// What `list` answers to the bytes that it read.
-pub(crate) fn list_answer(alloc: Global, bytes: &[u8]) -> Result<Answer, OutOfMemory>
-    ensures { IfOk result (λ a. ListAnswers bytes.now (number_of a.status) a.out.items a.report.items) }
+pub(crate) fn list_answer(
+    alloc: Global,
+    effort: &Effort,
+    bytes: &[u8],
+) -> Result<Answer, OutOfMemory>
+    ensures { IfOk result (λ a. ListAnswers effort.now bytes.now (number_of a.status) a.out.items a.report.items) }
 {
-    let test = match test_of(alloc, bytes) {
+    let test = match test_of(alloc, effort, bytes) {
         Ok(test) => test,
-        Err(NoTest::NoTemplate(line)) => {
-            return Ok(Answer::to_report(alloc, Status::NoTemplate, line));
-        }
+        Err(NoTest::Refused(status, line)) => return Ok(Answer::to_report(alloc, status, line)),
         Err(NoTest::OutOfMemory) => return Err(OutOfMemory),
     };
     let text = report_of(alloc, &test)?;

@@ -1,69 +1,97 @@
 // The test of a template's text.
-ghost use Rattle.std.specs.Prelude.{◌≡◌, ℕ, List, IfOk, IfErr, Err};
+ghost use Rattle.std.specs.Prelude.{◌≡◌, ℕ, List, true, false, IfOk, IfErr, Err};
 ghost use Rattle.tpl_admit.specs.WellFormed.{IsWellFormed};
 ghost use Rattle.trace_text.specs.Report.{report_text};
 ghost use Rattle.tpl_ast.specs.declared.template.Template.{Template as ATemplate};
 ghost use Rattle.tpl_ast.specs.Parsing.{Parses, parses};
-ghost use Rattle.tool_texts.specs.Tests.{IsBuilt, IsTest};
+ghost use Rattle.gen_turn.specs.Built.{is_template_built};
+ghost use Rattle.gen_turn.specs.Generating.{IsGivenUp};
+ghost use Rattle.tool_texts.specs.declared.command.Effort.{Effort as AnEffort};
+ghost use Rattle.tool_texts.specs.Tests.{IsTest};
 ghost use Rattle.tool_texts.specs.Reasons.{TellsNone};
 
 use crate::OutOfMemory;
-use gen_engine::generate;
+use crate::answer::Status;
+use crate::command::Effort;
+use gen_turn::{Generated, generate, is_template_built};
 use std::alloc::Global;
 use tpl_admit::Cert;
-use tpl_ast::Fault;
-use tpl_form::form_of;
+use tpl_ast::{Fault, Template};
 use tpl_parse::{ParseError, parse};
-use trace_text::{fault_text, report};
+use trace_text::{fault_text, gave_up, report};
 
 /// What is said of a template that this build doesn't generate from.
 const NOT_BUILT: &[u8] = b"template line 0: not built\n";
 
-/// Why there is no test of a text.
+/// Why no test of a text is given.
 #[derive(Drop)]
 pub(crate) enum NoTest {
-    /// The text is no template that this build generates from; with the line that says why.
-    NoTemplate(Vec<u8>),
+    /// The text is no template that this build generates from, or the search gave up: the status, and the line that says why.
+    Refused(Status, Vec<u8>),
     OutOfMemory,
 }
 
 /// The test of the template that the bytes are.
-pub(crate) fn test_of(alloc: Global, bytes: &[u8]) -> Result<Cert, NoTest>
-    ensures test { IfOk result (IsTest bytes.now) }
-    ensures none { IfErr result (TellsNone bytes.now) }
+pub(crate) fn test_of(alloc: Global, effort: &Effort, bytes: &[u8]) -> Result<Cert, NoTest>
+    ensures test { IfOk result (IsTest effort.now bytes.now) }
+    ensures none { IfErr result (TellsNone effort.now bytes.now) }
 {
-    let template = match parse(alloc, bytes) {
-        Ok(template) => template,
-        Err(ParseError::Fault(fault)) => return Err(faulty(alloc, &fault)),
-        Err(ParseError::OutOfMemory) => return Err(NoTest::OutOfMemory),
-    };
-    let form = match form_of(alloc, &template) {
-        Ok(Some(form)) => form,
-        Ok(None) => return Err(not_built(alloc)),
-        Err(_) => return Err(NoTest::OutOfMemory),
-    };
-    match generate(alloc, template, &form) {
-        Ok(certificate) => Ok(certificate),
+    match parse(alloc, bytes) {
+        Ok(template) => searched(alloc, effort, template),
+        Err(ParseError::Fault(fault)) => Err(faulty(alloc, &fault)),
+        Err(ParseError::OutOfMemory) => Err(NoTest::OutOfMemory),
+    }
+}
+
+/// The test of a template.
+fn searched(alloc: Global, effort: &Effort, template: Template) -> Result<Cert, NoTest>
+    requires { Parses template.text template }
+    ensures test { IfOk result (IsTest effort.now template.text) }
+    ensures none { IfErr result (TellsNone effort.now template.text) }
+{
+    if !is_template_built(&template) {
+        return Err(not_built(alloc));
+    }
+    match generate(alloc, template, effort.seed, effort.nodes, effort.turns) {
+        Ok(Generated::Done(certificate)) => Ok(certificate),
+        Ok(
+            Generated::GaveUp {
+                none_fits,
+                spent,
+                last_line,
+            },
+        ) => Err(given_up(alloc, none_fits, spent, last_line)),
         Err(_) => Err(NoTest::OutOfMemory),
     }
 }
 
 /// That bytes are no template, with the line that tells what is wrong with them.
 fn faulty(alloc: Global, fault: &Fault) -> NoTest
-    ensures { (bytes : List ℕ) → parses bytes ≡ Err fault.now → TellsNone bytes result }
+    ensures { (by : AnEffort) (bytes : List ℕ) → parses bytes ≡ Err fault.now → TellsNone by bytes result }
 {
     match fault_text(alloc, fault) {
-        Ok(line) => NoTest::NoTemplate(line.into_bytes()),
+        Ok(line) => NoTest::Refused(Status::NoTemplate, line.into_bytes()),
         Err(_) => NoTest::OutOfMemory,
     }
 }
 
 /// That this build doesn't generate from the template of the bytes, with the line that tells so.
 fn not_built(alloc: Global) -> NoTest
-    ensures { (bytes : List ℕ) (t : ATemplate) → Parses bytes t → (IsBuilt t → ⊥) → TellsNone bytes result }
+    ensures { (by : AnEffort) (bytes : List ℕ) (t : ATemplate) → Parses bytes t → is_template_built t ≡ false → TellsNone by bytes result }
 {
     match Vec::from_slice(alloc, NOT_BUILT) {
-        Ok(line) => NoTest::NoTemplate(line),
+        Ok(line) => NoTest::Refused(Status::NoTemplate, line),
+        Err(_) => NoTest::OutOfMemory,
+    }
+}
+
+/// That the search for a test of the template of the bytes gave up, with the line that tells its numbers.
+fn given_up(alloc: Global, none_fits: u64, spent: u64, last_line: u32) -> NoTest
+    ensures { (by : AnEffort) (bytes : List ℕ) (t : ATemplate) → Parses bytes t → is_template_built t ≡ true
+        → IsGivenUp t by.seed by.nodes by.turns none_fits spent last_line → TellsNone by bytes result }
+{
+    match gave_up(alloc, none_fits, spent, last_line) {
+        Ok(line) => NoTest::Refused(Status::GaveUp, line.into_bytes()),
         Err(_) => NoTest::OutOfMemory,
     }
 }

@@ -77,4 +77,4 @@ IsAllRead command old new status = ends_reading status ≡ true → (bytes : Lis
 
 -- the numbers that the program may end with, whatever it is asked for
 abbrev pub is_status : ℕ → Bool
-is_status n = n == 0 || (n == 2 || (n == 3 || nat_le 5 n && nat_le n 12))
+is_status n = n == 0 || (n == 2 || (n == 3 || nat_le 5 n && nat_le n 10))

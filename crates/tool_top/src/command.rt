@@ -22,9 +22,11 @@ const USAGE: &[u8] =
 ///
 /// - 0: on `gen` the file of a test of the template that was read was written to `out`, and its report to `report`; on
 ///   `list` the report to `out`; on `replay` the file of a valid certificate was read, and `yes` was written to `out`;
-/// - 2: the words are neither `gen --seed N` nor `list --seed N` nor `replay`; the usage line was written to `report`;
+/// - 2: the words are none of `gen --seed N [--nodes N] [--turns N]`, `list` with the same and `replay`; the usage line was
+///   written to `report`;
 /// - 3: what was read is no template, or none that this build generates from; a line that says why was written to
 ///   `report`;
+/// - 5: the search for a test of the template that was read gave up; a line with its numbers was written to `report`;
 /// - 6: a read failed; a line that says so was written to `report`;
 /// - 7: a write of the texts of a command that was done failed;
 /// - 8: memory ran out;

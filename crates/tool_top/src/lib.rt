@@ -6,5 +6,5 @@ mod words;
 mod writing;
 
 pub use command::run;
-pub use tool_texts::Command;
+pub use tool_texts::{Command, Effort};
 pub use words::{ArgList, words_of};

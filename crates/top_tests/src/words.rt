@@ -1,7 +1,7 @@
 // The words of the command line, as the system hands them over.
 use std::io::{Error, ErrorKind};
 use std::test::Fail;
-use tool_top::{Command, words_of};
+use tool_top::{Command, Effort, words_of};
 
 #[test]
 fn the_words_stand_behind_the_program_s_name(rt: HostRuntime) -> Result<(), Fail> {
@@ -11,7 +11,14 @@ fn the_words_stand_behind_the_program_s_name(rt: HostRuntime) -> Result<(), Fail
         arguments.push(String::from_str(alloc, argument)?)?;
     }
     let words = words_of(alloc, Ok(arguments.into_iter()))?;
-    assert_eq!(rt; words.command(), Some(Command::Gen { seed: 7 }));
+    assert_eq!(rt;
+        words.command(),
+        Some(Command::Gen(Effort {
+            seed: 7,
+            nodes: 67_108_864,
+            turns: 65_536
+        }))
+    );
     Ok(())
 }
 

@@ -11,7 +11,7 @@ use Rattle.tpl_ast.specs.declared.fault.Kind.{Kind}
 use Rattle.tpl_ast.specs.declared.fault.Kind.TheVariants.{BadByte, Unexpected, NumberTooLarge, UnknownName, DoubleName, NameTwiceInLeaf, EmptyDomain, TooDeep, TooLong, TooMany, BadRam, BadStart}
 use Rattle.trace_text.specs.Numbers.{hex8}
 use Rattle.trace_text.specs.Faults.{fault_head, fault_line, fault_text, kind_text}
-use Rattle.trace_text.specs.Verdicts.{no_text, verdict_text, malformed_text}
+use Rattle.trace_text.specs.Verdicts.{no_text, verdict_text, malformed_text, gave_up_text}
 
 -- ---- numbers
 
@@ -99,6 +99,10 @@ verdict_short (No kind hart step) = no_short kind hart step
 pub malformed_short : (part : ℕ) → length (malformed_text part) ≤ 256
 unfolding malformed_text
 malformed_short part = simp length-append (omega (arith, decimal_short part))
+
+pub gave_up_short : (none_fits spent last_line : ℕ) → length (gave_up_text none_fits spent last_line) ≤ 256
+unfolding gave_up_text
+gave_up_short none_fits spent last_line = simp length-append (omega (arith, decimal_short none_fits, decimal_short spent, decimal_short last_line))
 
 kind_short : (k : Kind) → length (kind_text k) ≤ 18
 kind_short BadByte = omega arith

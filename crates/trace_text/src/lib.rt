@@ -1,5 +1,5 @@
-//! The texts of the tool: the report of a certificate, line by line, and what is said of a file; and how long
-//! they can be.
+//! The texts of the tool: the report of a certificate, line by line, and what is said of a text, a file or a search;
+//! and how long they can be.
 #![tactic(auto)]
 
 mod error;
@@ -16,4 +16,4 @@ pub use error::OutOfMemory;
 pub use faults::fault_text;
 pub use laws::length_laws;
 pub use printing::report;
-pub use verdicts::{malformed, verdict};
+pub use verdicts::{gave_up, malformed, verdict};

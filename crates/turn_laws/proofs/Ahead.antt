@@ -1,4 +1,4 @@
--- The next step of a hart while the places of a candidate are given to it.
+-- The next step of a hart while the places that it starts are given to it.
 use Rattle.std.proofs.Common.{◌≡◌, ℕ, zero, suc, ◌+◌, ◌/◌, ◌%◌, ◌^◌, ◌<◌, ◌≤◌, Bool, true, false, ◌||◌, eqb, ltb, if◌then◌else◌, List, [], ◌∷◌, ◌++◌, map, length, ◌⊎◌, Option, Some, None, refl, sym, ap, ◌∙◌, subst, inl, inr, arith}
 use Rattle.std.specs.Prelude.{IsTrue, nat_eq}
 use Rattle.std.specs.List.{list_any}
@@ -30,12 +30,12 @@ use Rattle.rv_hart.specs.Machine.{script}
 use Rattle.rv_hart.proofs.Askable.{asks_places, needable}
 use Rattle.rv_hart.proofs.Forms.{script_between}
 use Rattle.foot_map.specs.declared.touch.Touch.{Touch}
-use Rattle.tpl_ast.specs.declared.template.Atom.{Atom}
 use Rattle.part_machine.specs.Whole.{Whole, fixed_in, hart_of, next_of}
 use Rattle.part_state.specs.Meaning.{CanStart, IsLegalValue, IsNamed, IsStartable, IsTest, place_given}
 use Rattle.leaf_link.specs.Turns.{Turn, holds_address, may_be_for, may_be_old}
-use Rattle.leaf_link.specs.Candidates.{IsCandidate, accesses_in}
+use Rattle.leaf_link.specs.Candidates.{accesses_in}
 use Rattle.turn_laws.specs.Given.{AreListed, CanGive, IsAddressed, Setting, all_given, given_to, known_at, turn_at}
+use Rattle.turn_laws.specs.Played.{IsPlayed}
 use Rattle.turn_laws.specs.Ahead.{AreAmong, AreVectors, IsNextPlace, IsUnderway, count_unknown, unknown_in}
 use Rattle.turn_laws.proofs.Places.{beside, fixed_parts, known, tests}
 use Rattle.turn_laws.proofs.Steps.{register_known, tells, with_accesses}
@@ -161,7 +161,7 @@ fewer_unknown None (Some v) more = omega arith
 fewer_unknown None None None = omega arith
 fewer_unknown None None (Some v) = omega arith
 
--- what a candidate starts, its log asks for
+-- what a step starts, its log asks for
 not_started : (o found : Option ℕ) → (o ≡ None → (v : ℕ) → found ≡ Some v → ⊥) → where_unknown o found ≡ None
 not_started (Some u) found none = refl
 not_started None None none = refl
@@ -190,8 +190,8 @@ done_nowhere xs c e = absurd (cc e)
 -- ---- on the way
 
 module _
-    (s : Setting) (feet : List Touch) (k : ℕ) (w : Whole) (leaf : List Atom) (new : Known) (es : List (Place × ℕ)) (test : IsTest w) (l : k < length w.harts) (aligned : (fixed_in (hart_of k w) w.memory).pc % 4 ≡ 0) (vectors : AreVectors s.vectors)
-    (can : CanGive k es w) (among : AreAmong es new) (c : IsCandidate (turn_at s feet k w) leaf new) where
+    (s : Setting) (feet : List Touch) (k : ℕ) (w : Whole) (new : Known) (es : List (Place × ℕ)) (log : List Entry) (change : Change) (test : IsTest w) (l : k < length w.harts) (aligned : (fixed_in (hart_of k w) w.memory).pc % 4 ≡ 0) (vectors : AreVectors s.vectors)
+    (can : CanGive k es w) (among : AreAmong es new) (p : IsPlayed (turn_at s feet k w) new log change) where
   abbrev after : Whole
   after = all_given k es w
 
@@ -225,40 +225,40 @@ module _
   next_is : next_of k after ≡ play access_of (by_known now) (script fixed)
   next_is = ap (λ (f : Fixed). play access_of (by_known now) (script f)) (fixed_parts k es w test l can)
 
-  fork : IsStopped (by_known now) (script fixed) c.log ⊎ AreTold (by_known now) c.log
-  fork = stopped_or_told (script fixed) (by_known all) (by_known now) c.log c.change told_later c.is.plays
+  fork : IsStopped (by_known now) (script fixed) log ⊎ AreTold (by_known now) log
+  fork = stopped_or_told (script fixed) (by_known all) (by_known now) log change told_later p.plays
 
-  done : AreTold (by_known now) c.log → next_of k after ≡ Does (accesses_in c.log) c.change
-  done told = next_is ∙ with_accesses (script fixed) (by_known now) c.log c.change (play_same (script fixed) (by_known all) (by_known now) c.log c.change c.is.plays told)
+  done : AreTold (by_known now) log → next_of k after ≡ Does (accesses_in log) change
+  done told = next_is ∙ with_accesses (script fixed) (by_known now) log change (play_same (script fixed) (by_known all) (by_known now) log change p.plays told)
 
   -- where the step lacks a place, its log asks for it
-  lacked : (place : Place) → next_of k after ≡ Lacks place → IsLackedIn (by_known now) c.log place
+  lacked : (place : Place) → next_of k after ≡ Lacks place → IsLackedIn (by_known now) log place
   lacked place h = elim fork [
     | inl stopped ↦
-        subst (λ (q : Place). IsLackedIn (by_known now) c.log q) (same_lacked stopped.place place (sym (next_is ∙ stopped.stops) ∙ h)) stopped.lacked
-    | inr told ↦ absurd (done_lacks (accesses_in c.log) c.change place (sym (done told) ∙ h))
+        subst (λ (q : Place). IsLackedIn (by_known now) log q) (same_lacked stopped.place place (sym (next_is ∙ stopped.stops) ∙ h)) stopped.lacked
+    | inr told ↦ absurd (done_lacks (accesses_in log) change place (sym (done told) ∙ h))
   ]
 
   somewhere : next_of k after ≡ Nowhere → ⊥
   somewhere h = elim fork [
     | inl stopped ↦ lacks_nowhere stopped.place (sym (next_is ∙ stopped.stops) ∙ h)
-    | inr told ↦ done_nowhere (accesses_in c.log) c.change (sym (done told) ∙ h)
+    | inr told ↦ done_nowhere (accesses_in log) change (sym (done told) ∙ h)
   ]
 
-  all_told : (xs : List Access) (change : Change) → next_of k after ≡ Does xs change → AreTold (by_known now) c.log
+  all_told : (xs : List Access) (change : Change) → next_of k after ≡ Does xs change → AreTold (by_known now) log
   all_told xs change h = elim fork [
     | inl stopped ↦ absurd (done_lacks xs change stopped.place (sym h ∙ next_is ∙ stopped.stops))
     | inr told ↦ told
   ]
 
-  askable : (e : Entry) → HasItem c.log e → IsAskable fixed.ram e.question
-  askable e i = asked_in (IsAskable fixed.ram) (script fixed) (by_known all) c.log c.change (asks_places fixed aligned) c.is.plays e i
+  askable : (e : Entry) → HasItem log e → IsAskable fixed.ram e.question
+  askable e i = asked_in (IsAskable fixed.ram) (script fixed) (by_known all) log change (asks_places fixed aligned) p.plays e i
 
-  named : (e : Entry) → HasItem c.log e → IsNamed (entry_place e)
+  named : (e : Entry) → HasItem log e → IsNamed (entry_place e)
   named e i = named_of fixed.ram e.question (askable e i)
 
   -- it was not known, and is not given yet
-  unknown : (e : Entry) → HasItem c.log e → now (entry_place e) ≡ None → (known_at k w (entry_place e) ≡ None) × (given_to es (entry_place e) ≡ None)
+  unknown : (e : Entry) → HasItem log e → now (entry_place e) ≡ None → (known_at k w (entry_place e) ≡ None) × (given_to es (entry_place e) ≡ None)
   unknown e i none = neither (known_at k w (entry_place e)) (given_to es (entry_place e)) (sym (same (entry_place e) (named e i)) ∙ none)
 
   ram_is : (n : ℕ) → fixed.ram n ≡ in_ram after.ram n
@@ -277,14 +277,14 @@ module _
   startable (OfMemory label addr size) h none = let e : word_address addr % 4 ≡ 0 = omega arith in (e, in_ram_after (word_address addr) (needable fixed.ram (OfMemory label addr size) h).1)
   startable (ToMemory addr size value) h none = let e : word_address addr % 4 ≡ 0 = omega arith in (e, in_ram_after (word_address addr) (needable fixed.ram (ToMemory addr size value) h).1)
 
-  at_entry : (e : Entry) → HasItem c.log e → now (entry_place e) ≡ None → IsNextPlace k w new es (entry_place e)
+  at_entry : (e : Entry) → HasItem log e → now (entry_place e) ≡ None → IsNextPlace k w new es (entry_place e)
   at_entry e i none =
       let gone = unknown e i none in
-      let f = found_one c.log e i in
-      let is : new (entry_place e) ≡ Some f.0.value = c.is.exact (entry_place e) ∙ ap (λ (o : Option ℕ). where_unknown o (found c.log (entry_place e))) gone.0 ∙ f.3 in
-      let may = c.is.meets.may f.0 f.1 (ap (λ (q : Place). known_at k w q) f.2 ∙ gone.0) in
-      let parts = and_parts (ltb f.0.value (2 ^ 32)) (may_be_for (turn_at s feet k w) c.instr (entry_label f.0) (entry_place f.0) f.0.value) may in
-      let csrs : AsksCsr f.0.question = asked_in AsksCsr (script fixed) (by_known all) c.log c.change (asks_csrs fixed) c.is.plays f.0 f.1 in
+      let f = found_one log e i in
+      let is : new (entry_place e) ≡ Some f.0.value = p.exact (entry_place e) ∙ ap (λ (o : Option ℕ). where_unknown o (found log (entry_place e))) gone.0 ∙ f.3 in
+      let may = p.may f.0 f.1 (ap (λ (q : Place). known_at k w q) f.2 ∙ gone.0) in
+      let parts = and_parts (ltb f.0.value (2 ^ 32)) (may_be_for (turn_at s feet k w) may.0 (entry_label f.0) (entry_place f.0) f.0.value) may.1 in
+      let csrs : AsksCsr f.0.question = asked_in AsksCsr (script fixed) (by_known all) log change (asks_csrs fixed) p.plays f.0 f.1 in
       record {
         value = f.0.value;
         new_is = is;
@@ -292,16 +292,16 @@ module _
         can = record {
           startable = startable e.question (askable e i) none;
           unknown = none;
-          legal = subst (λ (q : Place). IsLegalValue q f.0.value) f.2 (legal_of (turn_at s feet k w) c.instr f.0.question f.0.value csrs vectors parts.1);
+          legal = subst (λ (q : Place). IsLegalValue q f.0.value) f.2 (legal_of (turn_at s feet k w) may.0 f.0.question f.0.value csrs vectors parts.1);
         };
         address = addressed_of fixed.ram e.question (askable e i);
         fits = ltb-true f.0.value (2 ^ 32) parts.0;
       }
 
-  next_place : (place : Place) → IsLackedIn (by_known now) c.log place → IsNextPlace k w new es place
+  next_place : (place : Place) → IsLackedIn (by_known now) log place → IsNextPlace k w new es place
   next_place place lack = subst (λ (q : Place). IsNextPlace k w new es q) lack.at (at_entry lack.asked lack.among lack.untold)
 
-  fewer : (place : Place) (v : ℕ) → IsLackedIn (by_known now) c.log place → unknown_in (enlarged (known_at k w) (given_to (es ++ (place, v) ∷ []))) c.log < unknown_in some c.log
+  fewer : (place : Place) (v : ℕ) → IsLackedIn (by_known now) log place → unknown_in (enlarged (known_at k w) (given_to (es ++ (place, v) ∷ []))) log < unknown_in some log
   fewer place v lack =
       let gone = unknown lack.asked lack.among lack.untold in
       let more : Known = enlarged (known_at k w) (given_to (es ++ (place, v) ∷ [])) in
@@ -313,29 +313,29 @@ module _
       given_more es place v (entry_place lack.asked) ∙ ap (λ (o : Option ℕ). or_else o (last_given place v (entry_place lack.asked))) gone.1 ∙ here in
       let before : some (entry_place lack.asked) ≡ None = sym (same (entry_place lack.asked) (named lack.asked lack.among)) ∙ lack.untold in
       let behind : more (entry_place lack.asked) ≡ Some v = ap (λ (o : Option ℕ). or_else o (given_to (es ++ (place, v) ∷ []) (entry_place lack.asked))) gone.0 ∙ given in
-      less_unknown some more c.log lack.asked v lack.among less before behind
+      less_unknown some more log lack.asked v lack.among less before behind
 
-  more_among : (place : Place) (v : ℕ) → IsLackedIn (by_known now) c.log place → new place ≡ Some v → AreAmong (es ++ (place, v) ∷ []) new × CanGive k (es ++ (place, v) ∷ []) w
+  more_among : (place : Place) (v : ℕ) → IsLackedIn (by_known now) log place → new place ≡ Some v → AreAmong (es ++ (place, v) ∷ []) new × CanGive k (es ++ (place, v) ∷ []) w
   more_among place v lack is =
       let next = next_place place lack in
       let value : next.value ≡ v = same_Some next.value v (sym next.new_is ∙ is) in
       (among_more new es place v among is, can_give_more k es place v w can (subst (λ (u : ℕ). CanStart k place u after) value next.can) next.address (subst (λ (u : ℕ). u < 2 ^ 32) value next.fits))
 
   -- all that is asked for is known or given
-  none_left : AreTold (by_known now) c.log → (place : Place) → known_at k w place ≡ None → given_to es place ≡ None → (v : ℕ) → found c.log place ≡ Some v → ⊥
+  none_left : AreTold (by_known now) log → (place : Place) → known_at k w place ≡ None → given_to es place ≡ None → (v : ℕ) → found log place ≡ Some v → ⊥
   none_left told place none is v says =
-      let e = found_at c.log place v says in
+      let e = found_at log place v says in
       let lacks : some place ≡ None = ap (λ (o : Option ℕ). or_else o (given_to es place)) none ∙ is in
       some_none e.0.value (sym (told e.0 e.1) ∙ same (entry_place e.0) (named e.0 e.1) ∙ ap some e.2 ∙ lacks)
 
-  all_listed : AreTold (by_known now) c.log → AreListed es new
+  all_listed : AreTold (by_known now) log → AreListed es new
   all_listed told place = either (given_to es place) refl
     where
       either : (o : Option ℕ) → given_to es place ≡ o → o ≡ new place
       either (Some v) is = sym (among place v is)
-      either None is = sym (c.is.exact place ∙ not_started (known_at k w place) (found c.log place) (λ none v says. none_left told place none is v says))
+      either None is = sym (p.exact place ∙ not_started (known_at k w place) (found log place) (λ none v says. none_left told place none is v says))
 
-  pub underway : IsUnderway k w s feet leaf new es c
+  pub underway : IsUnderway k w new es log
   underway = record {
     lacks = λ place h. next_place place (lacked place h);
     fewer = λ place v h is. fewer place v (lacked place h);
@@ -344,8 +344,7 @@ module _
     listed = λ xs change h. all_listed (all_told xs change h);
   }
 
-pub short : (s : Setting) (feet : List Touch) (k : ℕ) (w : Whole) (leaf : List Atom) (new known : Known) → (c : IsCandidate (turn_at s feet k w) leaf new) → unknown_in known c.log ≤ 10
-short s feet k w leaf new known c =
-    let fixed : Fixed = fixed_in (hart_of k w) w.memory in
-    let few : 0 + unknown_in known c.log ≤ 10 = few_asked 0 10 (script fixed) (by_known (enlarged (known_at k w) new)) c.log c.change known (omega arith) (script_between fixed) c.is.plays in
+pub short : (t : Turn) (new known : Known) (log : List Entry) (change : Change) → IsPlayed t new log change → unknown_in known log ≤ 10
+short t new known log change p =
+    let few : 0 + unknown_in known log ≤ 10 = few_asked 0 10 (script t.fixed) (by_known (enlarged t.known new)) log change known (omega arith) (script_between t.fixed) p.plays in
     omega (arith, few)

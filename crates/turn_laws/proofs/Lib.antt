@@ -1,5 +1,6 @@
 pub mod Places
 pub mod Steps
+pub mod Played
 pub mod Lacking
 pub mod CsrQuestions
 pub mod Ahead

@@ -1,5 +1,5 @@
 -- What a start gives when places are given one by one.
-use Rattle.std.proofs.Common.{◌≡◌, ℕ, ◌/◌, ◌%◌, ◌<◌, Bool, true, false, eqb, ltb, if◌then◌else◌, List, [], ◌∷◌, length, Option, Some, None, refl, sym, ap, ◌∙◌, subst, inl, inr, arith}
+use Rattle.std.proofs.Common.{◌≡◌, ℕ, ◌/◌, ◌<◌, Bool, true, false, eqb, ltb, if◌then◌else◌, List, [], ◌∷◌, length, Option, Some, None, refl, sym, ap, ◌∙◌, subst, inl, inr, arith}
 use Rattle.std.specs.Option.{is_some}
 use Rattle.std.proofs.lemmas.Bool.{cases_eq, eq-eqb, eqb-true, lt-ltb, ne_eqb}
 use Rattle.rv_csr.specs.Table.{csr_key}
@@ -7,11 +7,11 @@ use Rattle.rv_script.specs.declared.place.Place.{Place}
 use Rattle.rv_script.specs.declared.place.Place.TheVariants.{Reg, Csr, Word}
 use Rattle.rv_script.specs.Logs.{same_place}
 use Rattle.rv_script.proofs.Plays.{same_is}
-use Rattle.part_laws.specs.Partial.{Held, Partial, place_started, with_place, with_value, word_started}
+use Rattle.part_laws.specs.Partial.{Partial, place_started, with_place, with_value, word_started}
 use Rattle.part_machine.specs.Whole.{Whole, hart_of}
 use Rattle.part_state.specs.Meaning.{CanStart, IsTest, partial_of, place_given}
 use Rattle.part_state.proofs.Meanings.{csr_partial, csr_untouched, register_partial, untouched_none, word_partial, word_untouched}
-use Rattle.turn_laws.specs.Given.{CanGive, all_given, given_to, known_at}
+use Rattle.turn_laws.specs.Given.{CanGive, all_given, given_to}
 use Rattle.turn_laws.specs.Laws.{GivesRegisters, IsStartOn, StartsGrow}
 use Rattle.turn_laws.proofs.Places.{beside_one, has, held, test_one}
 

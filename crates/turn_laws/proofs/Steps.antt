@@ -1,4 +1,4 @@
--- The step of a candidate, behind its places.
+-- A step that is played, behind the places that it starts.
 use Rattle.std.proofs.Common.{◌≡◌, ℕ, ◌%◌, ◌<◌, Bool, true, false, not, ◌&&◌, eqb, if◌then◌else◌, List, [], ◌∷◌, length, Option, Some, None, refl, sym, ap, ◌∙◌, subst, inl, inr, arith}
 use Rattle.std.specs.List.{list_any}
 use Rattle.std.proofs.lemmas.Bool.{and_from, and_parts, cases_lt, eqb-true, or_cases, or_left, or_right, true≢false}
@@ -20,7 +20,6 @@ use Rattle.rv_hart.specs.Machine.{script}
 use Rattle.foot_map.specs.declared.touch.Touch.{Touch}
 use Rattle.foot_map.specs.Races.{IsFootprint, breaks}
 use Rattle.foot_map.specs.Touches.{has, is_triple, same_role}
-use Rattle.tpl_ast.specs.declared.template.Atom.{Atom}
 use Rattle.tpl_admit.specs.Races.{footprints_of}
 use Rattle.part_clash.specs.Clashes.{Feet, HasNoStepClash}
 use Rattle.part_machine.specs.Whole.{Whole, fixed_in, hart_of, next_of, record_in, records_of}
@@ -28,9 +27,10 @@ use Rattle.foot_map.proofs.Orders.{same_role_is}
 use Rattle.part_state.specs.Meaning.{IsFit, IsFootOf, IsNamed, IsStartable, IsTest, place_given}
 use Rattle.part_state.proofs.Probes.{IsDid, clear}
 use Rattle.leaf_link.specs.Turns.{Turn, is_free, is_free_access}
-use Rattle.leaf_link.specs.Candidates.{IsCandidate, Meets, accesses_in}
+use Rattle.leaf_link.specs.Candidates.{accesses_in}
 use Rattle.turn_laws.specs.Given.{AreListed, CanGive, Setting, all_given, given_to, known_at, turn_at}
 use Rattle.turn_laws.specs.Laws.{IsTaken}
+use Rattle.turn_laws.specs.Played.{IsPlayed}
 use Rattle.turn_laws.proofs.Places.{beside, fixed_parts, known, tests}
 use Rattle.rv_script.specs.declared.place.Place.{Place}
 
@@ -116,19 +116,19 @@ own (y ∷ xs) b r h = elim (or_cases (same_role y.role r && covers y b) (list_a
   | inr other ↦ (let rest = own xs b r other in record { access = rest.access; among = inr rest.among; role = rest.role; covered = rest.covered })
 ]
 
--- the accesses of a candidate clash with nothing that was done, and not with each other
-no_clash : (t : Turn) (leaf : List Atom) (i : _) (log : List Entry) (change : Change) (feet : Feet) (did : ℕ → List Access) (k : ℕ)
-    → t.fixed.number ≡ k → IsFootOf feet did → IsFootprint t.feet did → Meets t leaf i log change → HasNoStepClash feet k (accesses_in log)
-no_clash t leaf i log change feet did k number foot footprint meets clash is = elim (or_cases (feet clash.byte clash.hart clash.role) _ is.touched) [
+-- its accesses clash with nothing that was done, and not with each other
+no_clash : (t : Turn) (new : Known) (log : List Entry) (change : Change) (feet : Feet) (did : ℕ → List Access) (k : ℕ)
+    → t.fixed.number ≡ k → IsFootOf feet did → IsFootprint t.feet did → IsPlayed t new log change → HasNoStepClash feet k (accesses_in log)
+no_clash t new log change feet did k number foot footprint played clash is = elim (or_cases (feet clash.byte clash.hart clash.role) _ is.touched) [
   | inl before ↦
       let held : has t.feet clash.byte clash.hart clash.role ≡ true = (footprint clash.byte clash.hart clash.role).1 ((foot clash.byte clash.hart clash.role).0 before) in
       let e = entry_at log is.access is.among in
-      let free : is_free t is.access ≡ true = ap (λ (o : Option Access). is_free_access t o) (sym e.is) ∙ meets.free e.entry e.among in
+      let free : is_free t is.access ≡ true = ap (λ (o : Option Access). is_free_access t o) (sym e.is) ∙ played.free e.entry e.among in
       not_free _ free (broken_held t.feet is.access t.fixed.number clash.byte clash.hart clash.role held is.covered (subst (λ (n : ℕ). breaks (eqb clash.hart n) clash.role is.access.role ≡ true) (sym number) is.broken))
   | inr now ↦
       let p = and_parts (eqb clash.hart k) _ now in
       let y = own (accesses_in log) clash.byte clash.role p.1 in
-      let apart : breaks true y.access.role is.access.role ≡ false = meets.apart y.access is.access y.among is.among (clash.byte, y.covered, is.covered) in
+      let apart : breaks true y.access.role is.access.role ≡ false = played.apart y.access is.access y.among is.among (clash.byte, y.covered, is.covered) in
       let broken : breaks (eqb clash.hart k) clash.role is.access.role ≡ true = is.broken in
       let same : breaks true clash.role is.access.role ≡ true = subst (λ (s : Bool). breaks s clash.role is.access.role ≡ true) p.0 broken in
       let wrong : breaks true y.access.role is.access.role ≡ true = subst (λ (r : Role). breaks true r is.access.role ≡ true) (sym y.role) same in
@@ -158,37 +158,37 @@ register_given_to k n v (e ∷ es) w can h = go (same_place e.0 (Reg n)) refl h 
 
 -- ---- the step
 
-taken_next : (s : Setting) (feet : List Touch) (k : ℕ) (w : Whole) (leaf : List Atom) (new : Known) (es : List (Place × ℕ))
-    → IsTest w → k < length w.harts → CanGive k es w → AreListed es new → (c : IsCandidate (turn_at s feet k w) leaf new)
-    → next_of k (all_given k es w) ≡ Does (accesses_in c.log) c.change
-taken_next s feet k w leaf new es test l can listed c =
+taken_next : (s : Setting) (feet : List Touch) (k : ℕ) (w : Whole) (new : Known) (es : List (Place × ℕ)) (log : List Entry) (change : Change)
+    → IsTest w → k < length w.harts → CanGive k es w → AreListed es new → IsPlayed (turn_at s feet k w) new log change
+    → next_of k (all_given k es w) ≡ Does (accesses_in log) change
+taken_next s feet k w new es log change test l can listed p =
     let old : Known = enlarged (known_at k w) new in
     let after : Whole = all_given k es w in
     let fixed : Fixed = fixed_in (hart_of k w) w.memory in
     let same : ((place : Place) → IsNamed place → known_at k after place ≡ old place) =
     λ place named. known k es w test l can place named ∙ ap (λ (o : Option ℕ). or_else (known_at k w place) o) (listed place) in
     let small : ((n v : ℕ) → old (Reg n) ≡ Some v → n < 32) = λ n v h. either n v (known_at k w (Reg n)) refl h in
-    let played : play access_of (by_known old) (script fixed) ≡ Does (accesses_in c.log) c.change = with_accesses (script fixed) (by_known old) c.log c.change c.is.plays in
+    let played : play access_of (by_known old) (script fixed) ≡ Does (accesses_in log) change = with_accesses (script fixed) (by_known old) log change p.plays in
     ap (λ (f : Fixed). play access_of (by_known (known_at k after)) (script f)) (fixed_parts k es w test l can)
-    ∙ more_known access_of (script fixed) (by_known old) (by_known (known_at k after)) (tells old (known_at k after) same small) (accesses_in c.log) c.change played
+    ∙ more_known access_of (script fixed) (by_known old) (by_known (known_at k after)) (tells old (known_at k after) same small) (accesses_in log) change played
   where
     either : (n v : ℕ) (o : Option ℕ) → known_at k w (Reg n) ≡ o → or_else o (new (Reg n)) ≡ Some v → n < 32
     either n v (Some u) is h = register_known k n u w (test.fit k l) is
     either n v None is h = register_given_to k n v es w can (listed (Reg n) ∙ h)
 
-pub taken : (s : Setting) (feet : List Touch) (k : ℕ) (w : Whole) (leaf : List Atom) (new : Known) (es : List (Place × ℕ))
+pub taken : (s : Setting) (feet : List Touch) (k : ℕ) (w : Whole) (new : Known) (es : List (Place × ℕ)) (log : List Entry) (change : Change)
     → IsTest w → k < length w.harts → IsFootprint feet (footprints_of (λ j. records_of j w)) → CanGive k es w → AreListed es new
-    → (c : IsCandidate (turn_at s feet k w) leaf new) → IsTaken k w s feet leaf new c (all_given k es w)
-taken s feet k w leaf new es test l footprint can listed c =
+    → IsPlayed (turn_at s feet k w) new log change → IsTaken k log change (all_given k es w)
+taken s feet k w new es log change test l footprint can listed p =
     let after : Whole = all_given k es w in
-    let next = taken_next s feet k w leaf new es test l can listed c in
+    let next = taken_next s feet k w new es log change test l can listed p in
     let b = beside k es w in
-    let did : IsDid (fixed_in (hart_of k after) after.memory) (next_of k after) (record_in (hart_of k after) after.memory (accesses_in c.log) c.change) =
-    record { accesses = accesses_in c.log; change = c.change; does = next; is = refl } in
-    let none : HasNoStepClash w.feet k (accesses_in c.log) =
-    no_clash (turn_at s feet k w) leaf c.instr c.log c.change w.feet (footprints_of (λ j. records_of j w)) k (test.number k l) test.foot footprint c.is.meets in
+    let did : IsDid (fixed_in (hart_of k after) after.memory) (next_of k after) (record_in (hart_of k after) after.memory (accesses_in log) change) =
+    record { accesses = accesses_in log; change = change; does = next; is = refl } in
+    let none : HasNoStepClash w.feet k (accesses_in log) =
+    no_clash (turn_at s feet k w) new log change w.feet (footprints_of (λ j. records_of j w)) k (test.number k l) test.foot footprint p in
     record {
       next = next;
-      ready = record { accesses = accesses_in c.log; change = c.change; does = next };
-      clear = clear k after (record_in (hart_of k after) after.memory (accesses_in c.log) c.change) (tests k es w test l can) did (subst (λ (f : Feet). HasNoStepClash f k (accesses_in c.log)) (sym b.feet) none);
+      ready = record { accesses = accesses_in log; change = change; does = next };
+      clear = clear k after (record_in (hart_of k after) after.memory (accesses_in log) change) (tests k es w test l can) did (subst (λ (f : Feet). HasNoStepClash f k (accesses_in log)) (sym b.feet) none);
     }

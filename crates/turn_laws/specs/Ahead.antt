@@ -1,4 +1,4 @@
--- What the next step of a hart lacks while the places of a candidate are given to it.
+-- What the next step of a hart lacks while the places that it starts are given to it.
 use Rattle.std.specs.Prelude.{◌≡◌, ℕ, ◌+◌, ◌%◌, ◌^◌, ◌<◌, ◌≤◌, IsTrue, List, [], ◌∷◌, ◌++◌, length, Option, Some, None}
 use Rattle.dom_set.specs.Elements.{is_in}
 use Rattle.rv_script.specs.declared.access.Access.{Access}
@@ -6,12 +6,12 @@ use Rattle.rv_script.specs.declared.place.Place.{Place}
 use Rattle.rv_script.specs.Folds.{Answer.Does, Answer.Missing as Lacks, Answer.Nowhere, Entry, Known}
 use Rattle.rv_script.specs.Logs.{enlarged, entry_place}
 use Rattle.rv_hart.specs.declared.record.Change.{Change}
-use Rattle.tpl_ast.specs.declared.template.Atom.{Atom}
 use Rattle.foot_map.specs.declared.touch.Touch.{Touch}
 use Rattle.part_machine.specs.Whole.{Whole, fixed_in, hart_of, next_of}
 use Rattle.part_state.specs.Meaning.{CanStart, IsTest, place_given}
-use Rattle.leaf_link.specs.Candidates.{IsCandidate}
+use Rattle.leaf_link.specs.Turns.{Turn}
 use Rattle.turn_laws.specs.Given.{AreListed, CanGive, IsAddressed, Setting, all_given, given_to, known_at, turn_at}
+use Rattle.turn_laws.specs.Played.{IsPlayed}
 
 -- what the list gives is new, with the same value
 abbrev pub AreAmong : List (Place × ℕ) → Known → Type 0
@@ -39,26 +39,25 @@ pub record IsNextPlace (k : ℕ) (w : Whole) (new : Known) (es : List (Place × 
   pub address : IsAddressed place
   pub fits : value < 2 ^ 32
 
--- of the places of a candidate, some are given. The next step lacks another one of them, which a start can give its value, and then fewer are left;
+-- of the places that a step starts, some are given. The next step lacks another one of them, which a start can give its value, and then fewer are left;
 -- or it is done, and then all of them are given; and never is there none
-pub record IsUnderway (k : ℕ) (w : Whole) (s : Setting) (feet : List Touch) (leaf : List Atom) (new : Known) (es : List (Place × ℕ)) (c : IsCandidate (turn_at s feet k w) leaf new) : Type 0 where
+pub record IsUnderway (k : ℕ) (w : Whole) (new : Known) (es : List (Place × ℕ)) (log : List Entry) : Type 0 where
   pub lacks : (place : Place) → next_of k (all_given k es w) ≡ Lacks place → IsNextPlace k w new es place
   pub fewer : (place : Place) (v : ℕ) → next_of k (all_given k es w) ≡ Lacks place → new place ≡ Some v
-      → unknown_in (enlarged (known_at k w) (given_to (es ++ (place, v) ∷ []))) c.log < unknown_in (enlarged (known_at k w) (given_to es)) c.log
+      → unknown_in (enlarged (known_at k w) (given_to (es ++ (place, v) ∷ []))) log < unknown_in (enlarged (known_at k w) (given_to es)) log
   pub among : (place : Place) (v : ℕ) → next_of k (all_given k es w) ≡ Lacks place → new place ≡ Some v → AreAmong (es ++ (place, v) ∷ []) new × CanGive k (es ++ (place, v) ∷ []) w
   pub somewhere : next_of k (all_given k es w) ≡ Nowhere → ⊥
   pub listed : (xs : List Access) (change : Change) → next_of k (all_given k es w) ≡ Does xs change → AreListed es new
 
 abbrev pub PlacesAreNext : Type 0
 PlacesAreNext =
-    (s : Setting) (feet : List Touch) (k : ℕ) (w : Whole) (leaf : List Atom) (new : Known) (es : List (Place × ℕ))
+    (s : Setting) (feet : List Touch) (k : ℕ) (w : Whole) (new : Known) (es : List (Place × ℕ)) (log : List Entry) (change : Change)
     → IsTest w → k < length w.harts → (fixed_in (hart_of k w) w.memory).pc % 4 ≡ 0 → AreVectors s.vectors
-    → CanGive k es w → AreAmong es new → (c : IsCandidate (turn_at s feet k w) leaf new) → IsUnderway k w s feet leaf new es c
+    → CanGive k es w → AreAmong es new → IsPlayed (turn_at s feet k w) new log change → IsUnderway k w new es log
 
 -- a step asks ten questions at most
 abbrev pub LogsAreShort : Type 0
-LogsAreShort =
-    (s : Setting) (feet : List Touch) (k : ℕ) (w : Whole) (leaf : List Atom) (new known : Known) → (c : IsCandidate (turn_at s feet k w) leaf new) → unknown_in known c.log ≤ 10
+LogsAreShort = (t : Turn) (new known : Known) (log : List Entry) (change : Change) → IsPlayed t new log change → unknown_in known log ≤ 10
 
 -- a place more is given behind those before it
 abbrev pub OneMoreIsGiven : Type 0

@@ -2,17 +2,18 @@
 use Rattle.std.specs.Prelude.{◌≡◌, ℕ, ◌<◌, length, List, Some}
 use Rattle.rv_script.specs.declared.place.Place.{Place}
 use Rattle.rv_script.specs.declared.place.Place.TheVariants.{Reg}
-use Rattle.rv_script.specs.Folds.{Known, Answer.Does}
+use Rattle.rv_script.specs.Folds.{Answer.Does, Entry, Known}
 use Rattle.rv_script.specs.Logs.{enlarged}
+use Rattle.rv_hart.specs.declared.record.Change.{Change}
 use Rattle.foot_map.specs.declared.touch.Touch.{Touch}
 use Rattle.foot_map.specs.Races.{IsFootprint}
-use Rattle.tpl_ast.specs.declared.template.Atom.{Atom}
 use Rattle.tpl_admit.specs.Races.{footprints_of}
 use Rattle.part_laws.specs.Partial.{Partial}
 use Rattle.part_machine.specs.Whole.{IsReady, Whole, fixed_in, hart_of, next_of, records_of}
 use Rattle.part_state.specs.Meaning.{IsClear, IsNamed, IsTest, partial_of}
-use Rattle.leaf_link.specs.Candidates.{IsCandidate, accesses_in}
+use Rattle.leaf_link.specs.Candidates.{accesses_in}
 use Rattle.turn_laws.specs.Given.{AreListed, CanGive, Setting, all_given, given_to, known_at, turn_at}
+use Rattle.turn_laws.specs.Played.{IsPlayed}
 
 -- what is known of the hart behind the places that are given to it
 abbrev pub GivenPlacesAreKnown : Type 0
@@ -54,14 +55,14 @@ abbrev pub GivesRegisters : Type 0
 GivesRegisters =
     (k : ℕ) (es : List (Place × ℕ)) (w : Whole) (n v : ℕ) → IsTest w → k < length w.harts → CanGive k es w → given_to es (Reg n) ≡ Some v → ((partial_of (all_given k es w)).start k).places n ≡ Some v
 
--- behind the places of a candidate, the next step of the hart is the candidate's, and races with nothing
-pub record IsTaken (k : ℕ) (w : Whole) (s : Setting) (feet : List Touch) (leaf : List Atom) (new : Known) (c : IsCandidate (turn_at s feet k w) leaf new) (after : Whole) : Type 0 where
-  pub next : next_of k after ≡ Does (accesses_in c.log) c.change
+-- behind the places that it starts, the step is the next one of the hart, and races with nothing
+pub record IsTaken (k : ℕ) (log : List Entry) (change : Change) (after : Whole) : Type 0 where
+  pub next : next_of k after ≡ Does (accesses_in log) change
   pub ready : IsReady k after
   pub clear : IsClear k after
 
-abbrev pub CandidatesAreSteps : Type 0
-CandidatesAreSteps =
-    (s : Setting) (feet : List Touch) (k : ℕ) (w : Whole) (leaf : List Atom) (new : Known) (es : List (Place × ℕ))
+abbrev pub PlayedStepsAreNext : Type 0
+PlayedStepsAreNext =
+    (s : Setting) (feet : List Touch) (k : ℕ) (w : Whole) (new : Known) (es : List (Place × ℕ)) (log : List Entry) (change : Change)
     → IsTest w → k < length w.harts → IsFootprint feet (footprints_of (λ j. records_of j w))
-    → CanGive k es w → AreListed es new → (c : IsCandidate (turn_at s feet k w) leaf new) → IsTaken k w s feet leaf new c (all_given k es w)
+    → CanGive k es w → AreListed es new → IsPlayed (turn_at s feet k w) new log change → IsTaken k log change (all_given k es w)

@@ -1,3 +1,4 @@
 pub mod Given
+pub mod Played
 pub mod Laws
 pub mod Ahead

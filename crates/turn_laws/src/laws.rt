@@ -1,6 +1,7 @@
 // What holds of places that are given and of steps that are taken.
 ghost use Rattle.turn_laws.specs.Ahead.{LogsAreShort, OneMoreIsGiven, PlacesAreNext};
-ghost use Rattle.turn_laws.specs.Laws.{CandidatesAreSteps, GivenPlacesAreKnown, GivenTestsAreTests, GivesRegisters, FixedPartsStay, OthersStay, StartsGrow};
+ghost use Rattle.turn_laws.specs.Laws.{GivenPlacesAreKnown, GivenTestsAreTests, GivesRegisters, FixedPartsStay, OthersStay, PlayedStepsAreNext, StartsGrow};
+ghost use Rattle.turn_laws.specs.Played.{CandidatesArePlayed, FaultsArePlayed};
 
 /// Does nothing. Its contract says what giving places to a hart one by one makes of a test: what was known, and these
 /// places with their values; the hart's fixed parts, the records and the footprints stay, and it is a test.
@@ -17,14 +18,21 @@ pub fn starts_grow()
     ensures registers { GivesRegisters }
 {}
 
-/// Does nothing. Its contract says that behind the places of a candidate the next step of the hart is the candidate's,
-/// told on what is known, and that it races with nothing.
-pub fn candidates_are_steps()
-    ensures { CandidatesAreSteps }
+/// Does nothing. Its contract says that the step of a candidate, and one whose fetch fails, is played on what its turn
+/// knows and on what it starts.
+pub fn steps_are_played()
+    ensures candidates { CandidatesArePlayed }
+    ensures faults { FaultsArePlayed }
 {}
 
-/// Does nothing. Its contract says what the next step of a hart lacks while the places of a candidate are given to it
-/// one by one: a place of the candidate that is not given yet, which can start with its value, and fewer are left
+/// Does nothing. Its contract says that behind the places that a played step starts it is the next step of the hart,
+/// told on what is known, and that it races with nothing.
+pub fn played_steps_are_next()
+    ensures { PlayedStepsAreNext }
+{}
+
+/// Does nothing. Its contract says what the next step of a hart lacks while the places that a played step starts are
+/// given to it one by one: a place of the step that is not given yet, which can start with its value, and fewer are left
 /// behind it; or the step can be done, and then all of them are given. So ten are enough.
 pub fn places_are_next()
     ensures next { PlacesAreNext }

@@ -26,3 +26,6 @@ pub returns-clause-turned : goal.returns-clause-turned
 returns-clause-turned c =
     ended c.args.t.now c.args.nodes c.args.hart (here c.args.part.now) c.args.wishes.now c.args.draws.now c.requires.ground.untranslated (let h = c.if-nodes-lt1.false in omega (arith, h)) (sym c.is_in_ram.ensures.there ∙ c.if-not-is_in_ram.false) c.is_in_ram.ensures.aligned c.in_ok-answer.answer c.in_ok-answer.ensures.answer (Taken (drafted c.args.t.now c.args.nodes (here c.take_leaf.new.part)))
     (subst (λ (s : Solved). EndsAs (drafted c.args.t.now c.args.nodes (here c.args.part.now)) c.args.hart c.args.wishes.now c.in_ok-answer.answer.dropped s (Taken (drafted c.args.t.now c.args.nodes (here c.take_leaf.new.part)))) (sym c.in-Found.is) (here c.take_leaf.new.part, subst (λ (ds : List (ℕ × Bool)). IsLeafTaken c.args.hart c.args.wishes.now ds (values_in c.in-Found.x) (here c.args.part.now) (here c.take_leaf.new.part)) c.as_slice.ensures c.in_ok-take_leaf-in-Found.ensures.taken, refl))
+
+pub take_leaf-requires-clause-playable : goal.take_leaf-requires-clause-playable
+take_leaf-requires-clause-playable c = c.answers_are_playable.ensures.found c.args.hart (here c.args.part.now) (values_in c.in-Found.x) (c.in_ok-answer.ensures.found c.in-Found.x c.in-Found.is)

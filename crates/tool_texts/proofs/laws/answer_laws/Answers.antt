@@ -10,7 +10,7 @@ returns-clause-one c = one_answer (record {
   failure = c.one_verdict.ensures.one;
   decides = c.said_law.ensures;
   layouts = c.layout_law.ensures;
-})
+}) (record { built = c.texts_tell_what_is_made.ensures.built; made = c.texts_tell_what_is_made.ensures.made })
 
 pub returns-clause-limits : goal.returns-clause-limits
 returns-clause-limits c = limits_lose_nothing (record {
@@ -33,4 +33,5 @@ returns-clause-short c = texts_are_short (record {
   fault = c.length_laws.ensures.fault;
   malformed = c.length_laws.ensures.malformed;
   verdict = c.length_laws.ensures.verdict;
+  gave_up = c.length_laws.ensures.gave_up;
 })

@@ -1,4 +1,4 @@
-use Rattle.trace_text.proofs.Lengths.{fault_short, malformed_short, verdict_short}
+use Rattle.trace_text.proofs.Lengths.{fault_short, gave_up_short, malformed_short, verdict_short}
 use Rattle.trace_text.proofs.Reports.{report_short}
 use Rattle.trace_text.proofs.laws.length_laws.Goals as goal
 
@@ -13,3 +13,6 @@ returns-clause-malformed c = malformed_short
 
 pub returns-clause-verdict : goal.returns-clause-verdict
 returns-clause-verdict c = verdict_short
+
+pub returns-clause-gave_up : goal.returns-clause-gave_up
+returns-clause-gave_up c = gave_up_short

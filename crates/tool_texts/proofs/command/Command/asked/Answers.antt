@@ -1,5 +1,7 @@
-use Rattle.std.proofs.Common.{◌≡◌, ◌∙◌, refl, sym, ap, map, codes, string_bytes, arith, rules}
-use Rattle.tool_texts.proofs.Asking.{one, three, same_one, same_three, seeded_found, seeded_only}
+use Rattle.std.proofs.Common.{◌≡◌, ◌∙◌, refl, sym, subst, map, codes, string_bytes, arith, rules}
+use Rattle.std.proofs.lemmas.Option.{same_Some}
+use Rattle.tool_texts.specs.Commands.{AreBudgets}
+use Rattle.tool_texts.proofs.Asking.{one, same_one, same_three, named_only, three_first}
 use Rattle.tool_texts.proofs.command.Command.asked.Goals as goal
 
 pub returns-in-len1-clause-found : goal.returns-in-len1-clause-found
@@ -8,22 +10,12 @@ returns-in-len1-clause-found c =
     one (λ s. string_bytes s) c.args.words.now c.name-item.result (omega arith) c.name-item.is
     ∙ same_one _ _ (sym c.as_str.ensures.value ∙ name)
 
-pub returns-in_ok-seed-in-len3-clause-found : goal.returns-in_ok-seed-in-len3-clause-found
-returns-in_ok-seed-in-len3-clause-found c =
-    let option : c.as_str-then-words-lt4.result.now ≡ codes "--seed" = search rules in
-    let seed = c.in_ok-seed-in-len3.ensures in
-    let words = three (λ s. string_bytes s) c.args.words.now c.name-item-then-words-lt4.result c.option-item.result c.number-item.result (omega arith) c.name-item-then-words-lt4.is c.option-item.is c.number-item.is in
-    seeded_found _ _ c.as_str-in-len3-2.result.now c.as_str-in-len3.result.now c.in_ok-seed-in-len3.seed
-    (words
-    ∙ same_three _ _ _ _ _ _ (sym c.as_str-in-len3-2.ensures.value) (sym c.as_str-then-words-lt4.ensures.value ∙ option) (sym c.as_str-in-len3.ensures.value))
-    seed.0 seed.1 c.seeded.ensures.found
-
-pub returns-in_ok-seed-in-len3-clause-only : goal.returns-in_ok-seed-in-len3-clause-only
-returns-in_ok-seed-in-len3-clause-only c = λ command asks.
-    let seed = c.in_ok-seed-in-len3.ensures in
-    let words = three (λ s. string_bytes s) c.args.words.now c.name-item-then-words-lt4.result c.option-item.result c.number-item.result (omega arith) c.name-item-then-words-lt4.is c.option-item.is c.number-item.is in
-    c.seeded.ensures.only command
-    (seeded_only command _ c.as_str-in-len3-2.result.now _ c.as_str-in-len3.result.now c.in_ok-seed-in-len3.seed
-    (words
-    ∙ same_three _ _ _ _ _ _ (sym c.as_str-in-len3-2.ensures.value) refl (sym c.as_str-in-len3.ensures.value))
-    seed.1 asks)
+pub returns-in_ok-effort-in-len3-up-clause-only : goal.returns-in_ok-effort-in-len3-up-clause-only
+returns-in_ok-effort-in-len3-up-clause-only c = λ command asks.
+    let words = three_first (λ s. string_bytes s) c.args.words.now c.name-item-2.result c.option-item.result c.number-item.result c.in-len3-up.len_at_least c.name-item-2.is c.option-item.is c.number-item.is in
+    c.searching.ensures.only command
+    (named_only _ _ c.as_str-in-len3-up-2.result.now _ c.as_str-in-len3-up.result.now c.in_ok-seed-in-len3-up.seed c.in_ok-effort-in-len3-up.effort
+    (words ∙ same_three _ _ _ _ _ _ _ (sym c.as_str-in-len3-up-2.ensures.value) refl (sym c.as_str-in-len3-up.ensures.value))
+    c.in_ok-seed-in-len3-up.ensures.1
+    (λ e seed budgets. same_Some _ _ (sym c.in_ok-effort-in-len3-up.was ∙ c.effort_of.ensures.only e seed (subst (λ ws. AreBudgets (map (λ s. string_bytes s) ws) e.nodes e.turns) (sym c.split_at.ensures.back) budgets)))
+    command asks)

@@ -1,3 +1,0 @@
-pub mod Plan
-pub mod Code
-pub mod Given
