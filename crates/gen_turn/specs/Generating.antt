@@ -10,7 +10,7 @@ use Rattle.tpl_admit.specs.Faithfulness.{IsFaithful}
 use Rattle.tpl_admit.specs.Validity.{IsValid}
 use Rattle.tpl_admit.specs.WellFormed.{IsWellFormed}
 use Rattle.gen_search.specs.declared.draws.Tally.{Tally}
-use Rattle.gen_search.specs.Answers.{AnswerIs}
+use Rattle.gen_search.specs.Answers.{AnswerIs, CountsTurns}
 use Rattle.gen_search.specs.Search.{Done, NoTest, SearchResult, Searches}
 use Rattle.gen_turn.specs.declared.making.Found.{Found}
 use Rattle.gen_turn.specs.declared.making.Generated.{Generated}
@@ -54,10 +54,11 @@ pub record IsOfStart (first now : Shown) : Type 0 where
   pub ram : now.now.ram ≡ first.now.ram
   pub harts : length now.now.harts ≡ length first.now.harts
 
--- the test as the search leaves it, and the answer, which tells the result
+-- the test as the search leaves it, the answer, which tells the result, and the number of leaf turns that were made: that of the result, at most `turns`, and just so many where it gave up
 pub record IsFound (t : Template) (seed nodes turns : ℕ) (found : Found) : Type 0 where
   pub last : Shown
   pub result : SearchResult Shown
   pub comes : Comes t seed nodes turns result
   pub answer : AnswerIs result last found.answer
   pub now : last.now ≡ found.part.now
+  pub counts : CountsTurns result turns 0 found.turned

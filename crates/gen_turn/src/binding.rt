@@ -1,5 +1,5 @@
 // The names of a leaf.
-ghost use Rattle.std.specs.Prelude.{◌≡◌, ◌<◌, ◌≤◌, ◌+◌, ◌-◌, ◌^◌, ◌&&◌, true, length, OnOk, slice_index_or, None};
+ghost use Rattle.std.specs.Prelude.{◌≡◌, ◌<◌, ◌≤◌, ◌+◌, ◌-◌, ◌^◌, ◌&&◌, true, length, OnOk, OnErr, slice_index_or, None};
 ghost use Rattle.std.specs.List.{list_all};
 ghost use Rattle.tpl_ast.specs.Leaves.{atoms_of, is_name_below};
 ghost use Rattle.tpl_admit.specs.Moments.{moment};
@@ -13,11 +13,12 @@ use part_state::Part;
 use tpl_admit::Moment;
 use tpl_ast::{Atom, Wish};
 
-/// Gives a name without a value one, where there is one.
+/// Gives a name without a value one, where there is one. A refusal changes nothing.
 pub fn bind_name(part: &mut Part, name: u32, value: Option<u32>) -> Result<(), OutOfMemory>
     requires { name < length part.old.now.names }
     ensures now { OnOk result (here part.new ≡ with_names (with_name name value part.old.now.names) (here part.old)) }
-    ensures kept { OnOk result (AreKept part.old part.new) }
+    ensures kept { AreKept part.old part.new }
+    ensures refused { OnErr result (part.new ≡ part.old) }
 {
     match value {
         None => Ok(()),
@@ -32,7 +33,7 @@ pub fn bind_name(part: &mut Part, name: u32, value: Option<u32>) -> Result<(), O
 fn bind_atom(part: &mut Part, at: &Moment, atom: &Atom) -> Result<(), OutOfMemory>
     requires { is_name_below (length part.old.now.names) atom.now ≡ true }
     ensures now { OnOk result (here part.new ≡ with_names (bound_with (λ v. value_of v (moment at.now)) atom.now part.old.now.names) (here part.old)) }
-    ensures kept { OnOk result (AreKept part.old part.new) }
+    ensures kept { AreKept part.old part.new }
 {
     match atom {
         Atom::Is(var, name) => bind_name(part, *name, at.value(*var)),
@@ -63,7 +64,7 @@ fn bind_wish(
 ) -> Result<(), OutOfMemory>
     requires { is_name_below (length part.old.now.names) wish.now.atom ≡ true }
     ensures now { OnOk result (here part.new ≡ with_names (bound_by_wish (λ v. value_of v (moment at.now)) dropped.now bias wish.now part.old.now.names) (here part.old)) }
-    ensures kept { OnOk result (AreKept part.old part.new) }
+    ensures kept { AreKept part.old part.new }
 {
     if wish.prefer && is_listed(dropped, bias) {
         return Ok(());
@@ -89,7 +90,7 @@ pub fn bind_names(
 ) -> Result<(), OutOfMemory>
     requires { list_all (is_name_below (length part.old.now.names)) (atoms_of wishes.now) ≡ true }
     ensures now { OnOk result (here part.new ≡ with_names (names_bound (λ v. value_of v (moment at.now)) dropped.now 0 wishes.now part.old.now.names) (here part.old)) }
-    ensures kept { OnOk result (AreKept part.old part.new) }
+    ensures kept { AreKept part.old part.new }
 {
     let mut bias = 0;
     for wish in wishes {

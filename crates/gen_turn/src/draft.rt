@@ -74,6 +74,13 @@ impl<'t> Draft<'t> {
         }
     }
 
+    /// How many leaf turns were made.
+    pub fn turns(&self) -> u64
+        ensures { result ≡ self.now.turns }
+    {
+        self.turns
+    }
+
     /// The test as it stands.
     pub fn into_part(self) -> Part
         ensures { result ≡ self.entry.part }

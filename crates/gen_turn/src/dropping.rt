@@ -49,7 +49,7 @@ fn drop_bias(
 ) -> Result<(), OutOfMemory>
     requires { length wishes.now ≤ most_atoms }
     ensures now { OnOk result (here part.new ≡ with_dropped (listed_as hart step wishes.now bias.now) (here part.old)) }
-    ensures kept { OnOk result (AreKept part.old part.new) }
+    ensures kept { AreKept part.old part.new }
 {
     part.drop_wish(Dropped {
         hart: u32::from(hart),
@@ -70,7 +70,7 @@ pub fn drop_biases(
 ) -> Result<(), OutOfMemory>
     requires { length wishes.now ≤ most_atoms }
     ensures now { OnOk result (here part.new ≡ with_all_dropped (map (listed_as hart step wishes.now) dropped.now) (here part.old)) }
-    ensures kept { OnOk result (AreKept part.old part.new) }
+    ensures kept { AreKept part.old part.new }
 {
     for bias in dropped {
         drop_bias(part, hart, step, wishes, bias)?;

@@ -1,5 +1,5 @@
 // The turns of leaves.
-ghost use Rattle.std.specs.Prelude.{◌≡◌, ◌%◌, ◌<◌, ◌≤◌, true, length, OnOk, IfOk};
+ghost use Rattle.std.specs.Prelude.{◌≡◌, ◌%◌, ◌<◌, ◌≤◌, true, length, OnOk, OnErr, IfOk};
 ghost use Rattle.std.specs.List.{list_all};
 ghost use Rattle.rv_mem.specs.Seen.{is_there};
 ghost use Rattle.sv_walk.specs.Translation.{is_in_ram};
@@ -44,7 +44,7 @@ fn is_in_ram(part: &Part, hart: u8) -> bool
 
 /// Takes the step of an answer, binds the names of the mandatory atoms and the kept biases, and lists the biases that were
 /// not kept.
-fn take_leaf(
+fn take_bind_and_list(
     part: &mut Part,
     hart: u8,
     wishes: &[Wish],
@@ -57,7 +57,7 @@ fn take_leaf(
     requires short { length wishes.now ≤ most_atoms }
     ensures taken { OnOk result (IsLeafTaken hart wishes.now dropped.now (values_in x.now) (here part.old) (here part.new)) }
     ensures ground { OnOk result (IsSameGround (here part.old) (here part.new)) }
-    ensures kept { OnOk result (AreKept part.old part.new) }
+    ensures kept { AreKept part.old part.new }
 {
     // No test has so many steps.
     let Ok(step) = u32::try_from(part.records(hart).len()) else {
@@ -77,8 +77,35 @@ fn take_leaf(
     Ok(())
 }
 
+/// Takes the step of an answer, with the names that it binds and the biases that it lists. A refusal changes nothing.
+fn take_leaf(
+    part: &mut Part,
+    hart: u8,
+    wishes: &[Wish],
+    dropped: &[(u32, bool)],
+    x: &Assignment,
+) -> Result<(), OutOfMemory>
+    requires hart { hart < length part.old.now.harts }
+    requires playable { IsPlayable hart (here part.old) (values_in x.now) }
+    requires below { list_all (is_name_below (length part.old.now.names)) (atoms_of wishes.now) ≡ true }
+    requires short { length wishes.now ≤ most_atoms }
+    ensures taken { OnOk result (IsLeafTaken hart wishes.now dropped.now (values_in x.now) (here part.old) (here part.new)) }
+    ensures ground { OnOk result (IsSameGround (here part.old) (here part.new)) }
+    ensures kept { OnOk result (AreKept part.old part.new) }
+    ensures refused { OnErr result (part.new ≡ part.old) }
+{
+    let mark = part.mark();
+    match take_bind_and_list(part, hart, wishes, dropped, x) {
+        Ok(()) => Ok(()),
+        Err(error) => {
+            part.rollback(mark);
+            Err(error)
+        }
+    }
+}
+
 /// Makes the turn of a `do` leaf of a hart, with the 16 draws of the turn and `nodes` for the budget of each of its
-/// problems.
+/// problems. A refusal changes nothing.
 pub fn turn_leaf(
     alloc: Global,
     part: &mut Part,
@@ -93,6 +120,7 @@ pub fn turn_leaf(
     ensures turned { IfOk result (λ turn. IsDone (drafted t.now nodes (here part.old)) hart wishes.now draws.now (answered turn (drafted t.now nodes (here part.new)))) }
     ensures ground { OnOk result (IsSameGround (here part.old) (here part.new)) }
     ensures kept { OnOk result (AreKept part.old part.new) }
+    ensures refused { OnErr result (part.new ≡ part.old) }
 {
     answers_are_playable();
     // The fetch has one pair of page table entries where no address is translated.
@@ -113,7 +141,8 @@ pub fn turn_leaf(
     }
 }
 
-/// Makes the turn of a `fault` leaf of a hart, with the 16 draws of the turn and `nodes` for the budget of its problem.
+/// Makes the turn of a `fault` leaf of a hart, with the 16 draws of the turn and `nodes` for the budget of its problem. A
+/// refusal changes nothing.
 pub fn turn_fault(
     alloc: Global,
     part: &mut Part,
@@ -127,6 +156,7 @@ pub fn turn_fault(
     ensures turned { IfOk result (λ turn. IsFailed (drafted t.now nodes (here part.old)) hart causes.now draws.now (answered turn (drafted t.now nodes (here part.new)))) }
     ensures ground { OnOk result (IsSameGround (here part.old) (here part.new)) }
     ensures kept { OnOk result (AreKept part.old part.new) }
+    ensures refused { OnErr result (part.new ≡ part.old) }
 {
     // The fetch has one pair of page table entries where no address is translated.
     if nodes < 1 {

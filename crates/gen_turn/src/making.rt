@@ -37,6 +37,8 @@ pub enum Generated {
 pub struct Found {
     pub part: Part,
     pub answer: Answer,
+    /// How many leaf turns were made.
+    pub turned: u64,
 }
 
 /// Searches for a test of a template.
@@ -56,9 +58,11 @@ fn search_for(
     built_templates_are_ready();
     let mut draft = Draft::new(alloc, template, nodes)?;
     let answer = search(alloc, &mut draft, template.harts.as_slice(), seed, turns)?;
+    let turned = draft.turns();
     Ok(Found {
         part: draft.into_part(),
         answer,
+        turned,
     })
 }
 
@@ -77,7 +81,11 @@ pub fn generate(
 {
     done_tests_are_certified();
     sound_certificates_are_faithful();
-    let Found { part, answer } = search_for(alloc, &template, seed, nodes, turns)?;
+    let Found {
+        part,
+        answer,
+        turned: _,
+    } = search_for(alloc, &template, seed, nodes, turns)?;
     match answer {
         Answer::Done => match part.finish(alloc, template) {
             Ok(certificate) => Ok(Generated::Done(certificate)),

@@ -5,3 +5,4 @@ pub mod Lacking
 pub mod CsrQuestions
 pub mod Ahead
 pub mod Starts
+pub mod Back

@@ -2,3 +2,4 @@ pub mod Given
 pub mod Played
 pub mod Laws
 pub mod Ahead
+pub mod Back

@@ -1,5 +1,6 @@
 // What holds of places that are given and of steps that are taken.
 ghost use Rattle.turn_laws.specs.Ahead.{LogsAreShort, OneMoreIsGiven, PlacesAreNext};
+ghost use Rattle.turn_laws.specs.Back.{StepsAreOfCandidates};
 ghost use Rattle.turn_laws.specs.Laws.{GivenPlacesAreKnown, GivenTestsAreTests, GivesRegisters, FixedPartsStay, OthersStay, PlayedStepsAreNext, StartsGrow};
 ghost use Rattle.turn_laws.specs.Played.{CandidatesArePlayed, FaultsArePlayed};
 
@@ -38,4 +39,11 @@ pub fn places_are_next()
     ensures next { PlacesAreNext }
     ensures short { LogsAreShort }
     ensures appended { OneMoreIsGiven }
+{}
+
+/// Does nothing. Its contract says that the next step of a hart to which places were given, whatever they are, is that
+/// of a candidate, where it meets what is asked of a leaf's step; the candidate starts those of the places that the step
+/// asks for.
+pub fn steps_are_of_candidates()
+    ensures { StepsAreOfCandidates }
 {}

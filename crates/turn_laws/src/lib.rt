@@ -6,5 +6,6 @@
 mod laws;
 
 pub use laws::{
-    given_places_are_known, places_are_next, played_steps_are_next, starts_grow, steps_are_played,
+    given_places_are_known, places_are_next, played_steps_are_next, starts_grow,
+    steps_are_of_candidates, steps_are_played,
 };

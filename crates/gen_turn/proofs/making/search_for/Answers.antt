@@ -3,6 +3,7 @@ use Rattle.tpl_ast.specs.declared.template.HartDecl.{HartDecl}
 use Rattle.tpl_ast.specs.declared.template.Template.{Template}
 use Rattle.part_state.specs.State.{State, here}
 use Rattle.gen_search.specs.Ready.{BodiesAreReady}
+use Rattle.gen_search.specs.Answers.{CountsTurns}
 use Rattle.gen_search.specs.Search.{Searches}
 use Rattle.gen_turn.specs.Drafts.{drafted}
 use Rattle.gen_turn.specs.Grounds.{CanTake}
@@ -34,5 +35,6 @@ returns c =
       result = found.0;
       comes = record { first = first; begun = c.in_ok-draft.ensures.begun; test = c.in_ok-draft.ensures.test; told = c.in_ok-draft.ensures.told; searches = of_budget };
       answer = found.2;
+      counts = subst (λ (n : ℕ). CountsTurns found.0 c.args.turns 0 n) (sym c.turns-turned.ensures) (subst (λ (n : ℕ). CountsTurns found.0 c.args.turns n c.search.new.part.turns) c.in_ok-draft.ensures.turns found.3);
       now = ap (λ (s : State). s.now) (sym c.into_part.ensures);
     }

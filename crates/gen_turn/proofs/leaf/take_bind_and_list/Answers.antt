@@ -5,7 +5,7 @@ use Rattle.leaf_turn.proofs.Keeping.{kept_then}
 use Rattle.part_state.specs.State.{here}
 use Rattle.gen_turn.proofs.Elsewhere.{hart_stays}
 use Rattle.gen_turn.proofs.Takes.{same_ground, taken_leaf}
-use Rattle.gen_turn.proofs.leaf.take_leaf.Goals as goal
+use Rattle.gen_turn.proofs.leaf.take_bind_and_list.Goals as goal
 
 pub returns-clause-taken : goal.returns-clause-taken
 returns-clause-taken c =
