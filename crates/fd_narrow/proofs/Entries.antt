@@ -104,3 +104,7 @@ all_found found set missing is none v h = ⊎_elim
 pub entry_narrows : (a b : List (List ℕ)) (index value : Slot) (table : List (Option ℕ)) (set found missing values : List ℕ) (indices listed : List (ℕ × ℕ)) → set ≡ domain_in a index → AreListed table indices listed → IsOfRanges indices found → missing ≡ filter (λ v. not (is_in found v)) set → length missing ≡ 0 → IsOfRanges listed values → Leaves (IsValueIn value values) a b → Leaves (λ x. IsTrue (is_held x index value table)) a b
 entry_narrows a b index value table set found missing values indices listed at_index entries is_found is none is_values leaves = weakened (IsValueIn value values) (λ x. IsTrue (is_held x index value table)) a b
     (λ x inside held small. is_values.all (value_of x value) small (listed_value (slice_get table (value_of x index)) listed (value_of x value) (entries (value_of x index) (is_found.within (value_of x index) (all_found found set missing is none (value_of x index) (subst (λ (d : List ℕ). IsTrue (is_in d (value_of x index))) (sym at_index) (inside index))))) held)) leaves
+
+pub one_narrows : (a b : List (List ℕ)) (s : Slot) (v : ℕ) (one : List ℕ) → IsOfRanges ((v, v) ∷ []) one → Leaves (IsValueIn s one) a b → Leaves (λ x. value_of x s ≡ v) a b
+one_narrows a b s v one is leaves = weakened (IsValueIn s one) (λ x. value_of x s ≡ v) a b
+    (λ x inside same small. is.all (value_of x s) small (pushed_has [] (v, v) (value_of x s) (omega (arith, same)) (omega (arith, same)))) leaves

@@ -7,3 +7,4 @@ pub mod Parts
 pub mod Targets
 pub mod Sources
 pub mod Writes
+pub mod Mentions

@@ -55,6 +55,14 @@ impl Domains {
         Ok(Domains { sets })
     }
 
+    /// The domains as sets, in the order of the variables.
+    pub fn into_sets(self) -> Vec<Set>
+        ensures sets { result.items ≡ self }
+        ensures length { length result.items ≡ 14 }
+    {
+        self.sets
+    }
+
     /// How many there are: one for each variable.
     pub fn count(&self) -> usize
         ensures all { result ≡ 14 }

@@ -59,7 +59,7 @@ impl Domains {
         ensures { OnOk result (Leaves (λ x. IsTrue (is_linked x)) self.old self.new) }
     {
         let common = self.domain(Slot::A).and(alloc, self.domain(Slot::B))?;
-        if common.size() == 0 {
+        if common.is_empty() {
             return self.narrow_different(alloc, Slot::Rs1, Slot::Rs2);
         }
         match (self.single(Slot::Rs1), self.single(Slot::Rs2)) {

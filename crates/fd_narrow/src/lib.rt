@@ -6,6 +6,7 @@ mod addresses;
 mod domains;
 mod equalities;
 mod legal;
+mod mentioned;
 mod narrowing;
 mod orders;
 mod rows;
@@ -18,3 +19,5 @@ mod writes;
 
 pub use dom_set::OutOfMemory;
 pub use domains::Domains;
+pub use mentioned::mentions;
+pub use narrowing::Losses;

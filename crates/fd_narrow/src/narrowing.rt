@@ -5,8 +5,9 @@ ghost use Rattle.fd_narrow.specs.Narrowing.{Narrows};
 ghost use Rattle.fd_narrow.specs.Steps.{Leaves};
 
 use crate::domains::Domains;
+use crate::mentioned::mentions;
 use dom_set::OutOfMemory;
-use fd_prob::Rel;
+use fd_prob::{Rel, SLOTS, Slot};
 use rv_isa::Op;
 use std::alloc::Global;
 
@@ -14,24 +15,138 @@ use std::alloc::Global;
 /// in a pass of its own, and not until ranges that rule each other out number by number are empty.
 const PASSES: usize = 16;
 
+/// Which variables lost values, by their places in the order of variables.
+pub type Losses = [bool; 14];
+
+/// When variables lost values and when relations were asked: a count that goes up where a relation takes values away.
+#[derive(Drop)]
+struct Times {
+    /// When each variable last lost values.
+    lost: [u32; 14],
+    /// Up to when each relation knows which values are left.
+    asked: Vec<u32>,
+    now: u32,
+    /// Whether a variable has lost its last value.
+    ended: bool,
+}
+
+/// Whether a relation that was just asked takes nothing more away if it is asked again, where the domains had these sizes
+/// before.
+fn is_done_at_once(rel: &Rel, before: &[u64; 14]) -> bool {
+    match rel {
+        Rel::Same(..) | Rel::Differ(..) | Rel::Holds { .. } => true,
+        Rel::Sum(s, t, _) => before[s.number()] == 1 || before[t.number()] == 1,
+        Rel::Target(..) => before[Slot::A.number()] == 1 || before[Slot::Imm.number()] == 1,
+        _ => false,
+    }
+}
+
+impl Times {
+    /// Before any of so many relations is asked, of which the first ones, `known`, know of all values that were not lost
+    /// since.
+    fn of(
+        alloc: Global,
+        count: usize,
+        known: usize,
+        losses: &Losses,
+    ) -> Result<Times, OutOfMemory> {
+        let mut lost = [1; 14];
+        for place in 0..14 {
+            if losses[place] {
+                lost[place] = 2;
+            }
+        }
+        let mut asked = Vec::new(alloc);
+        for number in 0..count {
+            asked.push(if number < known { 1 } else { 0 })?;
+        }
+        Ok(Times {
+            lost,
+            asked,
+            now: 2,
+            ended: false,
+        })
+    }
+
+    /// Whether the relation may look at a variable that lost values which it does not know of.
+    fn is_touched(&self, rel: &Rel, number: usize) -> bool {
+        let asked = match self.asked.get(number) {
+            Some(time) => *time,
+            None => 0,
+        };
+        for place in 0..14 {
+            if self.lost[place] > asked && mentions(rel, SLOTS[place]) {
+                return true;
+            }
+        }
+        false
+    }
+
+    /// Notes what a relation took away, by the sizes of domains before it was asked and after.
+    fn note(&mut self, rel: &Rel, number: usize, before: &[u64; 14], after: &[u64; 14]) {
+        let mut time = self.now;
+        let next = self.now.saturating_add(1);
+        for place in 0..14 {
+            if after[place] != before[place] {
+                self.lost[place] = next;
+                self.now = next;
+                self.ended = self.ended || after[place] == 0;
+            }
+        }
+        if is_done_at_once(rel, before) {
+            time = self.now;
+        }
+        if number < self.asked.len() {
+            self.asked[number] = time;
+        }
+    }
+}
+
 impl Domains {
     /// The domains without what the relations rule out, in a case of the operation.
     pub fn narrowed(self, alloc: Global, op: Op, rels: &[Rel]) -> Result<Domains, OutOfMemory>
         ensures { IfOk result (Narrows op rels.now self) }
     {
+        self.narrowed_from(alloc, op, rels, 0, &[true; 14])
+    }
+
+    /// The same where they were narrowed before by the first `known` relations, or by these and more, and since then only
+    /// some variables lost values: of these relations just those are asked that look at them, and then those that look at
+    /// what others took values from.
+    pub fn narrowed_from(
+        self,
+        alloc: Global,
+        op: Op,
+        rels: &[Rel],
+        known: usize,
+        losses: &Losses,
+    ) -> Result<Domains, OutOfMemory>
+        ensures { IfOk result (Narrows op rels.now self) }
+    {
         let mut left = self;
-        left.narrow(alloc, op, rels)?;
+        left.narrow(alloc, op, rels, known, losses)?;
         Ok(left)
     }
 
     /// Takes from the domains what the relations rule out. After an error nothing is said of what is left.
-    pub(crate) fn narrow(&mut self, alloc: Global, op: Op, rels: &[Rel]) -> Result<(), OutOfMemory>
+    pub(crate) fn narrow(
+        &mut self,
+        alloc: Global,
+        op: Op,
+        rels: &[Rel],
+        known: usize,
+        losses: &Losses,
+    ) -> Result<(), OutOfMemory>
         ensures { OnOk result (Narrows op rels.now self.old self.new) }
     {
+        if self.has_empty() {
+            return Ok(());
+        }
+        let mut times = Times::of(alloc, rels.len(), known, losses)?;
         for _ in 0..PASSES {
-            let before = self.total();
-            self.pass(alloc, op, rels)?;
-            if self.has_empty() || self.total() == before {
+            let before = times.now;
+            self.pass(alloc, op, rels, &mut times)?;
+            if times.now == before || self.has_empty() {
                 return Ok(());
             }
         }
@@ -39,17 +154,51 @@ impl Domains {
     }
 
     /// Goes through the relations once, each alone and then all together, until a domain is empty.
-    fn pass(&mut self, alloc: Global, op: Op, rels: &[Rel]) -> Result<(), OutOfMemory>
+    fn pass(
+        &mut self,
+        alloc: Global,
+        op: Op,
+        rels: &[Rel],
+        times: &mut Times,
+    ) -> Result<(), OutOfMemory>
         ensures { OnOk result (Narrows op rels.now self.old self.new) }
     {
-        for rel in rels {
-            if self.has_empty() {
-                return Ok(());
-            }
-            self.narrow_by(alloc, op, rel)?;
+        for (number, rel) in rels.iter().enumerate() {
+            self.ask(alloc, op, rel, number, times)?;
         }
         self.narrow_standing(alloc, op, rels);
         Ok(())
+    }
+
+    /// Takes from the domains what one relation rules out, if it may take anything away.
+    fn ask(
+        &mut self,
+        alloc: Global,
+        op: Op,
+        rel: &Rel,
+        number: usize,
+        times: &mut Times,
+    ) -> Result<(), OutOfMemory>
+        ensures { OnOk result (Leaves (λ x. IsTrue (holds op x rel.now)) self.old self.new) }
+    {
+        if times.ended || !times.is_touched(rel, number) {
+            return Ok(());
+        }
+        let before = self.sizes(rel);
+        self.narrow_by(alloc, op, rel)?;
+        times.note(rel, number, &before, &self.sizes(rel));
+        Ok(())
+    }
+
+    /// The sizes of the domains of the variables at which the relation may look, and 0 for the others.
+    fn sizes(&self, rel: &Rel) -> [u64; 14] {
+        let mut sizes = [0; 14];
+        for place in 0..14 {
+            if mentions(rel, SLOTS[place]) {
+                sizes[place] = self.domain(SLOTS[place]).size();
+            }
+        }
+        sizes
     }
 
     /// Takes from the domains what one relation rules out.

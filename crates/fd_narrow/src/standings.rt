@@ -86,8 +86,8 @@ impl Domains {
     fn has_no_standing(&self, op: Op, rels: &[Rel]) -> bool
         ensures { IsTrue result → IsUnfit self.now op rels.now }
     {
-        // `size` also says that the elements are words.
-        let _sizes = (self.domain(Slot::A).size(), self.domain(Slot::B).size());
+        self.domain(Slot::A).element_laws();
+        self.domain(Slot::B).element_laws();
         if !self.is_ruled_out(op, rels, Standing::Less) {
             return false;
         }

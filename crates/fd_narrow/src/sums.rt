@@ -10,6 +10,12 @@ use set_sums::{differences_within, halved, sums_within, words_of};
 use std::alloc::Global;
 
 impl Domains {
+    /// Whether the first variable has one value and the second has not. Then what is left of the second and of their sum,
+    /// which is exact, tells all that is known of the first.
+    pub(crate) fn is_only_one_fixed(&self, s: Slot, t: Slot) -> bool {
+        self.domain(s).is_single() && !self.domain(t).is_single()
+    }
+
     /// Cuts the sum to what the two variables can add up to.
     fn narrow_total(
         &mut self,
@@ -28,6 +34,9 @@ impl Domains {
     fn narrow_part(&mut self, alloc: Global, s: Slot, t: Slot, sum: Slot) -> Result<(), OutOfMemory>
         ensures { OnOk result (Leaves (λ x. IsTrue (is_sum x s t sum)) self.old self.new) }
     {
+        if self.is_only_one_fixed(s, t) {
+            return Ok(());
+        }
         let parts = differences_within(alloc, self.domain(sum), self.domain(t), self.domain(s))?;
         self.cut(alloc, s, &parts)
     }

@@ -1,7 +1,7 @@
 // Tables of values.
 ghost use Rattle.std.specs.Prelude.{◌≡◌, ◌-◌, ◌^◌, IsTrue, IfOk, OnOk, length, min};
-ghost use Rattle.fd_prob.specs.Relations.{is_held};
-ghost use Rattle.fd_narrow.specs.Steps.{Leaves};
+ghost use Rattle.fd_prob.specs.Relations.{is_held, value_of};
+ghost use Rattle.fd_narrow.specs.Steps.{IsOnly, Leaves};
 ghost use Rattle.fd_narrow.specs.Tables.{AreListed, AreOthers, AreRefused};
 
 use crate::domains::Domains;
@@ -135,6 +135,9 @@ impl Domains {
         ensures { OnOk result (Leaves (λ x. IsTrue (is_held x index value table.now)) self.old self.new) }
     {
         let refused = refused_indices(alloc, table, self.domain(value))?;
+        if refused.is_empty() {
+            return Ok(());
+        }
         let indices = words_of(alloc, &refused)?;
         self.take(alloc, index, &indices)
     }
@@ -157,6 +160,33 @@ impl Domains {
         }
         let values = words_of(alloc, &entries.values)?;
         self.cut(alloc, value, &values)
+    }
+
+    /// The variable has this value.
+    fn fix(&mut self, alloc: Global, slot: Slot, value: u32) -> Result<(), OutOfMemory>
+        ensures { OnOk result (Leaves (λ x. value_of x slot ≡ value) self.old self.new) }
+    {
+        let one = words_of(alloc, &[(value, value)])?;
+        self.cut(alloc, slot, &one)
+    }
+
+    /// Cuts the variable to the value that the table has at the only index, if it has one there.
+    fn narrow_at(
+        &mut self,
+        alloc: Global,
+        at: u32,
+        index: Slot,
+        value: Slot,
+        table: &[Option<u32>],
+    ) -> Result<(), OutOfMemory>
+        requires { IsOnly self.old index at }
+        ensures { OnOk result (Leaves (λ x. IsTrue (is_held x index value table.now)) self.old self.new) }
+    {
+        match table.get(at as usize) {
+            Some(Some(held)) => self.fix(alloc, value, *held),
+            Some(None) => Ok(()),
+            None => Ok(()),
+        }
     }
 
     /// Takes the indices away at which the table has a value that is not the index itself.
@@ -185,6 +215,9 @@ impl Domains {
     {
         if index == value {
             return self.narrow_own(alloc, index, table);
+        }
+        if let Some(at) = self.single(index) {
+            return self.narrow_at(alloc, at, index, value, table);
         }
         self.narrow_index(alloc, index, value, table)?;
         self.narrow_entry(alloc, index, value, table)

@@ -41,6 +41,9 @@ impl Domains {
     ) -> Result<(), OutOfMemory>
         ensures { OnOk result (Leaves (λ x. IsTrue (is_in sums.now ((value_of x s + value_of x t) % 2 ^ 32))) self.old self.new) }
     {
+        if self.is_only_one_fixed(s, t) {
+            return Ok(());
+        }
         let addends = differences_within(alloc, sums, self.domain(t), self.domain(s))?;
         self.cut(alloc, s, &addends)
     }

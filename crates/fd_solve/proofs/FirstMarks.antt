@@ -10,6 +10,7 @@ use Rattle.fd_prob.specs.declared.problem.Problem.{Problem}
 use Rattle.fd_prob.specs.Extras.{extended}
 use Rattle.fd_prob.specs.Fitting.{IsProblem}
 use Rattle.fd_solve.specs.declared.ready.Ready.{Ready}
+use Rattle.fd_solve.specs.Equivalent.{StandFor}
 use Rattle.fd_solve.specs.Marks.{AreSound, HasFirstsOf, base_of, marked_case, with_marked}
 use Rattle.fd_solve.specs.Ready.{IsReady}
 use Rattle.fd_solve.proofs.Marking.{many_marked, marked_at, whole_marked}
@@ -96,10 +97,11 @@ module _ (p : Problem) (es : List Extra) (marks : List Bool) (most : ℕ) (ready
       ∙ first_and_more ready.from (to - ready.from) to (omega (arith, le)) marks es p
 
   -- it is brought up to more marks
-  pub ready_made : (made : Problem) (problem : Option Problem) → made ≡ with_marked (pending most) (from_on ready.from es) base → problem ≡ Some made → IsReady p es marks most (record { problem = problem; from = most })
-  ready_made made problem made_is problem_is = record {
-    within = omega arith;
-    first = ap (λ (o : Option Problem). base_of o p) problem_is ∙ brought most made is.within (made_is ∙ ap (λ (fs : List Extra). with_marked (pending most) fs base) (from_on_is ready.from es));
+  pub ready_made : (made : Problem) (new : Ready) → made ≡ with_marked (pending most) (from_on ready.from es) base → new.problem ≡ Some made → StandFor made.cases new.narrow → new.from ≡ most → IsReady p es marks most new
+  ready_made made new made_is problem_is narrow_is from_is = record {
+    within = omega (arith, from_is);
+    first = ap (λ (o : Option Problem). base_of o p) problem_is ∙ brought most made is.within (made_is ∙ ap (λ (fs : List Extra). with_marked (pending most) fs base) (from_on_is ready.from es)) ∙ ap (λ (n : ℕ). with_marked (take n marks) es p) (sym from_is);
+    narrow = subst (λ (o : Option Problem). StandFor (base_of o p).cases new.narrow) (sym problem_is) narrow_is;
   }
 
   -- with the other marks it is the same problem
@@ -120,10 +122,11 @@ module _ (p : Problem) (es : List Extra) (marks : List Bool) (most : ℕ) (ready
   }
 
   -- there is no mark before the place to which it is brought up
-  pub ready_as_it_is : (problem : Option Problem) → problem ≡ ready.problem → list_all not (pending most) ≡ true → IsReady p es marks most (record { problem = problem; from = most })
-  ready_as_it_is problem problem_is none = record {
-    within = omega arith;
-    first = ap (λ (o : Option Problem). base_of o p) problem_is ∙ sym base_is ∙ brought most base is.within (sym (unmarked (pending most) (drop ready.from es) base none));
+  pub ready_as_it_is : (new : Ready) → new.problem ≡ ready.problem → new.narrow ≡ ready.narrow → new.from ≡ most → list_all not (pending most) ≡ true → IsReady p es marks most new
+  ready_as_it_is new problem_is narrow_is from_is none = record {
+    within = omega (arith, from_is);
+    first = ap (λ (o : Option Problem). base_of o p) problem_is ∙ sym base_is ∙ brought most base is.within (sym (unmarked (pending most) (drop ready.from es) base none)) ∙ ap (λ (n : ℕ). with_marked (take n marks) es p) (sym from_is);
+    narrow = subst (StandFor (base_of new.problem p).cases) (sym narrow_is) (subst (λ (o : Option Problem). StandFor (base_of o p).cases ready.narrow) (sym problem_is) is.narrow);
   }
 
 -- a mark more
@@ -131,11 +134,20 @@ pub ready_next : (p : Problem) (es : List Extra) (marks after : List Bool) (mark
 ready_next p es marks after mark ready is so_far = record {
   within = omega (arith, so_far.within, ap length is, length-append marks (mark ∷ []));
   first = so_far.first ∙ ap (λ (ms : List Bool). with_marked ms es p) (sym (take-append-le ready.from marks (mark ∷ []) so_far.within) ∙ ap (take ready.from) (sym is));
+  narrow = so_far.narrow;
 }
 
 -- more marks may count
 pub ready_wider : (p : Problem) (es : List Extra) (marks : List Bool) (n m : ℕ) (ready : Ready) → n ≤ m → IsReady p es marks n ready → IsReady p es marks m ready
-ready_wider p es marks n m ready le is = record { within = omega (arith, le, is.within); first = is.first }
+ready_wider p es marks n m ready le is = record { within = omega (arith, le, is.within); first = is.first; narrow = is.narrow }
+
+-- only the narrow cases changed
+pub ready_settled : (p : Problem) (es : List Extra) (marks : List Bool) (n : ℕ) (before after : Ready) → after.problem ≡ before.problem → after.from ≡ before.from → (StandFor (base_of before.problem p).cases before.narrow → StandFor (base_of before.problem p).cases after.narrow) → IsReady p es marks n before → IsReady p es marks n after
+ready_settled p es marks n before after problem_is from_is narrow is = record {
+  within = omega (arith, from_is, is.within);
+  first = ap (λ (o : Option Problem). base_of o p) problem_is ∙ is.first ∙ ap (λ (k : ℕ). with_marked (take k marks) es p) (sym from_is);
+  narrow = subst (λ (o : Option Problem). StandFor (base_of o p).cases after.narrow) (sym problem_is) (narrow is.narrow);
+}
 
 -- the last mark is another one
 pub ready_after : (p : Problem) (es : List Extra) (marks tried after : List Bool) (mark other : Bool) (ready : Ready) → tried ≡ marks ++ mark ∷ [] → after ≡ marks ++ other ∷ [] → IsReady p es tried (length tried - 1) ready → IsReady p es after (length after) ready
@@ -146,4 +158,5 @@ ready_after p es marks tried after mark other ready tried_is after_is so_far =
       first = so_far.first ∙ ap (λ (ms : List Bool). with_marked ms es p) (
           ap (take ready.from) tried_is ∙ take-append-le ready.from marks (mark ∷ []) within ∙ sym (take-append-le ready.from marks (other ∷ []) within) ∙ ap (take ready.from) (sym after_is)
           );
+      narrow = so_far.narrow;
     }

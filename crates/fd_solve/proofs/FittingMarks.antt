@@ -86,7 +86,7 @@ sorted true true true true true false = refl
 sorted true true true true true true = refl
 
 -- within is told by the domains alone
-within_same : (c d : Case) (x : Assignment) → c.doms ≡ d.doms → is_within c x ≡ is_within d x
+pub within_same : (c d : Case) (x : Assignment) → c.doms ≡ d.doms → is_within c x ≡ is_within d x
 unfolding is_within domain_of
 within_same c d x e = ap (λ (ds : List (List ℕ)). list_all (λ s. is_in (slice_index_or ds (slot_number s) []) (value_of x s)) SLOTS) e
 

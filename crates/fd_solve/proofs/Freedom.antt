@@ -15,7 +15,8 @@ use Rattle.fd_prob.specs.Order.{IsAssignment, rank}
 use Rattle.fd_prob.specs.Relations.{holds, value_of}
 use Rattle.rv_isa.specs.Numbers.{op_numbered}
 use Rattle.fd_prob.specs.Slots.{slot_number}
-use Rattle.fd_solve.specs.Free.{IsFirstPassing, IsFree, IsSettled, mentions, own_hold, put}
+use Rattle.fd_narrow.specs.Mentions.{mentions}
+use Rattle.fd_solve.specs.Free.{IsFirstPassing, IsFree, IsSettled, own_hold, put}
 use Rattle.fd_solve.specs.Search.{FixedBelow, IsCut, IsMet, LeastOrNone}
 use Rattle.fd_solve.proofs.Cuts.{equal_or_not}
 use Rattle.fd_solve.proofs.Mentions.{Agree, holds_same}

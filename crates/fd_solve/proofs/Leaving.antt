@@ -12,7 +12,8 @@ use Rattle.fd_prob.specs.declared.slot.Slot.{Slot}
 use Rattle.fd_prob.specs.Relations.{holds}
 use Rattle.rv_isa.specs.Numbers.{op_numbered}
 use Rattle.fd_solve.specs.Easier.{AreBlind, IsEasier}
-use Rattle.fd_solve.specs.Free.{mentions, put}
+use Rattle.fd_narrow.specs.Mentions.{mentions}
+use Rattle.fd_solve.specs.Free.{put}
 use Rattle.fd_solve.specs.Search.{IsCut, IsMet}
 use Rattle.fd_prob.proofs.Places.{same_slot}
 use Rattle.fd_solve.proofs.Freedom.{put_here, put_inside, put_there, put_word}

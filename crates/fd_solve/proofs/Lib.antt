@@ -2,6 +2,7 @@ pub mod Ranks
 pub mod Orders
 pub mod Searching
 pub mod Cuts
+pub mod EqualSlots
 pub mod Lists
 pub mod OneOperation
 pub mod Joining
@@ -25,3 +26,4 @@ pub mod Dropping
 pub mod Mentions
 pub mod Freedom
 pub mod Leaving
+pub mod Equivalence

@@ -1,10 +1,12 @@
 -- Where one register has one value and both registers are the same, so are their values.
-use Rattle.std.proofs.Common.{◌≡◌, ◌==◌, ℕ, Bool, true, false, not, ◌&&◌, ◌||◌, List, [], ◌∷◌, ◌++◌, refl, sym, ap, ◌∙◌, eqb-true, slice_index}
+use Rattle.std.proofs.Common.{◌≡◌, ◌==◌, ℕ, Bool, true, false, not, ◌&&◌, ◌||◌, List, [], ◌∷◌, ◌++◌, refl, sym, ap, ◌∙◌, eqb-true, slice_index, IsTrue}
 use Rattle.std.specs.List.{list_all, list_any}
 use Rattle.std.proofs.Math.Bool.{or-true}
 use Rattle.std.proofs.lemmas.Bool.{and_parts, and_right, eq-eqb, false≢true}
 use Rattle.std.proofs.lemmas.List.Folds.{list_any-append}
+use Rattle.std.proofs.lemmas.List.Sums.{AllPass-from_list_all, list_all-from_AllPass}
 use Rattle.rv_isa.specs.declared.operation.Op.{Op}
+use Rattle.fd_narrow.specs.Narrowing.{AllHold}
 use Rattle.fd_prob.specs.declared.problem.Assignment.{Assignment}
 use Rattle.fd_prob.specs.declared.relation.Rel.{Rel}
 use Rattle.fd_prob.specs.declared.relation.Rel.TheVariants.{Same, Linked}
@@ -51,19 +53,33 @@ pair_tells op x s t _ is held = absurd (cc is)
 linked_values : (x : Assignment) → is_linked x ≡ true → is_same x slots.Rs1 slots.Rs2 ≡ true → is_same x slots.A slots.B ≡ true
 linked_values x linked same = sym (ap (λ (p : Bool). not p || is_same x slots.A slots.B) same) ∙ linked
 
--- the relation between the values that is added holds wherever all the others do
-pub with_values : (rels before made : List Rel) → AreAlike rels before → lacks_value before ≡ true → made ≡ before ++ Same slots.A slots.B ∷ [] → AreAlike rels made
-with_values rels before made alike lacks is op x = all_with op x before made (Same slots.A slots.B) is ∙ either (list_all (holds op x) before) refl ∙ alike op x
+-- the values are the same where all hold, since one register has one value and the registers are said to be the same
+pub lacking_same : (rels : List Rel) → lacks_value rels ≡ true → (op : Op) (x : Assignment) → AllHold op rels x → IsTrue (is_same x slots.A slots.B)
+lacking_same rels lacks op x hold = linked_values x linked same
   where
-    both : (list_any is_link before ≡ true) × (list_any (equates slots.Rs1 slots.Rs2) before ≡ true)
-    both = and_parts (list_any is_link before) (list_any (equates slots.Rs1 slots.Rs2) before) (and_parts (list_any is_link before && list_any (equates slots.Rs1 slots.Rs2) before) (not (list_any (equates slots.A slots.B) before)) lacks).0
+    both : (list_any is_link rels ≡ true) × (list_any (equates slots.Rs1 slots.Rs2) rels ≡ true)
+    both = and_parts (list_any is_link rels) (list_any (equates slots.Rs1 slots.Rs2) rels) (and_parts (list_any is_link rels && list_any (equates slots.Rs1 slots.Rs2) rels) (not (list_any (equates slots.A slots.B) rels)) lacks).0
 
+    all : list_all (holds op x) rels ≡ true
+    all = list_all-from_AllPass (holds op x) rels hold
+
+    linked : is_linked x ≡ true
+    linked = told is_link (holds op x) (is_linked x) (link_tells op x) rels both.0 all
+
+    same : is_same x slots.Rs1 slots.Rs2 ≡ true
+    same = told (equates slots.Rs1 slots.Rs2) (holds op x) (is_same x slots.Rs1 slots.Rs2) (pair_tells op x slots.Rs1 slots.Rs2) rels both.1 all
+
+-- the same, where the registers are of one class
+pub linked_same : (rels : List Rel) → list_any is_link rels ≡ true → ((op : Op) (x : Assignment) → AllHold op rels x → IsTrue (is_same x slots.Rs1 slots.Rs2)) → (op : Op) (x : Assignment) → AllHold op rels x → IsTrue (is_same x slots.A slots.B)
+linked_same rels some one op x hold = linked_values x (told is_link (holds op x) (is_linked x) (link_tells op x) rels some (list_all-from_AllPass (holds op x) rels hold)) (one op x hold)
+
+-- the relation between the values that is added holds wherever all the others do
+pub with_values : (rels before made : List Rel) → AreAlike rels before → ((op : Op) (x : Assignment) → AllHold op before x → IsTrue (is_same x slots.A slots.B)) → made ≡ before ++ Same slots.A slots.B ∷ [] → AreAlike rels made
+with_values rels before made alike same is op x = all_with op x before made (Same slots.A slots.B) is ∙ either (list_all (holds op x) before) refl ∙ alike op x
+  where
     either : (h : Bool) → list_all (holds op x) before ≡ h → (list_all (holds op x) before && is_same x slots.A slots.B) ≡ list_all (holds op x) before
     either false h_is = ap (λ (p : Bool). p && is_same x slots.A slots.B) h_is ∙ sym h_is
-    either true h_is =
-        let linked : is_linked x ≡ true = told is_link (holds op x) (is_linked x) (link_tells op x) before both.0 h_is in
-        let same : is_same x slots.Rs1 slots.Rs2 ≡ true = told (equates slots.Rs1 slots.Rs2) (holds op x) (is_same x slots.Rs1 slots.Rs2) (pair_tells op x slots.Rs1 slots.Rs2) before both.1 h_is in
-        ap (λ (p : Bool). p && is_same x slots.A slots.B) h_is ∙ linked_values x linked same ∙ sym h_is
+    either true h_is = ap (λ (p : Bool). p && is_same x slots.A slots.B) h_is ∙ same op x (AllPass-from_list_all (holds op x) before h_is) ∙ sym h_is
 
 -- then one says that the values are the same
 pub no_more_lacks : (before made : List Rel) → made ≡ before ++ Same slots.A slots.B ∷ [] → lacks_value made ≡ false

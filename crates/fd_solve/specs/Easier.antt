@@ -6,7 +6,7 @@ use Rattle.fd_prob.specs.declared.problem.Assignment.{Assignment}
 use Rattle.fd_prob.specs.declared.problem.Case.{Case}
 use Rattle.fd_prob.specs.declared.relation.Rel.{Rel}
 use Rattle.fd_prob.specs.declared.slot.Slot.{Slot}
-use Rattle.fd_solve.specs.Free.{mentions}
+use Rattle.fd_narrow.specs.Mentions.{mentions}
 
 -- none of them looks at the variable, and they hold where the relations do
 pub record AreBlind (s : Slot) (rels left : List Rel) : Type 0 where

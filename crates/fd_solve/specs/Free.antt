@@ -1,33 +1,16 @@
 -- Variables for which one value is as good as another.
-use Rattle.std.specs.Prelude.{◌≡◌, ◌≢◌, ℕ, ◌<◌, Bool, true, false, not, ◌||◌, ◌==◌, List, All, IsTrue, length, slice_set, Option, MatchOption}
+use Rattle.std.specs.Prelude.{◌≡◌, ◌≢◌, ℕ, ◌<◌, Bool, true, false, not, ◌||◌, List, All, IsTrue, length, slice_set, Option, MatchOption}
 use Rattle.std.specs.List.{list_all}
 use Rattle.dom_set.specs.Elements.{is_in}
 use Rattle.rv_isa.specs.declared.operation.Op.{Op}
+use Rattle.fd_narrow.specs.Mentions.{mentions}
 use Rattle.fd_narrow.specs.Narrowing.{domain_in}
 use Rattle.fd_prob.specs.declared.problem.Assignment.{Assignment}
 use Rattle.fd_prob.specs.declared.relation.Rel.{Rel}
-use Rattle.fd_prob.specs.declared.relation.Rel.TheVariants.{Same, Differ, Sum, Taken, Holds, Linked, Target, Writes, Rows}
 use Rattle.fd_prob.specs.declared.slot.Slot.{Slot}
-use Rattle.fd_prob.specs.declared.slot.Slot.TheVariants as slots
 use Rattle.fd_prob.specs.Order.{rank}
 use Rattle.fd_prob.specs.Relations.{holds}
 use Rattle.fd_prob.specs.Slots.{slot_number}
-
--- both are one variable
-abbrev pub is_slot : Slot → Slot → Bool
-is_slot s t = slot_number s == slot_number t
-
--- the relation may look at the value of the variable, by what the operation is
-abbrev pub mentions : Rel → Slot → Bool
-mentions (Same s t) v = is_slot s v || is_slot t v
-mentions (Differ s t) v = is_slot s v || is_slot t v
-mentions (Sum s t u) v = is_slot s v || is_slot t v || is_slot u v
-mentions (Taken taken) v = is_slot slots.A v || is_slot slots.B v
-mentions (Holds index value table) v = is_slot index v || is_slot value v
-mentions Linked v = is_slot slots.Rs1 v || is_slot slots.Rs2 v || is_slot slots.A v || is_slot slots.B v
-mentions (Target pc set) v = is_slot slots.A v || is_slot slots.Imm v
-mentions Writes v = is_slot slots.Rs1 v || is_slot slots.A v || is_slot slots.Imm v || is_slot slots.Csr v || is_slot slots.OldCsr v
-mentions (Rows rows) v = is_slot slots.Ea v || is_slot slots.FirstPte v || is_slot slots.SecondPte v || is_slot slots.DataWord v
 
 -- the assignment with another value for the variable
 abbrev pub put : Assignment → Slot → ℕ → Assignment

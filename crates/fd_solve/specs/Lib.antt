@@ -1,3 +1,5 @@
+pub mod Classes
+pub mod Equivalent
 pub mod Answers
 pub mod Dropping
 pub mod Known

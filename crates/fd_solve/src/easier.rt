@@ -3,8 +3,8 @@ ghost use Rattle.std.specs.Prelude.{◌≡◌, IfOk, length};
 ghost use Rattle.fd_prob.specs.Fitting.{IsCase};
 ghost use Rattle.fd_solve.specs.Easier.{AreBlind, IsEasier};
 
-use crate::free::mentions;
 use dom_set::{OutOfMemory, Set};
+use fd_narrow::mentions;
 use fd_prob::{Case, Items, Rel, Slot};
 use std::alloc::Global;
 

@@ -1,52 +1,13 @@
 // Variables of which only one value need be tried.
 ghost use Rattle.std.specs.Prelude.{◌≡◌, IsTrue};
-ghost use Rattle.fd_solve.specs.Free.{IsFirstPassing, IsFree, IsSettled, is_slot, mentions, own_hold, put};
+ghost use Rattle.fd_solve.specs.Free.{IsFirstPassing, IsFree, IsSettled, own_hold, put};
 
 use crate::order::{next_from, rank};
 use crate::place::slot_at;
 use dom_set::Set;
-use fd_narrow::Domains;
+use fd_narrow::{Domains, mentions};
 use fd_prob::{Assignment, Rel, Slot, holds};
 use rv_isa::Op;
-
-fn is_slot(s: Slot, t: Slot) -> bool
-    ensures { result ≡ is_slot s t }
-{
-    s.number() == t.number()
-}
-
-/// Whether the relation may look at the value of the variable, by what the operation is.
-pub fn mentions(rel: &Rel, v: Slot) -> bool
-    ensures { result ≡ mentions rel.now v }
-{
-    match rel {
-        Rel::Same(s, t) => is_slot(*s, v) || is_slot(*t, v),
-        Rel::Differ(s, t) => is_slot(*s, v) || is_slot(*t, v),
-        Rel::Sum(s, t, u) => is_slot(*s, v) || is_slot(*t, v) || is_slot(*u, v),
-        Rel::Taken(_) => is_slot(Slot::A, v) || is_slot(Slot::B, v),
-        Rel::Holds { index, value, .. } => is_slot(*index, v) || is_slot(*value, v),
-        Rel::Linked => {
-            is_slot(Slot::Rs1, v)
-                || is_slot(Slot::Rs2, v)
-                || is_slot(Slot::A, v)
-                || is_slot(Slot::B, v)
-        }
-        Rel::Target(..) => is_slot(Slot::A, v) || is_slot(Slot::Imm, v),
-        Rel::Writes => {
-            is_slot(Slot::Rs1, v)
-                || is_slot(Slot::A, v)
-                || is_slot(Slot::Imm, v)
-                || is_slot(Slot::Csr, v)
-                || is_slot(Slot::OldCsr, v)
-        }
-        Rel::Rows(_) => {
-            is_slot(Slot::Ea, v)
-                || is_slot(Slot::FirstPte, v)
-                || is_slot(Slot::SecondPte, v)
-                || is_slot(Slot::DataWord, v)
-        }
-    }
-}
 
 /// Whether each variable that the relation looks at has one value, but for this one.
 fn is_settled(doms: &Domains, slot: Slot, rel: &Rel) -> bool
@@ -54,7 +15,10 @@ fn is_settled(doms: &Domains, slot: Slot, rel: &Rel) -> bool
 {
     for i in 0..14 {
         let other = slot_at(i);
-        if !is_slot(other, slot) && mentions(rel, other) && !doms.domain(other).is_single() {
+        if other.number() != slot.number()
+            && mentions(rel, other)
+            && !doms.domain(other).is_single()
+        {
             return false;
         }
     }

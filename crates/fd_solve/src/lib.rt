@@ -7,6 +7,7 @@
 
 mod answers;
 mod cases;
+mod classes;
 mod easier;
 mod extended;
 mod firsts;
@@ -22,6 +23,7 @@ mod pivots;
 mod place;
 mod ready;
 mod search;
+mod sought;
 mod stronger;
 mod targets;
 

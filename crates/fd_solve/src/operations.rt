@@ -7,6 +7,7 @@ ghost use Rattle.fd_prob.specs.Order.{pivot_of};
 ghost use Rattle.fd_prob.specs.Spaces.{space};
 ghost use Rattle.fd_solve.specs.declared.answers.Solved.TheVariants.{Found, NoneFits, Spent};
 ghost use Rattle.fd_solve.specs.Answers.{IsAnswer, IsLeast, NothingFits};
+ghost use Rattle.fd_solve.specs.Equivalent.{AreEquivalent};
 ghost use Rattle.fd_solve.specs.Marks.{IsSound, whole_of};
 ghost use Rattle.fd_solve.specs.Search.{IsLeastFrom, NoneBetween};
 
@@ -14,6 +15,7 @@ use crate::Solved;
 use crate::cases::solve_cases;
 use crate::marked::{Marked, pivots_with};
 use crate::pivots::operation_pivot;
+use crate::sought::Sought;
 use dom_set::OutOfMemory;
 use fd_prob::{Assignment, Problem, fitting_laws, space};
 use std::alloc::Global;
@@ -22,18 +24,20 @@ use std::alloc::Global;
 fn solve_between(
     alloc: Global,
     marked: &Marked,
+    sought: &Sought,
     pivot: u8,
     from: u8,
     to: u8,
 ) -> Result<Option<Assignment>, OutOfMemory>
     requires sound { IsSound marked.now }
+    requires cases { AreEquivalent marked.now.problem.now.cases sought.now.cases.now }
     requires pivot { (op : ℕ) → pivot ≡ pivot_of (whole_of marked.now) op slots.Op }
     ensures { IfOk result (λ o. MatchOption o (NoneBetween (whole_of marked.now) from to) (IsLeastFrom (whole_of marked.now) from)) }
 {
     fitting_laws();
     for op in from..to {
         if let Some(pivots) = pivots_with(marked, op, pivot) {
-            if let Some(x) = solve_cases(alloc, marked, op, &pivots)? {
+            if let Some(x) = solve_cases(alloc, marked, sought, op, &pivots)? {
                 return Ok(Some(x));
             }
         }
@@ -42,26 +46,34 @@ fn solve_between(
 }
 
 /// The least assignment that fits.
-fn least(alloc: Global, marked: &Marked, pivot: u8) -> Result<Option<Assignment>, OutOfMemory>
+fn least(
+    alloc: Global,
+    marked: &Marked,
+    sought: &Sought,
+    pivot: u8,
+) -> Result<Option<Assignment>, OutOfMemory>
     requires sound { IsSound marked.now }
+    requires cases { AreEquivalent marked.now.problem.now.cases sought.now.cases.now }
     requires pivot { (op : ℕ) → pivot ≡ pivot_of (whole_of marked.now) op slots.Op }
     ensures { IfOk result (λ o. MatchOption o (NothingFits (whole_of marked.now)) (IsLeast (whole_of marked.now))) }
 {
     fitting_laws();
-    if let Some(x) = solve_between(alloc, marked, pivot, pivot, 58)? {
+    if let Some(x) = solve_between(alloc, marked, sought, pivot, pivot, 58)? {
         return Ok(Some(x));
     }
-    let lower = solve_between(alloc, marked, pivot, 0, pivot)?;
+    let lower = solve_between(alloc, marked, sought, pivot, 0, pivot)?;
     Ok(lower)
 }
 
-/// The answer of the problem with its marked biases under each budget that its space is within.
-pub fn searched(alloc: Global, marked: &Marked) -> Result<Solved, OutOfMemory>
-    requires { IsSound marked.now }
+/// The answer of the problem with its marked biases under each budget that its space is within, by a search of the cases that
+/// stand for the problem's.
+pub fn searched(alloc: Global, marked: &Marked, sought: &Sought) -> Result<Solved, OutOfMemory>
+    requires sound { IsSound marked.now }
+    requires cases { AreEquivalent marked.now.problem.now.cases sought.now.cases.now }
     ensures { IfOk result (λ solved. (nodes : ℕ) → space (whole_of marked.now) ≤ nodes → IsAnswer (whole_of marked.now) nodes solved) }
 {
     let pivot = operation_pivot(alloc, marked.firsts)?;
-    match least(alloc, marked, pivot)? {
+    match least(alloc, marked, sought, pivot)? {
         Some(x) => Ok(Solved::Found(x)),
         None => Ok(Solved::NoneFits),
     }
@@ -75,7 +87,11 @@ pub fn answer_of(alloc: Global, marked: &Marked, nodes: u64) -> Result<Solved, O
     if nodes < space(marked.firsts) {
         return Ok(Solved::Spent);
     }
-    let solved = searched(alloc, marked)?;
+    let sought = Sought {
+        cases: marked.problem.cases.as_slice(),
+        are_narrow: false,
+    };
+    let solved = searched(alloc, marked, &sought)?;
     Ok(solved)
 }
 

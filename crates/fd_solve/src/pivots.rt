@@ -47,6 +47,9 @@ pub fn operation_pivot(alloc: Global, p: &Problem) -> Result<u8, OutOfMemory>
 fn picked(draw: u32, domain: &Set) -> u32
     ensures { result ≡ picked draw domain.now }
 {
+    if let Some(value) = domain.only() {
+        return value;
+    }
     let size = domain.size();
     if size == 0 {
         0

@@ -1,16 +1,19 @@
 // A problem with the biases that were kept, from which searches go on.
-ghost use Rattle.std.specs.Prelude.{◌≡◌, ◌≤◌, ℕ, IfOk, None, OnOk, length, not};
+ghost use Rattle.std.specs.Prelude.{◌≡◌, ◌≤◌, ℕ, All, IfOk, None, OnOk, length, not};
 ghost use Rattle.std.specs.List.{list_all};
 ghost use Rattle.fd_prob.specs.Spaces.{space};
 ghost use Rattle.fd_solve.specs.Answers.{IsAnswer};
-ghost use Rattle.fd_solve.specs.Marks.{IsSound, whole_of};
+ghost use Rattle.fd_prob.specs.Fitting.{IsProblem};
+ghost use Rattle.fd_solve.specs.Equivalent.{AreEquivalent, StandFor};
+ghost use Rattle.fd_solve.specs.Marks.{IsSound, base_of, whole_of, with_marked};
 ghost use Rattle.fd_solve.specs.Ready.{IsReady};
 
 use crate::answers::Solved;
 use crate::marked::{Marked, base_of, with_marked};
 use crate::operations::searched;
+use crate::sought::{Sought, narrow_cases, narrow_cases_more};
 use dom_set::OutOfMemory;
-use fd_prob::Problem;
+use fd_prob::{Case, Extra, Items, Problem};
 use std::alloc::Global;
 
 /// A problem with the first ones of its marked biases. It is brought up to further marks only where a search needs them, so
@@ -21,6 +24,10 @@ pub struct Ready {
     problem: Option<Problem>,
     /// How many marks it is brought up to.
     from: usize,
+    /// Cases that stand for its own, with narrowed domains. None where they weren't made, as before a second search.
+    narrow: Option<Items<Case>>,
+    /// Whether it was searched before.
+    was_searched: bool,
 }
 
 /// Whether none is marked.
@@ -30,15 +37,59 @@ fn are_unmarked(marks: &[bool]) -> bool
     marks.iter().all(|mark| !*mark)
 }
 
+/// The narrow cases where there are some, and else the problem's own.
+fn sought_of<'a>(narrow: &'a Option<Items<Case>>, p: &'a Problem) -> Sought<'a>
+    requires problem { IsProblem p.now }
+    requires narrow { StandFor p.now.cases narrow.now }
+    ensures { AreEquivalent p.now.cases result.cases.now }
+{
+    match narrow {
+        Some(cases) => Sought {
+            cases: cases.as_slice(),
+            are_narrow: true,
+        },
+        None => Sought {
+            cases: p.cases.as_slice(),
+            are_narrow: false,
+        },
+    }
+}
+
+/// The narrow cases with what marked biases add to them, where there are some.
+fn brought(
+    alloc: Global,
+    narrow: &Option<Items<Case>>,
+    p: &Problem,
+    biases: &[Extra],
+    marks: &[bool],
+) -> Result<Option<Items<Case>>, OutOfMemory>
+    requires problem { IsProblem p.now }
+    requires entries { All (λ e. length e.cases ≡ length p.now.cases) biases.now }
+    requires room { length marks.now ≤ length biases.now }
+    requires narrow { StandFor p.now.cases narrow.now }
+    ensures { IfOk result (StandFor (with_marked marks.now biases.now p.now).cases) }
+{
+    match narrow {
+        Some(cases) => {
+            let made = narrow_cases_more(alloc, cases.as_slice(), biases, marks)?;
+            Ok(Some(made))
+        }
+        None => Ok(None),
+    }
+}
+
 impl Ready {
     /// The problem itself, brought up to no mark yet.
     pub fn new() -> Ready
         ensures problem { result.problem ≡ None }
         ensures from { result.from ≡ 0 }
+        ensures narrow { result.narrow ≡ None }
     {
         Ready {
             problem: None,
             from: 0,
+            narrow: None,
+            was_searched: false,
         }
     }
 
@@ -52,10 +103,30 @@ impl Ready {
         let pending = &marked.marks[self.from..to];
         if !are_unmarked(pending) {
             let base = base_of(&self.problem, marked.problem);
-            let made = with_marked(alloc, base, &marked.biases[self.from..], pending)?;
+            let biases = &marked.biases[self.from..];
+            let narrow = brought(alloc, &self.narrow, base, biases, pending)?;
+            let made = with_marked(alloc, base, biases, pending)?;
             self.problem = Some(made);
+            self.narrow = narrow;
         }
         self.from = to;
+        Ok(())
+    }
+
+    /// Makes cases with narrowed domains before a second search: the first one may end at an early case, and all are
+    /// narrowed here.
+    fn settle(&mut self, alloc: Global, marked: &Marked) -> Result<(), OutOfMemory>
+        requires problem { IsProblem (base_of self.old.problem marked.now.problem.now) }
+        ensures problem { self.new.problem ≡ self.old.problem }
+        ensures from { self.new.from ≡ self.old.from }
+        ensures narrow { OnOk result (StandFor (base_of self.old.problem marked.now.problem.now).cases self.old.narrow → StandFor (base_of self.old.problem marked.now.problem.now).cases self.new.narrow) }
+    {
+        if self.was_searched && self.narrow.is_none() {
+            let base = base_of(&self.problem, marked.problem);
+            let made = narrow_cases(alloc, base.cases.as_slice())?;
+            self.narrow = Some(made);
+        }
+        self.was_searched = true;
         Ok(())
     }
 
@@ -72,7 +143,8 @@ impl Ready {
             marks: &marked.marks[self.from..],
             firsts: marked.firsts,
         };
-        let solved = searched(alloc, &rest)?;
+        let sought = sought_of(&self.narrow, rest.problem);
+        let solved = searched(alloc, &rest, &sought)?;
         Ok(solved)
     }
 
@@ -90,6 +162,7 @@ impl Ready {
         ensures ready { OnOk result (IsReady marked.now.problem.now marked.now.biases.now marked.now.marks.now to self.new) }
     {
         self.bring(alloc, marked, to)?;
+        self.settle(alloc, marked)?;
         self.search_rest(alloc, marked)
     }
 }

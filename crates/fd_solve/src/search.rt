@@ -12,7 +12,7 @@ use crate::free::{first_passing, is_free};
 use crate::order::{next_from, rank};
 use crate::place::slot_at;
 use dom_set::{OutOfMemory, Set, set_laws};
-use fd_narrow::Domains;
+use fd_narrow::{Domains, Losses};
 use fd_prob::{Assignment, Case, Slot, all_hold};
 use std::alloc::Global;
 
@@ -25,13 +25,16 @@ fn only(alloc: Global, value: u32) -> Result<Set, OutOfMemory>
     Ok(set)
 }
 
-/// The domains with one value for a variable, narrowed by the relations of the case.
+/// The domains with one value for a variable, narrowed by the relations of the case, where they were narrowed before by the
+/// first ones, `known`, and since then just some variables lost values.
 pub fn with_value(
     alloc: Global,
     case: &Case,
     doms: Domains,
     slot: Slot,
     value: u32,
+    known: usize,
+    losses: &Losses,
 ) -> Result<Domains, OutOfMemory>
     requires case { IsCase case.now }
     requires element { IsTrue (is_in (domain_in doms slot) value) }
@@ -41,7 +44,7 @@ pub fn with_value(
     // `count` says that there is a domain at the variable's place.
     let _count = cut.count();
     cut.set(slot, only(alloc, value)?);
-    let narrowed = cut.narrowed(alloc, case.operation(), case.rels.as_slice())?;
+    let narrowed = cut.narrowed_from(alloc, case.operation(), case.rels.as_slice(), known, losses)?;
     Ok(narrowed)
 }
 
@@ -50,6 +53,15 @@ pub fn words(values: &[u32])
     ensures { All (λ v. v < 2 ^ 32) values.now }
 {
     let _ = values;
+}
+
+/// Just the variable at the place lost values.
+fn loss_at(place: usize) -> Losses
+    requires { place < 14 }
+{
+    let mut losses = [false; 14];
+    losses[place] = true;
+    losses
 }
 
 /// Values that are in the domains, unless one of these is empty.
@@ -95,35 +107,60 @@ pub fn search(
     if place == 14 {
         return Ok(last(case, doms));
     }
-    // Where a domain is empty there is nothing to look for.
-    let Some(base) = lowest(doms) else {
-        return Ok(None);
-    };
     let slot = slot_at(place);
     let domain = doms.domain(slot);
     if domain.is_single() {
         return search(alloc, case, pivots, doms, place + 1);
     }
+    // Where a domain is empty there is nothing to look for.
+    let Some(base) = lowest(doms) else {
+        return Ok(None);
+    };
     let pivot = pivots[place];
+    let losses = loss_at(place);
     let rels = case.rels.as_slice();
     if is_free(doms, slot, rels) {
         let Some(value) = first_passing(case.operation(), &base, slot, rels, domain, pivot) else {
             return Ok(None);
         };
-        let cut = with_value(alloc, case, doms.copy(alloc)?, slot, value)?;
+        let cut = with_value(
+            alloc,
+            case,
+            doms.copy(alloc)?,
+            slot,
+            value,
+            rels.len(),
+            &losses,
+        )?;
         let least = search(alloc, case, pivots, &cut, place + 1)?;
         return Ok(least);
     }
     let mut k: u64 = 0;
     while let Some(value) = next_from(domain, pivot, k) {
-        let cut = with_value(alloc, case, doms.copy(alloc)?, slot, value)?;
+        let cut = with_value(
+            alloc,
+            case,
+            doms.copy(alloc)?,
+            slot,
+            value,
+            rels.len(),
+            &losses,
+        )?;
         if let Some(x) = search(alloc, case, pivots, &cut, place + 1)? {
             return Ok(Some(x));
         }
         // Where there is nothing even without the relations that look at the variable, no other value helps.
         if k == 0 {
             let easier = without(alloc, case, slot)?;
-            let fixed = with_value(alloc, &easier, doms.copy(alloc)?, slot, value)?;
+            let fixed = with_value(
+                alloc,
+                &easier,
+                doms.copy(alloc)?,
+                slot,
+                value,
+                rels.len(),
+                &losses,
+            )?;
             if search(alloc, &easier, pivots, &fixed, place + 1)?.is_none() {
                 return Ok(None);
             }

@@ -1,6 +1,5 @@
 -- What sums leave when they are divided by a power of two.
 use Rattle.std.proofs.Common.{◌≡◌, ℕ, ◌+◌, ◌*◌, ◌/◌, ◌%◌, ◌^◌, ◌<◌, ◌≤◌, ◌==◌, ◌-◌, inl, inr, true, false, All, List, [], ◌∷◌, ◌++◌, IsTrue, bit_and, sym, ap, ◌∙◌, subst, arith, eq-eqb}
-use Rattle.std.specs.List.{filter}
 use Rattle.std.proofs.lemmas.Bool.{cases_eq}
 use Rattle.std.proofs.lemmas.List.Folds.{list_any-append}
 use Rattle.std.proofs.lemmas.Nat.{and_block, and_le_r, and_mask, mod-pow-add, mod_below, mul-mod_second, pow-add, pow_below, pow_pos}
@@ -9,8 +8,8 @@ use Rattle.std.proofs.Math.Pow.{mod-mod-pow}
 use Rattle.dom_set.specs.Elements.{elements_of, is_in, is_matching}
 use Rattle.dom_set.specs.Laws.{ElementsPass, IsInTests}
 use Rattle.set_sums.specs.Remainders.{AreClasses, HasClasses, HasClassSums, HasRemainders}
-use Rattle.set_sums.specs.Spans.{HasDifferences, HasDifferencesWithin, HasSumsWithin}
-use Rattle.set_sums.proofs.Members.{element, is_in-elements_of, is_in-filter, joined}
+use Rattle.set_sums.specs.Spans.{HasDifferences}
+use Rattle.set_sums.proofs.Members.{element, is_in-elements_of}
 use Rattle.set_sums.proofs.Spans.{first_of_two, second_of_two}
 
 -- a number matches the pattern of what it leaves
@@ -95,22 +94,9 @@ pub by_classes : (first second firsts others set : List ℕ) (times k : ℕ) →
 by_classes first second firsts others set times k lt one two sums v w in_first in_second =
     sums ((v + times * w) % 2 ^ 32) (v % 2 ^ k) (w % 2 ^ k) (word (v + times * w)) (one v in_first) (two w in_second) (low_of_word (v + times * w) k (omega (arith, lt)) ∙ sym (left_by k times v w))
 
--- what is in both
-in_both : (around classes made : List ℕ) (n : ℕ) → made ≡ filter (is_in classes) around → IsTrue (is_in around n) → IsTrue (is_in classes n) → IsTrue (is_in made n)
-in_both around classes made n is h k = subst IsTrue (sym (ap (λ (d : List ℕ). is_in d n) is ∙ is_in-filter (is_in classes) around n)) (joined (is_in classes n) (is_in around n) k h)
-
-once : (v w : ℕ) → (v + 1 * w) % 2 ^ 32 ≡ (v + w) % 2 ^ 32
-once v w = omega arith
-
-pub both_sums : (first second domain around classes made : List ℕ) → HasSumsWithin first second domain around → HasClassSums first second 1 classes → made ≡ filter (is_in classes) around → HasSumsWithin first second domain made
-both_sums first second domain around classes made sums same is v w h k d = in_both around classes made ((v + w) % 2 ^ 32) is (sums v w h k d) (subst (λ (n : ℕ). IsTrue (is_in classes n)) (once v w) (same v w h k))
-
 -- the greatest word stands for -1
 back : (v w : ℕ) → v < 2 ^ 32 → ((v + w) % 2 ^ 32 + (2 ^ 32 - 1) * w) % 2 ^ 32 ≡ v
 back v w small = omega (arith, small)
 
 pub class_has : (first second classes : List ℕ) → HasClassSums first second (2 ^ 32 - 1) classes → HasDifferences first second classes
 class_has first second classes same v w small h k = subst (λ (n : ℕ). IsTrue (is_in classes n)) (back v w small) (same ((v + w) % 2 ^ 32) w k h)
-
-pub both_differences : (first second domain around classes made : List ℕ) → All (λ x. x < 2 ^ 32) domain → HasDifferencesWithin first second domain around → HasDifferences first second classes → made ≡ filter (is_in classes) around → HasDifferencesWithin first second domain made
-both_differences first second domain around classes made words parts same is v w d h k = in_both around classes made v is (parts v w d h k) (same v w (element (λ n. n < 2 ^ 32) domain v words d) h k)

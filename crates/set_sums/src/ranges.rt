@@ -83,6 +83,9 @@ const FEW: u64 = 32;
 /// How many sums of ranges are kept, at most, where both sets are taken as they are.
 const MANY: usize = 8192;
 
+/// How many pairs of ranges are, at most, where the windows are not narrow.
+const PAIRS: usize = 131_072;
+
 /// How many are, where the windows are narrow.
 const MORE: usize = 1_048_576;
 
@@ -221,7 +224,7 @@ fn most_of(windows: &[Span], pairs: usize) -> usize {
     for window in windows {
         width = width.saturating_add(u64::from(window.1.saturating_sub(window.0)));
     }
-    let most = if width < NARROW { MORE } else { MANY };
+    let most = if width < NARROW { MORE } else { PAIRS };
     most.checked_div(pairs).unwrap_or(most)
 }
 

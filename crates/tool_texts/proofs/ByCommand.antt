@@ -11,10 +11,11 @@ use Rattle.trace_text.specs.Faults.{fault_text}
 use Rattle.trace_text.specs.Report.{report_text}
 use Rattle.trace_text.specs.Verdicts.{gave_up_text, malformed_text, verdict_text}
 use Rattle.tpl_ast.specs.Laws.{LongTextsAreRefused, TemplatesKeepLimits}
-use Rattle.tool_texts.specs.declared.command.Command.{Command}
-use Rattle.tool_texts.specs.declared.command.Command.TheVariants.{Gen, List as Listing, Replay}
-use Rattle.tool_texts.specs.declared.command.Effort.{Effort}
-use Rattle.tool_texts.specs.Commands.{limit_of, Answers}
+use Rattle.tool_words.specs.declared.command.Command.{Command}
+use Rattle.tool_words.specs.declared.command.Command.TheVariants.{Gen, List as Listing, Replay}
+use Rattle.tool_words.specs.declared.command.Effort.{Effort}
+use Rattle.tool_words.specs.Commands.{limit_of}
+use Rattle.tool_texts.specs.Commands.{Answers}
 use Rattle.tool_texts.specs.Gen.{GenAnswers}
 use Rattle.tool_texts.specs.Laws.{LimitsLoseNothing, OneAnswer, RefusalsAreReported, TextsAreShort}
 use Rattle.tool_texts.specs.Listing.{ListAnswers}

@@ -4,4 +4,4 @@ pub mod Tests
 pub mod Files
 pub mod Replays
 pub mod ByCommand
-pub mod Asking
+pub mod Refusals

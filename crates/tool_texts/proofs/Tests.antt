@@ -13,7 +13,7 @@ use Rattle.gen_turn.specs.Laws.{TextsTellWhatIsBuilt, TextsTellWhatIsMade}
 use Rattle.trace_text.specs.Faults.{fault_text}
 use Rattle.trace_text.specs.Report.{report_text}
 use Rattle.trace_text.specs.Verdicts.{gave_up_text}
-use Rattle.tool_texts.specs.declared.command.Effort.{Effort}
+use Rattle.tool_words.specs.declared.command.Effort.{Effort}
 use Rattle.tool_texts.specs.Tests.{IsGaveUpLine, IsRefusal, IsTemplateLine, IsTest}
 use Rattle.tool_texts.proofs.Told.{file_same, report_same}
 

@@ -2,8 +2,9 @@
 use Rattle.std.specs.Prelude.{◌≡◌, ◌≢◌, ℕ, ◌<◌, ◌↔◌, List, [], length, take}
 use Rattle.std.specs.List.{AllByRecursion}
 use Rattle.tpl_ast.specs.Limits.{text_room}
-use Rattle.tool_texts.specs.declared.command.Command.{Command}
-use Rattle.tool_texts.specs.Commands.{limit_of, Answers}
+use Rattle.tool_words.specs.declared.command.Command.{Command}
+use Rattle.tool_words.specs.Commands.{limit_of}
+use Rattle.tool_texts.specs.Commands.{Answers}
 
 -- a command has one answer at most to its bytes
 abbrev pub OneAnswer : Type 0

@@ -2,7 +2,7 @@
 use Rattle.std.specs.Prelude.{◌≡◌, List, ℕ, [], ◌⊎◌}
 use Rattle.tpl_admit.specs.declared.certificate.Cert.{Cert}
 use Rattle.trace_text.specs.Report.{report_text}
-use Rattle.tool_texts.specs.declared.command.Effort.{Effort}
+use Rattle.tool_words.specs.declared.command.Effort.{Effort}
 use Rattle.tool_texts.specs.Tests.{IsRefusal, IsTest}
 
 -- the report of the text's test

@@ -1,6 +1,6 @@
 -- Why no test of a text is given.
 use Rattle.std.specs.Prelude.{List, ℕ, ⊤}
-use Rattle.tool_texts.specs.declared.command.Effort.{Effort}
+use Rattle.tool_words.specs.declared.command.Effort.{Effort}
 use Rattle.tool_texts.specs.declared.test.NoTest.{NoTest}
 use Rattle.tool_texts.specs.declared.test.NoTest.TheVariants.{Refused, OutOfMemory}
 use Rattle.tool_texts.specs.Answers.{number_of}

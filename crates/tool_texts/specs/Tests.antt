@@ -8,7 +8,7 @@ use Rattle.gen_turn.specs.Built.{is_template_built}
 use Rattle.gen_turn.specs.Generating.{IsGivenUp, IsOfTest}
 use Rattle.trace_text.specs.Faults.{fault_text}
 use Rattle.trace_text.specs.Verdicts.{gave_up_text}
-use Rattle.tool_texts.specs.declared.command.Effort.{Effort}
+use Rattle.tool_words.specs.declared.command.Effort.{Effort}
 
 -- The certificate of the test in which the search for one of the text's template is done. It is well-formed, valid and faithful (`IsOfTest`): from every
 -- system that agrees with its start, under every order of steps, each hart's steps are its records, and its end holds; the template admits the trace.

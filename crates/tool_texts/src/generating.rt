@@ -8,10 +8,10 @@ ghost use Rattle.tool_texts.specs.Gen.{GenAnswers};
 
 use crate::OutOfMemory;
 use crate::answer::{Answer, Status};
-use crate::command::Effort;
-use crate::test::{NoTest, report_of, test_of};
+use crate::test::{refused, report_of, test_of};
 use elf_image::write;
 use std::alloc::Global;
+use tool_words::Effort;
 use tpl_admit::Cert;
 
 /// What `gen` answers to the bytes that it read.
@@ -24,8 +24,7 @@ pub(crate) fn gen_answer(
 {
     match test_of(alloc, effort, bytes) {
         Ok(test) => told(alloc, &test),
-        Err(NoTest::Refused(status, line)) => Ok(Answer::to_report(alloc, status, line)),
-        Err(NoTest::OutOfMemory) => Err(OutOfMemory),
+        Err(why) => refused(alloc, why),
     }
 }
 

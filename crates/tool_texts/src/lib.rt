@@ -11,6 +11,7 @@ mod replaying;
 mod test;
 
 pub use answer::{Answer, Status};
-pub use command::{Command, Effort, answer_to};
+pub use command::answer_to;
 pub use error::OutOfMemory;
 pub use laws::answer_laws;
+pub use tool_words::{Command, Effort};

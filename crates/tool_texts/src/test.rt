@@ -1,20 +1,21 @@
 // The test of a template's text.
-ghost use Rattle.std.specs.Prelude.{◌≡◌, ℕ, List, true, false, IfOk, IfErr, Err};
+ghost use Rattle.std.specs.Prelude.{◌≡◌, ℕ, List, [], true, false, IfOk, IfErr, Err};
 ghost use Rattle.tpl_admit.specs.WellFormed.{IsWellFormed};
 ghost use Rattle.trace_text.specs.Report.{report_text};
 ghost use Rattle.tpl_ast.specs.declared.template.Template.{Template as ATemplate};
 ghost use Rattle.tpl_ast.specs.Parsing.{Parses, parses};
 ghost use Rattle.gen_turn.specs.Built.{is_template_built};
 ghost use Rattle.gen_turn.specs.Generating.{IsGivenUp};
-ghost use Rattle.tool_texts.specs.declared.command.Effort.{Effort as AnEffort};
-ghost use Rattle.tool_texts.specs.Tests.{IsTest};
+ghost use Rattle.tool_words.specs.declared.command.Effort.{Effort as AnEffort};
+ghost use Rattle.tool_texts.specs.Answers.{number_of};
+ghost use Rattle.tool_texts.specs.Tests.{IsRefusal, IsTest};
 ghost use Rattle.tool_texts.specs.Reasons.{TellsNone};
 
 use crate::OutOfMemory;
-use crate::answer::Status;
-use crate::command::Effort;
+use crate::answer::{Answer, Status};
 use gen_turn::{Generated, generate, is_template_built};
 use std::alloc::Global;
+use tool_words::Effort;
 use tpl_admit::Cert;
 use tpl_ast::{Fault, Template};
 use tpl_parse::{ParseError, parse};
@@ -29,6 +30,17 @@ pub(crate) enum NoTest {
     /// The text is no template that this build generates from, or the search gave up: the status, and the line that says why.
     Refused(Status, Vec<u8>),
     OutOfMemory,
+}
+
+/// What is answered where no test of a text is given.
+pub(crate) fn refused(alloc: Global, why: NoTest) -> Result<Answer, OutOfMemory>
+    ensures out { IfOk result (λ a. a.out.items ≡ []) }
+    ensures report { (by : AnEffort) (text : List ℕ) → TellsNone by text why → IfOk result (λ a. IsRefusal by text (number_of a.status) a.report.items) }
+{
+    match why {
+        NoTest::Refused(status, line) => Ok(Answer::to_report(alloc, status, line)),
+        NoTest::OutOfMemory => Err(OutOfMemory),
+    }
 }
 
 /// The test of the template that the bytes are.

@@ -2,9 +2,10 @@
 use Rattle.std.proofs.Common.{◌≡◌, ℕ, ◌<◌, ◌≤◌, ◌⊎◌, inl, inr, List, length, drop, true, sym, ◌∙◌, subst, Some}
 use Rattle.std.specs.declared.option.Option.{Option}
 use Rattle.std.specs.Io.KnownBytes.{Consumes, IsAtEnd}
-use Rattle.tool_texts.specs.declared.command.Command.{Command}
+use Rattle.tool_words.specs.declared.command.Command.{Command}
 use Rattle.tool_texts.specs.Answers.{is_answer}
-use Rattle.tool_texts.specs.Commands.{limit_of, Answers, IsCommand}
+use Rattle.tool_words.specs.Commands.{limit_of, IsCommand}
+use Rattle.tool_texts.specs.Commands.{Answers}
 use Rattle.tool_top.specs.Promise.{AreGiven, IsAllRead, IsAnswered, IsComplete, IsRefused}
 use Rattle.tool_top.proofs.Reading.{Reads, are_taken, given_taken, read_all, reads_of, same_some}
 

@@ -4,8 +4,9 @@ use Rattle.std.specs.declared.option.Option.{Option}
 use Rattle.std.specs.Io.KnownBytes.{Appends, Consumes}
 use Rattle.streams.specs.Causes.{EndsAtFault, Rose}
 use Rattle.streams.specs.Sink.{GrowsByPrefix}
-use Rattle.tool_texts.specs.declared.command.Command.{Command}
-use Rattle.tool_texts.specs.Commands.{limit_of, Answers, IsCommand}
+use Rattle.tool_words.specs.declared.command.Command.{Command}
+use Rattle.tool_words.specs.Commands.{limit_of, IsCommand}
+use Rattle.tool_texts.specs.Commands.{Answers}
 
 -- WHAT IS READ
 

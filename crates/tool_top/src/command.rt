@@ -4,9 +4,9 @@ ghost use Rattle.tpl_ast.specs.Limits.{text_room};
 ghost use Rattle.streams.specs.Causes.{Rose, EndsAtFault};
 ghost use Rattle.streams.specs.Source.{TakesAtMost};
 ghost use Rattle.streams.specs.Sink.{HasRoom, Tells};
-ghost use Rattle.tool_texts.specs.declared.command.Command.{Command as ACommand};
+ghost use Rattle.tool_words.specs.declared.command.Command.{Command as ACommand};
 ghost use Rattle.tool_texts.specs.Answers.{is_answer};
-ghost use Rattle.tool_texts.specs.Commands.{limit_of, IsCommand};
+ghost use Rattle.tool_words.specs.Commands.{limit_of, IsCommand};
 ghost use Rattle.tool_top.specs.Promise.{AreCutShort, IsAllRead, IsAnswered, IsComplete, IsLeft, IsRefused, IsWritten, is_status, told_line, tells};
 
 use crate::words::ArgList;

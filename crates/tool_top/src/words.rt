@@ -2,9 +2,9 @@
 ghost use Rattle.std.specs.Prelude.{◌≡◌, ◌≢◌, ℕ, Some, [], ◌∷◌, ◌++◌, drop, map, string_bytes, IfOk, IfErr, OnOk, OnErr, IfSome, MatchResult};
 ghost use Rattle.std.specs.Vec.Iter.{into_iter_items};
 ghost use Rattle.std.specs.IoError.{error_kind};
-ghost use Rattle.tool_texts.specs.declared.command.Command.{Command as ACommand};
+ghost use Rattle.tool_words.specs.declared.command.Command.{Command as ACommand};
 ghost use Rattle.tool_top.specs.Words.{AreBehindName};
-ghost use Rattle.tool_texts.specs.Commands.{IsCommand};
+ghost use Rattle.tool_words.specs.Commands.{IsCommand};
 
 use std::alloc::{AllocError, Global};
 use std::env::Args;

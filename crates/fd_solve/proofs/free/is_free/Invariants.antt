@@ -1,6 +1,7 @@
 use Rattle.std.proofs.Common.{◌≡◌, true}
 use Rattle.std.specs.List.{AllWithin}
-use Rattle.fd_solve.specs.Free.{IsSettled, mentions}
+use Rattle.fd_narrow.specs.Mentions.{mentions}
+use Rattle.fd_solve.specs.Free.{IsSettled}
 use Rattle.fd_solve.proofs.free.is_free.Given as goal
 
 abbrev pub invariant-loop-rel : goal.invariant-loop-rel

@@ -5,7 +5,7 @@ use Rattle.fd_solve.proofs.FirstCases.{same_pivot}
 use Rattle.fd_solve.proofs.operations.searched.Goals as goal
 
 pub least-requires-clause-pivot : goal.least-requires-clause-pivot
-least-requires-clause-pivot c op = c.in_ok-pivot.ensures op ∙ same_pivot (whole_of c.args.marked.now) c.args.marked.now.firsts.now c.requires.firsts op slots.Op
+least-requires-clause-pivot c op = c.in_ok-pivot.ensures op ∙ same_pivot (whole_of c.args.marked.now) c.args.marked.now.firsts.now c.requires.sound.firsts op slots.Op
 
 pub returns-in-Some : goal.returns-in-Some
 returns-in-Some c = λ nodes within. (within, rw c.in-Some.is at c.in_ok-x.ensures)

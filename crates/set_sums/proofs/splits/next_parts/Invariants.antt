@@ -1,6 +1,5 @@
-use Rattle.std.proofs.Common.{take}
 use Rattle.set_sums.specs.Parts.{AreStillIn}
 use Rattle.set_sums.proofs.splits.next_parts.Given as goal
 
 abbrev pub invariant-loop-set : goal.invariant-loop-set
-invariant-loop-set l = AreStillIn (take l.set-index l.sets) l.parts.items
+invariant-loop-set l = AreStillIn l.yielded l.parts.items

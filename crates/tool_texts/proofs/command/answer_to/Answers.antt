@@ -2,7 +2,7 @@ use Rattle.std.proofs.Common.{◌≡◌, ℕ, suc, ◌<◌, List, [], ◌∷◌,
 use Rattle.std.specs.Prelude.{IfOk}
 use Rattle.std.specs.List.{AllByRecursion}
 use Rattle.tool_texts.specs.declared.answer.Answer.{Answer}
-use Rattle.tool_texts.specs.declared.command.Command.{Command}
+use Rattle.tool_words.specs.declared.command.Command.{Command}
 use Rattle.tool_texts.specs.declared.error.OutOfMemory.{OutOfMemory}
 use Rattle.tool_texts.specs.Answers.{number_of}
 use Rattle.tool_texts.specs.Commands.{Answers}

@@ -1,5 +1,5 @@
 use Rattle.std.proofs.Common.{◌∙◌, ℕ, List, IfSome, sym, ap, subst, map, string_bytes}
-use Rattle.tool_texts.specs.Commands.{IsCommand}
+use Rattle.tool_words.specs.Commands.{IsCommand}
 use Rattle.tool_top.proofs.words.ArgList.command.Goals as goal
 
 pub returns-clause-found : goal.returns-clause-found

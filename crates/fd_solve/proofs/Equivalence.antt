@@ -1,0 +1,161 @@
+-- Cases that the same assignments fit.
+use Rattle.std.proofs.Common.{◌≡◌, ℕ, zero, suc, ◌+◌, ◌<◌, ◌≤◌, Bool, true, ◌&&◌, ◌==◌, List, [], ◌∷◌, ◌++◌, Option, length, drop, get_or, All, inl, inr, refl, sym, ap, ◌∙◌, subst, arith}
+use Rattle.std.specs.List.{list_all}
+use Rattle.std.proofs.Math.Seq.{get_or-append_seam}
+use Rattle.std.proofs.lemmas.Bool.{cases_lt}
+use Rattle.std.proofs.lemmas.List.{append_assoc, append-nil, get_or_append_left}
+use Rattle.std.proofs.lemmas.List.Elements.{All-cons, All-head, All-nil, All-tail}
+use Rattle.set_sums.proofs.Members.{same}
+use Rattle.rv_isa.specs.declared.operation.Op.{Op}
+use Rattle.rv_isa.specs.Numbers.{op_numbered}
+use Rattle.fd_narrow.specs.Narrowing.{AllHold, Narrows}
+use Rattle.fd_prob.specs.declared.problem.Assignment.{Assignment}
+use Rattle.fd_prob.specs.declared.problem.Case.{Case}
+use Rattle.fd_prob.specs.declared.problem.Extra.{Extra}
+use Rattle.fd_prob.specs.declared.relation.Rel.{Rel}
+use Rattle.fd_prob.specs.declared.slot.Slot.TheVariants as slots
+use Rattle.fd_prob.specs.declared.problem.Problem.{Problem}
+use Rattle.fd_prob.specs.Fitting.{IsCase, IsProblem, fits_case, is_within}
+use Rattle.fd_prob.specs.Laws.{IsOfCase}
+use Rattle.fd_prob.specs.Relations.{holds, value_of}
+use Rattle.fd_prob.proofs.Fitted.{fits_its_case, of_case}
+use Rattle.fd_solve.specs.Equivalent.{AreEquivalent, AreMarked, IsEquivalent}
+use Rattle.fd_solve.specs.Marks.{marked_case, with_marked}
+use Rattle.fd_solve.specs.Meeting.{meets_marked}
+use Rattle.fd_solve.specs.Search.{IsMadeOf, LeastOrNone}
+use Rattle.fd_solve.specs.Stronger.{IsAlike}
+use Rattle.fd_solve.proofs.FittingMarks.{all_marks, within_same}
+use Rattle.fd_solve.proofs.Joining.{case_alike}
+use Rattle.fd_solve.proofs.Lists.{any_default, drop_here, drop_past}
+use Rattle.fd_solve.proofs.Marking.{many_marked, marked_at, marked_case_whole, marked_op}
+use Rattle.fd_solve.proofs.OneOperation.{each_of, inside_of}
+use Rattle.fd_solve.proofs.Orders.{as_well}
+
+pub itself : (c : Case) → IsCase c → IsEquivalent c c
+itself c is = record { whole = is; op = refl; same = λ x. refl }
+
+pub followed : (a b c : Case) → IsEquivalent a b → IsEquivalent b c → IsEquivalent a c
+followed a b c one two = record { whole = two.whole; op = two.op ∙ one.op; same = λ x. two.same x ∙ one.same x }
+
+pub alike_same : (c made : Case) → IsAlike c made → (x : Assignment) → fits_case x made ≡ fits_case x c
+unfolding fits_case
+alike_same c made is x =
+    ap (λ (n : ℕ). (n == value_of x slots.Op && is_within made x) && list_all (holds (op_numbered n) x) made.rels) is.op
+    ∙ ap (λ (b : Bool). (c.op == value_of x slots.Op && b) && list_all (holds (op_numbered c.op) x) made.rels) (within_same made c x is.doms)
+    ∙ ap (λ (b : Bool). (c.op == value_of x slots.Op && is_within c x) && b) (is.rels (op_numbered c.op) x)
+
+pub alike_equivalent : (c made : Case) → IsCase c → IsAlike c made → IsEquivalent c made
+alike_equivalent c made whole is = record { whole = case_alike c made is whole; op = is.op; same = alike_same c made is }
+
+-- with domains from which its relations took values away
+pub narrow_equivalent : (c made : Case) → IsCase c → made.op ≡ c.op → made.rels ≡ c.rels → length made.doms ≡ 14 → Narrows (op_numbered c.op) c.rels c.doms made.doms → IsEquivalent c made
+narrow_equivalent c made whole op_is rels_are long narrows = record {
+  whole = record { op = omega (arith, op_is, whole.op); domains = long };
+  op = op_is;
+  same = λ x. same (fits_case x made) (fits_case x c) (λ fits. fits_its_case x c (there x (of_case x made fits))) (λ fits. fits_its_case x made (back x (of_case x c fits)));
+} where
+  there : (x : Assignment) → IsOfCase x made → IsOfCase x c
+  there x is = record {
+    op = is.op ∙ op_is;
+    domains = each_of c x (narrows.within x (inside_of made x is.domains));
+    relations = subst (λ (n : ℕ). AllHold (op_numbered n) c.rels x) op_is (subst (λ (rels : List Rel). AllHold (op_numbered made.op) rels x) rels_are is.relations);
+  }
+
+  back : (x : Assignment) → IsOfCase x c → IsOfCase x made
+  back x is = record {
+    op = is.op ∙ sym op_is;
+    domains = each_of made x (narrows.keeps x (inside_of c x is.domains) is.relations);
+    relations = subst (λ (n : ℕ). AllHold (op_numbered n) made.rels x) (sym op_is) (subst (λ (rels : List Rel). AllHold (op_numbered c.op) rels x) (sym rels_are) is.relations);
+  }
+
+-- what is added by marked biases is the same of both
+module _ (marks : List Bool) (es : List Extra) (place : ℕ) (c d : Case) (whole : IsCase c) (is : IsEquivalent c d) where
+  pub same_marked : (x : Assignment) → fits_case x (marked_case marks es place d) ≡ fits_case x (marked_case marks es place c)
+  same_marked x =
+      all_marks marks es place d x is.whole
+      ∙ ap (λ (n : ℕ). fits_case x d && meets_marked (op_numbered n) x place marks es) is.op
+      ∙ ap (λ (b : Bool). b && meets_marked (op_numbered c.op) x place marks es) (is.same x)
+      ∙ sym (all_marks marks es place c x whole)
+
+  pub least_marked : (ps : List ℕ) (o : Option Assignment) → LeastOrNone ps (IsMadeOf (marked_case marks es place d)) o → LeastOrNone ps (IsMadeOf (marked_case marks es place c)) o
+  least_marked ps o least = as_well ps (IsMadeOf (marked_case marks es place d)) (IsMadeOf (marked_case marks es place c))
+      (λ x made. (made.0, of_case x (marked_case marks es place c) (sym (same_marked x) ∙ fits_its_case x (marked_case marks es place d) made.1)))
+      (λ x made. (made.0, of_case x (marked_case marks es place d) (same_marked x ∙ fits_its_case x (marked_case marks es place c) made.1)))
+      o least
+
+  pub marked_equivalent : IsEquivalent (marked_case marks es place c) (marked_case marks es place d)
+  marked_equivalent = record {
+    whole = marked_case_whole marks es place d is.whole;
+    op = marked_op marks es place d ∙ is.op ∙ sym (marked_op marks es place c);
+    same = same_marked;
+  }
+
+-- case by case
+pub all_itself : (cases : List Case) → All IsCase cases → AreEquivalent cases cases
+all_itself [] are = tt
+all_itself (c ∷ cases) are = (itself c (All-head IsCase c cases are), all_itself cases (All-tail IsCase c cases are))
+
+pub equivalent_count : (cases made : List Case) → AreEquivalent cases made → length made ≡ length cases
+equivalent_count [] [] are = refl
+equivalent_count [] (d ∷ made) are = absurd are
+equivalent_count (c ∷ cases) [] are = absurd are
+equivalent_count (c ∷ cases) (d ∷ made) are = ap suc (equivalent_count cases made are.1)
+
+pub equivalent_at : (cases made : List Case) (n : ℕ) (d : Case) → AreEquivalent cases made → n < length made → d ≡ get_or made n d → (c : Case) × (c ≡ get_or cases n c) × IsEquivalent c d
+equivalent_at [] [] n d are less here = absurd (omega (arith, less))
+equivalent_at [] (e ∷ made) n d are less here = absurd are
+equivalent_at (c ∷ cases) [] n d are less here = absurd are
+equivalent_at (c ∷ cases) (e ∷ made) zero d are less here = (c, refl, subst (IsEquivalent c) (sym here) are.0)
+equivalent_at (c ∷ cases) (e ∷ made) (suc n) d are less here = equivalent_at cases made n d are.1 (omega (arith, less)) here
+
+-- one more, before those that are to come
+pub one_more : (cases made : List Case) (i : ℕ) (c d : Case) → i < length cases → c ≡ get_or cases i c → IsEquivalent c d → ((rest : List Case) → AreEquivalent (drop i cases) rest → AreEquivalent cases (made ++ rest)) → (rest : List Case) → AreEquivalent (drop (i + 1) cases) rest → AreEquivalent cases ((made ++ d ∷ []) ++ rest)
+one_more cases made i c d less here is so_far rest are =
+    subst (AreEquivalent cases) (sym (append_assoc made (d ∷ []) rest)) (so_far (d ∷ rest) (subst (λ (cs : List Case). AreEquivalent cs (d ∷ rest)) (sym (drop_here cases i c less here)) (is, are)))
+
+pub all_made : (cases made : List Case) (i : ℕ) → length cases ≤ i → ((rest : List Case) → AreEquivalent (drop i cases) rest → AreEquivalent cases (made ++ rest)) → AreEquivalent cases made
+all_made cases made i end so_far = subst (AreEquivalent cases) (append-nil made) (so_far [] (subst (λ (cs : List Case). AreEquivalent cs []) (sym (drop_past cases i end)) tt))
+
+pub equivalent_each : (cases made : List Case) → AreEquivalent cases made → (n : ℕ) (c d : Case) → n < length cases → IsEquivalent (get_or cases n c) (get_or made n d)
+equivalent_each [] [] are n c d less = absurd (omega (arith, less))
+equivalent_each [] (e ∷ made) are n c d less = absurd are
+equivalent_each (b ∷ cases) [] are n c d less = absurd are
+equivalent_each (b ∷ cases) (e ∷ made) are zero c d less = are.0
+equivalent_each (b ∷ cases) (e ∷ made) are (suc n) c d less = equivalent_each cases made are.1 n c d (omega (arith, less))
+
+from_each : (cases made : List Case) → length made ≡ length cases → ((n : ℕ) (c d : Case) → n < length cases → IsEquivalent (get_or cases n c) (get_or made n d)) → AreEquivalent cases made
+from_each [] [] count each = tt
+from_each [] (e ∷ made) count each = absurd (omega (arith, count))
+from_each (b ∷ cases) [] count each = absurd (omega (arith, count))
+from_each (b ∷ cases) (e ∷ made) count each = (each zero b e (omega arith), from_each cases made (omega (arith, count)) (λ n c d less. each (suc n) c d (omega (arith, less))))
+
+pub all_whole : (cases made : List Case) → AreEquivalent cases made → All IsCase made
+all_whole [] [] are = All-nil IsCase
+all_whole [] (e ∷ made) are = absurd are
+all_whole (b ∷ cases) [] are = absurd are
+all_whole (b ∷ cases) (e ∷ made) are = All-cons IsCase e made are.0.whole (all_whole cases made are.1)
+
+-- one more with its marked biases
+pub one_more_marked : (marks : List Bool) (es : List Extra) (cases made new : List Case) (i : ℕ) (c d : Case) → i < length cases → c ≡ get_or cases i c → IsEquivalent (marked_case marks es i c) d → new ≡ made ++ d ∷ [] → length made ≡ i → ((n : ℕ) (a b : Case) → n < i → IsEquivalent (marked_case marks es n (get_or cases n a)) (get_or made n b)) → (n : ℕ) (a b : Case) → n < i + 1 → IsEquivalent (marked_case marks es n (get_or cases n a)) (get_or new n b)
+one_more_marked marks es cases made new i c d less here is new_is long so_far n a b below = elim (cases_lt n i) [
+  | inl before ↦ subst (IsEquivalent (marked_case marks es n (get_or cases n a))) (sym (ap (λ (ds : List Case). get_or ds n b) new_is ∙ get_or_append_left made (d ∷ []) b n (omega (arith, long, before)))) (so_far n a b before)
+  | inr from ↦
+      let at : n ≡ i = omega (arith, from, below) in
+      let last : get_or new n b ≡ d = ap (λ (k : ℕ). get_or new k b) (at ∙ sym long) ∙ ap (λ (ds : List Case). get_or ds (length made) b) new_is ∙ get_or-append_seam made d [] b in
+      let own : get_or cases n a ≡ c = ap (λ (k : ℕ). get_or cases k a) at ∙ any_default cases i a c less ∙ sym here in
+      subst (IsEquivalent (marked_case marks es n (get_or cases n a))) (sym last) (subst (λ (e : Case). IsEquivalent (marked_case marks es n e) d) (sym own) (subst (λ (k : ℕ). IsEquivalent (marked_case marks es k c) d) (sym at) is))
+]
+
+-- what stands for the cases of a problem, brought up to marked biases
+pub still_stand : (marks : List Bool) (es : List Extra) (p : Problem) (cases made : List Case) → IsProblem p → All (λ e. length e.cases ≡ length p.cases) es → AreEquivalent p.cases cases → AreMarked marks es cases made → AreEquivalent (with_marked marks es p).cases made
+still_stand marks es p cases made problem entries are new =
+    let many : length (with_marked marks es p).cases ≡ length p.cases = many_marked marks es p (length p.cases) entries refl in
+    let count : length cases ≡ length p.cases = equivalent_count p.cases cases are in
+    from_each (with_marked marks es p).cases made (omega (arith, many, count, new.count)) (λ n c d less.
+    let below : n < length p.cases = omega (arith, less, many) in
+    let own : Case = get_or p.cases n c in
+    let at : marked_case marks es n own ≡ get_or (with_marked marks es p).cases n (marked_case marks es n own) = marked_at marks es p (length p.cases) n own entries refl below (any_default p.cases n c own below) in
+    let here : get_or (with_marked marks es p).cases n c ≡ marked_case marks es n own = any_default (with_marked marks es p).cases n c (marked_case marks es n own) less ∙ sym at in
+    let one : IsEquivalent (marked_case marks es n own) (marked_case marks es n (get_or cases n own)) = marked_equivalent marks es n own (get_or cases n own) (problem n c below) (equivalent_each p.cases cases are n c own below) in
+    let two : IsEquivalent (marked_case marks es n (get_or cases n own)) (get_or made n d) = new.each n own d (omega (arith, below, count)) in
+    subst (λ (e : Case). IsEquivalent e (get_or made n d)) (sym here) (followed (marked_case marks es n own) (marked_case marks es n (get_or cases n own)) (get_or made n d) one two))

@@ -1,0 +1,28 @@
+-- Cases that the same assignments fit.
+use Rattle.std.specs.Prelude.{◌≡◌, ◌<◌, ℕ, Bool, ⊤, List, [], ◌∷◌, length, slice_index_or, Option, IfSome}
+use Rattle.fd_prob.specs.declared.problem.Assignment.{Assignment}
+use Rattle.fd_prob.specs.declared.problem.Case.{Case}
+use Rattle.fd_prob.specs.declared.problem.Extra.{Extra}
+use Rattle.fd_prob.specs.Fitting.{IsCase, fits_case}
+use Rattle.fd_solve.specs.Marks.{marked_case}
+
+-- the same assignments fit both cases, which are of one operation
+pub record IsEquivalent (c made : Case) : Type 0 where
+  pub whole : IsCase made
+  pub op : made.op ≡ c.op
+  pub same : (x : Assignment) → fits_case x made ≡ fits_case x c
+
+-- case by case
+abbrev pub AreEquivalent : List Case → List Case → Type 0
+AreEquivalent [] [] = ⊤
+AreEquivalent (c ∷ cases) (d ∷ made) = IsEquivalent c d × AreEquivalent cases made
+AreEquivalent _ _ = ⊥
+
+-- each of the others is so with what marked biases add to the case at its place
+pub record AreMarked (marks : List Bool) (biases : List Extra) (cases made : List Case) : Type 0 where
+  pub count : length made ≡ length cases
+  pub each : (n : ℕ) (c d : Case) → n < length cases → IsEquivalent (marked_case marks biases n (slice_index_or cases n c)) (slice_index_or made n d)
+
+-- where others are given, they are so
+abbrev pub StandFor : List Case → Option (List Case) → Type 0
+StandFor cases made = IfSome made (AreEquivalent cases)
