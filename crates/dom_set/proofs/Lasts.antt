@@ -8,11 +8,14 @@ use Rattle.std.proofs.lemmas.List.Folds.{list_any_more}
 use Rattle.std.proofs.lemmas.Nat.{and-not, and_assoc, and_comm}
 use Rattle.std.specs.Int.Bits.{and_self}
 use Rattle.dom_set.specs.declared.piece.Piece.{Piece}
+use Rattle.dom_set.specs.declared.run.Run.{Run}
 use Rattle.dom_set.specs.declared.pattern.Pattern.{Pattern}
 use Rattle.dom_set.specs.Elements.{elements_of}
 use Rattle.dom_set.specs.Counting.{one, total}
 use Rattle.dom_set.specs.Patterns.{matches}
-use Rattle.dom_set.specs.Pieces.{in_piece, holds, greater, IsFirstFrom, IsLast}
+use Rattle.dom_set.specs.Pieces.{in_piece, holds}
+use Rattle.dom_set.specs.Runs.{in_run}
+use Rattle.dom_set.specs.Ends.{greater, IsFirstFrom, IsLast}
 use Rattle.dom_set.proofs.Low.{same_tests}
 use Rattle.dom_set.proofs.Members.{length-members, slice_get-members}
 use Rattle.dom_set.proofs.Pieces.{test_from, passes}
@@ -37,10 +40,10 @@ mirror_matches p q x lm lb mask bits lx =
     (λ h. let is = eqb-true _ _ h in eq-eqb _ _ (omega (arith, own, other, masked, is)))
     (λ h. let is = eqb-true _ _ h in eq-eqb _ _ (omega (arith, own, other, masked, is)))
 
--- ---- pieces
+-- ---- runs
 
-pub last_held : (p : Piece) (v : ℕ) → p.low ≤ v → (matches p.pattern v ≡ true) × (v ≤ p.high) × ((x : ℕ) → v < x → x ≤ p.high → matches p.pattern x ≡ false) → (in_piece p v ≡ true) × ((x : ℕ) → v < x → in_piece p x ≡ false)
-unfolding in_piece
+pub last_held : (p : Run) (v : ℕ) → p.low ≤ v → (matches p.pattern v ≡ true) × (v ≤ p.high) × ((x : ℕ) → v < x → x ≤ p.high → matches p.pattern x ≡ false) → (in_run p v ≡ true) × ((x : ℕ) → v < x → in_run p x ≡ false)
+unfolding in_run
 last_held p v from is = (
   test_from (matches p.pattern) p.low p.high v (record { above = from; below = is.1; matched = is.0 }),
   λ x past. false_from_ne_true _ (λ h.
@@ -48,8 +51,8 @@ last_held p v from is = (
       false≢true (sym (is.2 x past t.below) ∙ t.matched)),
 )
 
-pub none_held : (p : Piece) → ((x : ℕ) → p.low ≤ x → x ≤ p.high → matches p.pattern x ≡ false) → (x : ℕ) → in_piece p x ≡ false
-unfolding in_piece
+pub none_held : (p : Run) → ((x : ℕ) → p.low ≤ x → x ≤ p.high → matches p.pattern x ≡ false) → (x : ℕ) → in_run p x ≡ false
+unfolding in_run
 none_held p none x = false_from_ne_true _ (λ h.
     let t = passes (matches p.pattern) p.low p.high x h in
     false≢true (sym (none x t.above t.below) ∙ t.matched))
@@ -81,7 +84,7 @@ last_of_both t u (Some v) (Some y) is other = elim (cases_lt v y) [
       subst P (sym e) (held_left (t v) (u v) is.0, λ x past. none_or (t x) (u x) (is.1 x past) (other.1 x (omega (arith, from, past))))
 ]
 
-last_same : (t u : ℕ → Bool) (o : Option ℕ) → ((x : ℕ) → t x ≡ u x) → IsLast t o → IsLast u o
+pub last_same : (t u : ℕ → Bool) (o : Option ℕ) → ((x : ℕ) → t x ≡ u x) → IsLast t o → IsLast u o
 last_same t u None same none = λ x. sym (same x) ∙ none x
 last_same t u (Some v) same is = (sym (same v) ∙ is.0, λ x past. sym (same x) ∙ is.1 x past)
 

@@ -3,6 +3,7 @@ pub mod Totals
 pub mod Members
 pub mod Ascending
 pub mod Pieces
+pub mod Without
 pub mod Times
 pub mod Powers
 pub mod Merging
@@ -18,3 +19,5 @@ pub mod Pages
 pub mod Walks
 pub mod Lasts
 pub mod Spans
+pub mod Unmatched
+pub mod Tracked

@@ -3,7 +3,7 @@ use Rattle.std.proofs.Common.{◌≡◌, ℕ, ◌+◌, ◌-◌, ◌*◌, ◌/◌
 use Rattle.std.proofs.lemmas.Bool.{cases_lt, eqb-true, eq-eqb, ne_eqb, and_parts, false_from_ne_true}
 use Rattle.std.proofs.lemmas.Nat.{pow_pos, pow-add, one_shl, shr_split, mod_below, mod-pow-add, and_assoc, and_block, and_comm, and_le_r, and_mask, and_mod, or_comm, or_disjoint, or_shifted, xor_block}
 use Rattle.std.proofs.lemmas.Bool.Decides.{Decides-and, Decides-eqb, same_from_decides, nat_tests}
-use Rattle.std.proofs.lemmas.Nat.Bits.{and_pow, shr_and_one, bit_at_and, bit_at_or, bit_at_ones, bit_at-trailing_ones, same_from_bits, same_from_bits_below}
+use Rattle.std.proofs.lemmas.Nat.Bits.{and_pow, shr_and_one, bit_at_and, bit_at_or, bit_at_ones, bit_at-lt, bit_at-trailing_ones, same_from_bits, same_from_bits_below}
 use Rattle.std.proofs.Math.Pow.{pow_mono}
 use Rattle.std.specs.Int.{bit_at, w32, trailing_ones}
 use Rattle.std.specs.Int.Bits.{bit_xor, and_self, and_zero_l, and_zero_r, or_zero_r, xor_zero_r}
@@ -247,6 +247,24 @@ lowest m bit lt is other =
       clear = ap (bit_at m) is ∙ ones.1;
       below = λ i within. ones.2 i (omega (arith, is));
     }
+
+-- low bits that a mask all has
+pub ones_low : (m k : ℕ) → m < 2 ^ 32 → k ≤ trailing_ones w32 m → k < 32 → (i : ℕ) → i < k → bit_at m i ≡ 1
+ones_low m k lt le small i within = elim (cases_lt (m + 1) (2 ^ 32)) [
+  | inl below ↦ (bit_at-trailing_ones w32 m below).2 i (omega (arith, le, within))
+  | inr from ↦ (let all : m ≡ 2 ^ 32 - 1 = omega arith in ap (λ (n : ℕ). bit_at n i) all ∙ bit_at_ones 32 i (omega (arith, within, small)))
+]
+
+-- numbers with the same bits under such a mask leave the same remainder
+pub same_low : (x m b k : ℕ) → bit_and x m ≡ b → ((i : ℕ) → i < k → bit_at m i ≡ 1) → x % 2 ^ k ≡ b % 2 ^ k
+same_low x m b k is ones = same_from_bits_below k (x % 2 ^ k) (b % 2 ^ k) (mod_below x (2 ^ k) (pow_pos k)) (mod_below b (2 ^ k) (pow_pos k)) (λ i within.
+    let of_x : at i (x % 2 ^ k) ≡ min (at i x) (at i (2 ^ k - 1)) = ap (at i) (sym (and_mask x k)) ∙ bit_at_and x (2 ^ k - 1) i in
+    let of_b : at i (b % 2 ^ k) ≡ min (at i b) (at i (2 ^ k - 1)) = ap (at i) (sym (and_mask b k)) ∙ bit_at_and b (2 ^ k - 1) i in
+    let all : at i (2 ^ k - 1) ≡ 1 = bit_at_ones k i within in
+    let masked : at i b ≡ min (at i x) (at i m) = ap (at i) (sym is) ∙ bit_at_and x m i in
+    let here : at i m ≡ 1 = ones i within in
+    let bit : at i x < 2 = bit_at-lt x i in
+    omega arith)
 
 -- a mask that has a bit above it is no power of two less one
 pub no_step : (m bit k : ℕ) → IsLowest m bit → 2 ^ bit ≤ m → m ≡ 2 ^ k - 1 → ⊥

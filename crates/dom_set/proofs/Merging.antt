@@ -10,6 +10,7 @@ use Rattle.dom_set.specs.declared.piece.Piece.{Piece}
 use Rattle.dom_set.specs.Counting.{one}
 use Rattle.dom_set.specs.Patterns.{matches}
 use Rattle.dom_set.specs.Pieces.{in_piece, holds}
+use Rattle.dom_set.proofs.Without.{in_ends}
 use Rattle.dom_set.proofs.Low.{same_tests, gap}
 use Rattle.dom_set.proofs.Pieces.{test, passes, test_from}
 
@@ -40,15 +41,13 @@ joined_is s low high low' high' x pos l h ordered after touching = same_tests _ 
     ])
 
 -- a number below the first is not held
-pub below_first : (p : Piece) (x : ℕ) → x < p.low → in_piece p x ≡ false
-unfolding in_piece
-below_first p x lt = false_from_ne_true _ (λ h. let t = passes (matches p.pattern) p.low p.high x h in omega (arith, t.above))
+pub below_first : (p : Piece) (x : ℕ) → x < p.run.low → in_piece p x ≡ false
+below_first p x lt = false_from_ne_true _ (λ h. omega (arith, (in_ends p x h).0))
 
-pub up_to_last : (p : Piece) (x : ℕ) → in_piece p x ≡ true → x ≤ p.high
-unfolding in_piece
-up_to_last p x h = let t = passes (matches p.pattern) p.low p.high x h in t.below
+pub up_to_last : (p : Piece) (x : ℕ) → in_piece p x ≡ true → x ≤ p.run.high
+up_to_last p x h = (in_ends p x h).1
 
-pub holds_above : (ps : List Piece) (x : ℕ) → ((k : ℕ) (d : Piece) → k < length ps → x < (get_or ps k d).low) → holds ps x ≡ false
+pub holds_above : (ps : List Piece) (x : ℕ) → ((k : ℕ) (d : Piece) → k < length ps → x < (get_or ps k d).run.low) → holds ps x ≡ false
 holds_above [] x h = refl
 holds_above (p ∷ ps) x h = or_from _ _ (below_first p x (h 0 p (omega arith))) (holds_above ps x (λ k d lt. h (suc k) d (omega arith)))
 
@@ -57,8 +56,8 @@ one_or true b h = ap (λ (t : Bool). 1 + one t) (sym (h refl))
 one_or false b h = omega arith
 
 -- a piece that ends before the next begins shares nothing with what follows
-pub apart_from_rest : (open' q : Piece) (rest : List Piece) (x : ℕ) → open'.high < q.low →
-    ((k : ℕ) (d : Piece) → k < length rest → q.low ≤ (get_or rest k d).low) →
+pub apart_from_rest : (open' q : Piece) (rest : List Piece) (x : ℕ) → open'.run.high < q.run.low →
+    ((k : ℕ) (d : Piece) → k < length rest → q.run.low ≤ (get_or rest k d).run.low) →
     one (in_piece open' x || (in_piece q x || holds rest x)) ≡ one (in_piece open' x) + one (in_piece q x || holds rest x)
 apart_from_rest open' q rest x before sorted = one_or _ _ (λ h.
     let at = up_to_last open' x h in

@@ -7,8 +7,11 @@ use Rattle.std.proofs.lemmas.List.Folds.{list_any_at}
 use Rattle.std.proofs.lemmas.Nat.{and_le_r}
 use Rattle.std.specs.Int.Bits.{and_zero_r}
 use Rattle.dom_set.specs.declared.piece.Piece.{Piece}
+use Rattle.dom_set.specs.declared.run.Run.{Run}
 use Rattle.dom_set.specs.Patterns.{matches}
-use Rattle.dom_set.specs.Pieces.{in_piece, holds, HasPage}
+use Rattle.dom_set.specs.Pieces.{in_piece, holds}
+use Rattle.dom_set.specs.Runs.{in_run}
+use Rattle.dom_set.specs.Ends.{HasPage}
 use Rattle.dom_set.proofs.Masks.{and_above}
 use Rattle.dom_set.proofs.Pieces.{test_from}
 
@@ -37,9 +40,9 @@ page_bits m b q small within =
 bits_below : (m b : ℕ) → m < 4096 → bit_and b m ≡ b → b < 4096
 bits_below m b small within = omega (arith, sym within, and_le_r b m)
 
--- a piece whose pattern tells bits below the pages' own alone has a number of each page between its ends
-pub page_held : (p : Piece) (page q : ℕ) → p.pattern.mask < 4096 → p.low ≤ page * 4096 → page ≤ q → q < p.high / 4096 → HasPage (in_piece p) q
-unfolding in_piece matches
+-- a run whose pattern tells bits below the pages' own alone has a number of each page between its ends
+pub page_held : (p : Run) (page q : ℕ) → p.pattern.mask < 4096 → p.low ≤ page * 4096 → page ≤ q → q < p.high / 4096 → HasPage (in_run p) q
+unfolding in_run matches
 page_held p page q small low from before =
     let b = p.pattern.bits in
     let below : b < 4096 = bits_below p.pattern.mask b small p.pattern.within in (

@@ -1,19 +1,33 @@
 -- Lists of pieces that hold the same numbers.
-use Rattle.std.proofs.Common.{◌≡◌, ℕ, ◌+◌, ◌*◌, ◌^◌, ◌<◌, ◌≤◌, inl, inr, Bool, true, leb, List, [], ◌∷◌, refl, sym, ap, ◌∙◌, arith}
+use Rattle.std.specs.Option.{option_eq}
+use Rattle.dom_set.specs.declared.pattern.Pattern.{Pattern}
+use Rattle.std.proofs.Common.{Option, Some, None, ◌≡◌, ℕ, ◌+◌, ◌*◌, ◌^◌, ◌<◌, ◌≤◌, inl, inr, Bool, true, leb, List, [], ◌∷◌, refl, sym, ap, ◌∙◌, arith}
 use Rattle.std.specs.Cmp.Lexicographic.{pointwise}
 use Rattle.std.proofs.lemmas.Bool.{cases_lt, and_parts, false≢true}
 use Rattle.dom_set.specs.declared.piece.Piece.{Piece}
 use Rattle.dom_set.specs.Elements.{elements_of, is_in}
 use Rattle.dom_set.specs.Counting.{one, total}
-use Rattle.dom_set.specs.Patterns.{matches}
+use Rattle.dom_set.specs.Patterns.{matches, is_matched}
+use Rattle.dom_set.specs.Runs.{in_run}
 use Rattle.dom_set.specs.Pieces.{in_piece, holds, times, IsApart}
 use Rattle.dom_set.proofs.Totals.{total_same, total_equal}
 use Rattle.dom_set.proofs.Times.{holds_is, times_is}
 use Rattle.dom_set.proofs.Sets.{elements_same, is_in-elements}
 
-pub same_fields : (p q : Piece) (x : ℕ) → p.low ≡ q.low → p.high ≡ q.high → p.pattern.mask ≡ q.pattern.mask → p.pattern.bits ≡ q.pattern.bits → in_piece p x ≡ in_piece q x
-unfolding in_piece matches
-same_fields p q x low high mask bits = rw (low, high, mask, bits) refl
+pub same_fields : (p q : Piece) (x : ℕ) → p.run.low ≡ q.run.low → p.run.high ≡ q.run.high → p.run.pattern.mask ≡ q.run.pattern.mask → p.run.pattern.bits ≡ q.run.pattern.bits → is_matched p.hole x ≡ is_matched q.hole x → in_piece p x ≡ in_piece q x
+unfolding in_piece in_run matches
+same_fields p q x low high mask bits hole = rw (low, high, mask, bits, hole) refl
+
+-- patterns that are the same where they are compared
+same_pattern : (p q : Pattern) (x : ℕ) → p.mask ≡ q.mask → p.bits ≡ q.bits → matches p x ≡ matches q x
+unfolding matches
+same_pattern p q x mask bits = rw (mask, bits) refl
+
+pub same_holes : (E : Pattern → Pattern → Bool) (a b : Option Pattern) (x : ℕ) → ((p q : Pattern) → E p q ≡ true → (p.mask ≡ q.mask) × (p.bits ≡ q.bits)) → option_eq E a b ≡ true → is_matched a x ≡ is_matched b x
+same_holes E None None x each h = refl
+same_holes E None (Some q) x each h = absurd (false≢true h)
+same_holes E (Some p) None x each h = absurd (false≢true h)
+same_holes E (Some p) (Some q) x each h = let same = each p q h in same_pattern p q x same.0 same.1
 
 pub same_by_place : (E : Piece → Piece → Bool) (ps qs : List Piece) → pointwise E ps qs ≡ true →
     ((p q : Piece) → E p q ≡ true → (x : ℕ) → in_piece p x ≡ in_piece q x) → (x : ℕ) → times ps x ≡ times qs x

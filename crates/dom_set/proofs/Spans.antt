@@ -1,13 +1,16 @@
 -- Ranges around the numbers of pieces.
 use Rattle.std.proofs.Common.{◌≡◌, ℕ, ◌+◌, ◌<◌, ◌≤◌, Bool, true, false, ◌&&◌, ◌||◌, leb, List, [], ◌∷◌, ◌++◌, length, get_or, take, Some, IsTrue, All, ◌⊎◌, inl, inr, refl, sym, ap, ◌∙◌, subst, arith}
-use Rattle.std.proofs.lemmas.Bool.{cases_lt, eqb-true, eq-eqb, le-leb, and_from, false≢true}
+use Rattle.std.proofs.lemmas.Bool.{cases_lt, le-leb, and_from, false≢true}
 use Rattle.std.proofs.lemmas.List.Elements.{All-append}
 use Rattle.std.proofs.lemmas.List.Folds.{list_any-append, list_any_at, list_any_more}
 use Rattle.dom_set.specs.declared.pattern.Pattern.{Pattern}
 use Rattle.dom_set.specs.declared.piece.Piece.{Piece}
+use Rattle.dom_set.specs.declared.run.Run.{Run}
 use Rattle.dom_set.specs.Elements.{elements_of, is_in, is_within}
 use Rattle.dom_set.specs.Patterns.{matches}
-use Rattle.dom_set.specs.Pieces.{in_piece, holds, IsFirstFrom, IsLast, IsPart}
+use Rattle.dom_set.specs.Pieces.{in_piece, holds}
+use Rattle.dom_set.specs.Runs.{in_run}
+use Rattle.dom_set.specs.Ends.{IsFirstFrom, IsLast, AreEnds}
 use Rattle.dom_set.proofs.Low.{same_tests}
 use Rattle.dom_set.proofs.Pieces.{passes, test_from}
 use Rattle.dom_set.proofs.Sets.{Contains-elements, held_word, is_in-elements, is_in_tests}
@@ -23,22 +26,13 @@ between t low high x first last h = (from (cases_lt x low), to (cases_lt high x)
   to (inl past) = absurd (false≢true (sym (last.1 x past) ∙ h))
   to (inr le) = le
 
--- the numbers of a piece are a part
-pub piece_part : (p : Piece) (low high : ℕ) → low ≤ high → in_piece p low ≡ true → in_piece p high ≡ true → IsPart (in_piece p) (low, high)
-unfolding in_piece matches
-piece_part p low high le first last =
-    let a = passes (matches p.pattern) p.low p.high low first in
-    let b = passes (matches p.pattern) p.low p.high high last in
-    record {
-      ordered = le;
-      mask = p.pattern.mask;
-      same = eqb-true _ _ a.matched ∙ sym (eqb-true _ _ b.matched);
-      held = λ x from to is. test_from (matches p.pattern) p.low p.high x (record { above = omega (arith, a.above, from); below = omega (arith, b.below, to); matched = eq-eqb _ _ (is ∙ eqb-true _ _ a.matched) });
-    }
+-- the first and the last that passes
+pub from_ends : (t : ℕ → Bool) (low high : ℕ) → IsFirstFrom t 0 (Some low) → IsLast t (Some high) → AreEnds t (low, high)
+from_ends t low high first last = record { ordered = (between t low high high first last last.0).0; low = first.0; high = last.0 }
 
--- a piece from its first number to its last one, by a pattern that says the same between these
-pub tightened : (p : Piece) (q : Pattern) (low high : ℕ) → IsFirstFrom (in_piece p) 0 (Some low) → IsLast (in_piece p) (Some high) → ((x : ℕ) → low ≤ x → x ≤ high → matches q x ≡ matches p.pattern x) → (x : ℕ) → ((leb low x && leb x high) && matches q x) ≡ in_piece p x
-unfolding in_piece
+-- a run from its first number to its last one, by a pattern that says the same between these
+pub tightened : (p : Run) (q : Pattern) (low high : ℕ) → IsFirstFrom (in_run p) 0 (Some low) → IsLast (in_run p) (Some high) → ((x : ℕ) → low ≤ x → x ≤ high → matches q x ≡ matches p.pattern x) → (x : ℕ) → ((leb low x && leb x high) && matches q x) ≡ in_run p x
+unfolding in_run
 tightened p q low high first last same x = same_tests _ _
     (λ h.
     let here = passes (matches q) low high x h in
@@ -46,22 +40,25 @@ tightened p q low high first last same x = same_tests _ _
     let b = passes (matches p.pattern) p.low p.high high last.0 in
     test_from (matches p.pattern) p.low p.high x (record { above = omega (arith, a.above, here.above); below = omega (arith, b.below, here.below); matched = sym (same x here.above here.below) ∙ here.matched }))
     (λ h.
-    let ends = between (in_piece p) low high x first last h in
+    let ends = between (in_run p) low high x first last h in
     let here = passes (matches p.pattern) p.low p.high x h in
     test_from (matches q) low high x (record { above = ends.0; below = ends.1; matched = same x ends.0 ends.1 ∙ here.matched }))
 
--- a part of what passes one test is one of what passes another that the first implies
-pub wider_part : (t u : ℕ → Bool) (span : ℕ × ℕ) → ((x : ℕ) → t x ≡ true → u x ≡ true) → IsPart t span → IsPart u span
-wider_part t u span more part = record { ordered = part.ordered; mask = part.mask; same = part.same; held = λ x from to is. more x (part.held x from to is) }
+-- numbers that pass one test pass another that the first implies
+pub wider_ends : (t u : ℕ → Bool) (span : ℕ × ℕ) → ((x : ℕ) → t x ≡ true → u x ≡ true) → AreEnds t span → AreEnds u span
+wider_ends t u span more ends = record { ordered = ends.ordered; low = more span.0 ends.low; high = more span.1 ends.high }
 
-pub part_in : (ps : List Piece) (span : ℕ × ℕ) → IsPart (holds ps) span → IsPart (is_in (elements_of (holds ps))) span
-part_in ps span = wider_part (holds ps) (is_in (elements_of (holds ps))) span (λ x h. is_in-elements (holds ps) x (held_word ps x h) ∙ h)
+pub ends_in : (ps : List Piece) (span : ℕ × ℕ) → AreEnds (holds ps) span → AreEnds (is_in (elements_of (holds ps))) span
+ends_in ps span = wider_ends (holds ps) (is_in (elements_of (holds ps))) span (λ x h. is_in-elements (holds ps) x (held_word ps x h) ∙ h)
 
-pub parts_in : (ps : List Piece) (spans : List (ℕ × ℕ)) → All (IsPart (holds ps)) spans → All (IsPart (is_in (elements_of (holds ps)))) spans
-parts_in ps spans all k d below = part_in ps (get_or spans k d) (all k d below)
+pub all_ends_in : (ps : List Piece) (spans : List (ℕ × ℕ)) → All (AreEnds (holds ps)) spans → All (AreEnds (is_in (elements_of (holds ps)))) spans
+all_ends_in ps spans all k d below = ends_in ps (get_or spans k d) (all k d below)
+
+pub held_element : (ps : List Piece) (x : ℕ) → IsTrue (is_in (elements_of (holds ps)) x) → holds ps x ≡ true
+held_element ps x h = ((Contains-elements (holds ps) x).0 ((is_in_tests (elements_of (holds ps)) x).0 h)).1
 
 pub covered_elements : (ps : List Piece) (spans : List (ℕ × ℕ)) → ((x : ℕ) → holds ps x ≡ true → is_within spans x ≡ true) → (x : ℕ) → IsTrue (is_in (elements_of (holds ps)) x) → IsTrue (is_within spans x)
-covered_elements ps spans covered x h = covered x ((Contains-elements (holds ps) x).0 ((is_in_tests (elements_of (holds ps)) x).0 h)).1
+covered_elements ps spans covered x h = covered x (held_element ps x h)
 
 -- ---- one piece more
 
@@ -101,7 +98,7 @@ one_all P s h k d below = subst (λ (j : ℕ). P (get_or (s ∷ []) j d)) (first
   first : (j : ℕ) → j < 1 → 0 ≡ j
   first j lt = omega arith
 
-pub parts_more : (ps : List Piece) (i : ℕ) (p : Piece) (spans : List (ℕ × ℕ)) (s : ℕ × ℕ) → i < length ps → get_or ps i p ≡ p → All (IsPart (holds ps)) spans → IsPart (in_piece p) s → All (IsPart (holds ps)) (spans ++ s ∷ [])
-parts_more ps i p spans s lt is all part =
-    All-append (IsPart (holds ps)) spans (s ∷ []) all
-    (one_all (IsPart (holds ps)) s (wider_part (in_piece p) (holds ps) s (λ x h. list_any_at (λ q. in_piece q x) ps i p lt (ap (λ (q : Piece). in_piece q x) is ∙ h)) part))
+pub ends_more : (ps : List Piece) (i : ℕ) (p : Piece) (spans : List (ℕ × ℕ)) (s : ℕ × ℕ) → i < length ps → get_or ps i p ≡ p → All (AreEnds (holds ps)) spans → AreEnds (in_piece p) s → All (AreEnds (holds ps)) (spans ++ s ∷ [])
+ends_more ps i p spans s lt is all part =
+    All-append (AreEnds (holds ps)) spans (s ∷ []) all
+    (one_all (AreEnds (holds ps)) s (wider_ends (in_piece p) (holds ps) s (λ x h. list_any_at (λ q. in_piece q x) ps i p lt (ap (λ (q : Piece). in_piece q x) is ∙ h)) part))

@@ -1,13 +1,12 @@
 -- How many pieces of a list hold a number.
-use Rattle.std.proofs.Common.{◌≡◌, ℕ, ◌+◌, ◌*◌, ◌<◌, ◌≤◌, ◌^◌, inl, inr, Bool, true, false, cond, ◌&&◌, ◌||◌, ltb, List, [], ◌∷◌, ◌++◌, length, get_or, take, drop, Option, refl, sym, ap, ◌∙◌, arith, zero-add}
+use Rattle.std.proofs.Common.{◌≡◌, ℕ, ◌+◌, ◌*◌, ◌<◌, ◌≤◌, ◌^◌, inl, inr, Bool, true, false, cond, ◌&&◌, ◌||◌, ltb, List, [], ◌∷◌, ◌++◌, length, get_or, take, drop, refl, sym, ap, ◌∙◌, arith, zero-add}
 use Rattle.std.proofs.lemmas.Bool.{cases_lt, lt-ltb, false_from_ne_true}
 use Rattle.std.proofs.lemmas.List.{drop_more, drop_all, take-append-drop}
 use Rattle.std.proofs.lemmas.List.Folds.{list_any-append}
 use Rattle.dom_set.specs.declared.piece.Piece.{Piece}
 use Rattle.dom_set.specs.Counting.{one, total}
-use Rattle.dom_set.specs.Pieces.{in_piece, is_held, holds, times, IsApart}
-use Rattle.dom_set.specs.Patterns.{matches}
-use Rattle.dom_set.proofs.Pieces.{passes}
+use Rattle.dom_set.specs.Pieces.{in_piece, holds, times, IsApart}
+use Rattle.dom_set.proofs.Without.{in_ends}
 use Rattle.dom_set.proofs.Totals.{total_same, total_add, total_zero, total_most}
 
 pub times_append : (ps qs : List Piece) (x : ℕ) → times (ps ++ qs) x ≡ times ps x + times qs x
@@ -50,17 +49,15 @@ one_both : (a b : Bool) (t : ℕ) → one a * (one b + t) ≡ one (a && b) + one
 one_both true b t = omega arith
 one_both false b t = omega arith
 
-pub shared_rest : (p : Piece) (qs : List Piece) (i : ℕ) (q : Piece) (piece : Option Piece) (n : ℕ) →
-    i < length qs → q ≡ get_or qs i q → ((x : ℕ) → is_held piece x ≡ (in_piece p x && in_piece q x)) →
+pub shared_rest : (p : Piece) (qs : List Piece) (i : ℕ) (q : Piece) (n : ℕ) → i < length qs → q ≡ get_or qs i q →
     total (λ x. one (in_piece p x) * times (drop i qs) x) n
-    ≡ total (λ x. one (is_held piece x)) n + total (λ x. one (in_piece p x) * times (drop (i + 1) qs) x) n
-shared_rest p qs i q piece n lt is both =
-    total_same (λ x. one (in_piece p x) * times (drop i qs) x) (λ x. one (is_held piece x) + one (in_piece p x) * times (drop (i + 1) qs) x) n
+    ≡ total (λ x. one (in_piece p x && in_piece q x)) n + total (λ x. one (in_piece p x) * times (drop (i + 1) qs) x) n
+shared_rest p qs i q n lt is =
+    total_same (λ x. one (in_piece p x) * times (drop i qs) x) (λ x. one (in_piece p x && in_piece q x) + one (in_piece p x) * times (drop (i + 1) qs) x) n
     (λ x _.
     ap (λ (t : ℕ). one (in_piece p x) * t) (times_rest qs i q x lt is)
-    ∙ one_both (in_piece p x) (in_piece q x) (times (drop (i + 1) qs) x)
-    ∙ ap (λ (b : Bool). one b + one (in_piece p x) * times (drop (i + 1) qs) x) (sym (both x)))
-    ∙ total_add (λ x. one (is_held piece x)) (λ x. one (in_piece p x) * times (drop (i + 1) qs) x) n
+    ∙ one_both (in_piece p x) (in_piece q x) (times (drop (i + 1) qs) x))
+    ∙ total_add (λ x. one (in_piece p x && in_piece q x)) (λ x. one (in_piece p x) * times (drop (i + 1) qs) x) n
 
 pub shared_done : (p : Piece) (qs : List Piece) (i n : ℕ) → length qs ≤ i → total (λ x. one (in_piece p x) * times (drop i qs) x) n ≡ 0
 shared_done p qs i n le = total_zero _ n (λ x _. ap (λ (t : ℕ). one (in_piece p x) * t) (times_done qs i x le) ∙ omega arith)
@@ -124,8 +121,7 @@ times_is ps x apart = sym (one_positive (times ps x) (apart x)) ∙ ap one (sym 
 
 -- the numbers of pieces are words
 pub word_held : (p : Piece) (x : ℕ) → in_piece p x ≡ true → x < 2 ^ 32
-unfolding in_piece
-word_held p x h = let t = passes (matches p.pattern) p.low p.high x h in omega (arith, t.below, p.fits)
+word_held p x h = omega (arith, (in_ends p x h).1, p.run.fits)
 
 past_last : (p : Piece) (x : ℕ) → 2 ^ 32 ≤ x → in_piece p x ≡ false
 past_last p x le = false_from_ne_true _ (λ h. omega (arith, word_held p x h))

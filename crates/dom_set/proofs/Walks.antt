@@ -1,35 +1,31 @@
 -- Walks along two lists of pieces, of which the second is left behind where it ends before the first goes on.
 use Rattle.std.proofs.Common.{◌≡◌, ℕ, zero, suc, ◌+◌, ◌-◌, ◌*◌, ◌<◌, ◌≤◌, Bool, true, false, cond, ltb, leb, ◌&&◌, ◌||◌, not, List, [], ◌∷◌, length, get_or, drop, filter, inl, inr, refl, sym, ap, ◌∙◌, arith}
-use Rattle.std.proofs.lemmas.Bool.{cases_lt, lt-ltb, leb-false, false≢true}
+use Rattle.std.proofs.lemmas.Bool.{cases_lt, lt-ltb, leb-false, false_from_ne_true, false≢true}
 use Rattle.std.proofs.lemmas.List.{get_or_default}
 use Rattle.std.proofs.lemmas.List.Recursion.{is_sum_by}
 use Rattle.std.proofs.lemmas.List.Sorted.{sum_by-IsPermutation}
 use Rattle.std.specs.List.Sorted.{IsPermutation}
 use Rattle.dom_set.specs.declared.piece.Piece.{Piece}
 use Rattle.dom_set.specs.Counting.{one}
-use Rattle.dom_set.specs.Patterns.{matches}
 use Rattle.dom_set.specs.Pieces.{in_piece, holds, times, Ascends, AreAlive}
 use Rattle.dom_set.proofs.Merging.{below_first, up_to_last}
-use Rattle.dom_set.proofs.Pages.{past_end}
-use Rattle.dom_set.proofs.Pieces.{passes}
+use Rattle.dom_set.proofs.Without.{in_ends}
 use Rattle.dom_set.proofs.Times.{holds_is, rest_is, times_rest, times_done}
 
-pub from_first : (p : Piece) (x : ℕ) → in_piece p x ≡ true → p.low ≤ x
-unfolding in_piece
-from_first p x h = let t = passes (matches p.pattern) p.low p.high x h in t.above
+pub from_first : (p : Piece) (x : ℕ) → in_piece p x ≡ true → p.run.low ≤ x
+from_first p x h = (in_ends p x h).0
 
-ended : (p : Piece) (x : ℕ) → p.high < x → in_piece p x ≡ false
-unfolding in_piece
-ended p x past = past_end (matches p.pattern x) p.low p.high x past
+ended : (p : Piece) (x : ℕ) → p.run.high < x → in_piece p x ≡ false
+ended p x past = false_from_ne_true _ (λ h. omega (arith, past, (in_ends p x h).1))
 
 -- pieces that all begin above a number do not hold it
-times_above : (ps : List Piece) (x : ℕ) → ((k : ℕ) (d : Piece) → k < length ps → x < (get_or ps k d).low) → times ps x ≡ 0
+times_above : (ps : List Piece) (x : ℕ) → ((k : ℕ) (d : Piece) → k < length ps → x < (get_or ps k d).run.low) → times ps x ≡ 0
 times_above [] x h = refl
 times_above (p ∷ ps) x h =
     let first : in_piece p x ≡ false = below_first p x (h 0 p (omega arith)) in
     omega (arith, ap one first, times_above ps x (λ k d lt. h (suc k) d (omega (arith, lt))))
 
-times_drop_above : (ps : List Piece) (k x : ℕ) → ((j : ℕ) (d : Piece) → k ≤ j → j < length ps → x < (get_or ps j d).low) → times (drop k ps) x ≡ 0
+times_drop_above : (ps : List Piece) (k x : ℕ) → ((j : ℕ) (d : Piece) → k ≤ j → j < length ps → x < (get_or ps j d).run.low) → times (drop k ps) x ≡ 0
 times_drop_above [] zero x h = refl
 times_drop_above [] (suc k) x h = refl
 times_drop_above (p ∷ ps) zero x h = times_above (p ∷ ps) x (λ j d lt. h j d (omega arith) lt)
@@ -37,13 +33,13 @@ times_drop_above (p ∷ ps) (suc k) x h = times_drop_above ps k x (λ j d from l
 
 -- each piece begins no lower than the one before it
 abbrev pub BeginInOrder : List Piece → ℕ → Type 0
-BeginInOrder ps n = (k : ℕ) (d : Piece) → 1 ≤ k → k < n → (get_or ps (k - 1) d).low ≤ (get_or ps k d).low
+BeginInOrder ps n = (k : ℕ) (d : Piece) → 1 ≤ k → k < n → (get_or ps (k - 1) d).run.low ≤ (get_or ps k d).run.low
 
-lows_ascend : (ps : List Piece) → BeginInOrder ps (length ps) → (k n : ℕ) (d : Piece) → k + n < length ps → (get_or ps k d).low ≤ (get_or ps (k + n) d).low
-lows_ascend ps order k zero d lt = let e : k + 0 ≡ k = omega arith in omega (arith, ap (λ (m : ℕ). (get_or ps m d).low) e)
+lows_ascend : (ps : List Piece) → BeginInOrder ps (length ps) → (k n : ℕ) (d : Piece) → k + n < length ps → (get_or ps k d).run.low ≤ (get_or ps (k + n) d).run.low
+lows_ascend ps order k zero d lt = let e : k + 0 ≡ k = omega arith in omega (arith, ap (λ (m : ℕ). (get_or ps m d).run.low) e)
 lows_ascend ps order k (suc n) d lt =
     let e : k + suc n - 1 ≡ k + n = omega arith in
-    omega (arith, lows_ascend ps order k n d (omega (arith, lt)), order (k + suc n) d (omega arith) lt, ap (λ (m : ℕ). (get_or ps m d).low) e)
+    omega (arith, lows_ascend ps order k n d (omega (arith, lt)), order (k + suc n) d (omega arith) lt, ap (λ (m : ℕ). (get_or ps m d).run.low) e)
 
 pub in_order : (ps : List Piece) (n : ℕ) → length ps ≤ n → BeginInOrder ps n → Ascends ps
 in_order ps n all order k d lt x below = times_drop_above ps k x (λ j e from within.
@@ -52,11 +48,11 @@ in_order ps n all order k d lt x below = times_drop_above ps k x (λ j e from wi
       arith,
       below,
       lows_ascend ps (λ i b one_on before. order i b one_on (omega (arith, before, all))) k (j - k) d (omega (arith, from, within)),
-      ap (λ (m : ℕ). (get_or ps m d).low) is,
-      ap (λ (p : Piece). p.low) (get_or_default ps j e d within),
+      ap (λ (m : ℕ). (get_or ps m d).run.low) is,
+      ap (λ (p : Piece). p.run.low) (get_or_default ps j e d within),
     ))
 
-pub one_more : (ps : List Piece) (n : ℕ) (a b : Piece) → BeginInOrder ps n → n < length ps → 1 ≤ n → (get_or ps (n - 1) a).low ≤ (get_or ps n b).low → BeginInOrder ps (n + 1)
+pub one_more : (ps : List Piece) (n : ℕ) (a b : Piece) → BeginInOrder ps n → n < length ps → 1 ≤ n → (get_or ps (n - 1) a).run.low ≤ (get_or ps n b).run.low → BeginInOrder ps (n + 1)
 one_more ps n a b order lt some le k d one_on before = elim (cases_lt k n) [
   | inl less ↦ order k d one_on less
   | inr from ↦
@@ -64,10 +60,10 @@ one_more ps n a b order lt some le k d one_on before = elim (cases_lt k n) [
       omega (
         arith,
         le,
-        ap (λ (m : ℕ). (get_or ps (m - 1) d).low) e,
-        ap (λ (m : ℕ). (get_or ps m d).low) e,
-        ap (λ (p : Piece). p.low) (get_or_default ps (n - 1) d a (omega (arith, lt, some))),
-        ap (λ (p : Piece). p.low) (get_or_default ps n d b lt),
+        ap (λ (m : ℕ). (get_or ps (m - 1) d).run.low) e,
+        ap (λ (m : ℕ). (get_or ps m d).run.low) e,
+        ap (λ (p : Piece). p.run.low) (get_or_default ps (n - 1) d a (omega (arith, lt, some))),
+        ap (λ (p : Piece). p.run.low) (get_or_default ps n d b lt),
       )
 ]
 
@@ -86,18 +82,18 @@ one_kept true q rest qs x out same = omega (arith, same)
 one_kept false q rest qs x out same = omega (arith, same, ap one (out refl))
 
 -- pieces that end before a number are not missed from there on
-pub reaching : (from : ℕ) (ps : List Piece) (x : ℕ) → from ≤ x → times (filter (λ p. leb from p.high) ps) x ≡ times ps x
+pub reaching : (from : ℕ) (ps : List Piece) (x : ℕ) → from ≤ x → times (filter (λ p. leb from p.run.high) ps) x ≡ times ps x
 reaching from [] x le = refl
-reaching from (p ∷ ps) x le = one_kept (leb from p.high) p (filter (λ q. leb from q.high) ps) ps x
-    (λ h. ended p x (omega (arith, le, leb-false from p.high h)))
+reaching from (p ∷ ps) x le = one_kept (leb from p.run.high) p (filter (λ q. leb from q.run.high) ps) ps x
+    (λ h. ended p x (omega (arith, le, leb-false from p.run.high h)))
     (reaching from ps x le)
 
-pub alive_reaching : (ps : List Piece) (place old from : ℕ) (alive next : List Piece) → old ≤ from → next ≡ filter (λ p. leb from p.high) alive →
+pub alive_reaching : (ps : List Piece) (place old from : ℕ) (alive next : List Piece) → old ≤ from → next ≡ filter (λ p. leb from p.run.high) alive →
     AreAlive ps place alive old → AreAlive ps place next from
 alive_reaching ps place old from alive next later is before x le =
     omega (arith, ap (λ (qs : List Piece). times qs x) is, reaching from alive x le, before x (omega (arith, later, le)))
 
-pub not_reaching : (p : Piece) (from x : ℕ) → p.high < from → from ≤ x → one (in_piece p x) ≡ 0
+pub not_reaching : (p : Piece) (from x : ℕ) → p.run.high < from → from ≤ x → one (in_piece p x) ≡ 0
 not_reaching p from x past le = ap one (ended p x (omega (arith, past, le)))
 
 cases_in : (b : Bool) (P : Bool → Type 0) → (b ≡ true → P true) → (b ≡ false → P false) → P b
@@ -105,14 +101,14 @@ cases_in true P held _ = held refl
 cases_in false P _ out = out refl
 
 -- the piece shares with the list what it shares with those that are kept and those from the place on
-pub shared_alive : (p : Piece) (ps alive : List Piece) (place x : ℕ) → AreAlive ps place alive p.low →
+pub shared_alive : (p : Piece) (ps alive : List Piece) (place x : ℕ) → AreAlive ps place alive p.run.low →
     one (in_piece p x) * times (drop 0 alive) x + one (in_piece p x) * times (drop place ps) x ≡ one (in_piece p x) * times ps x
 shared_alive p ps alive place x are = cases_in (in_piece p x) (λ b. one b * times (drop 0 alive) x + one b * times (drop place ps) x ≡ one b * times ps x)
     (λ held. omega (arith, all_rest alive x, are x (from_first p x held)))
     (λ none. omega arith)
 
 -- what begins behind the piece shares nothing with it
-pub shared_none : (p : Piece) (ps : List Piece) (i : ℕ) (q : Piece) (x : ℕ) → Ascends ps → i < length ps → p.high < (get_or ps i q).low → one (in_piece p x) * times (drop i ps) x ≡ 0
+pub shared_none : (p : Piece) (ps : List Piece) (i : ℕ) (q : Piece) (x : ℕ) → Ascends ps → i < length ps → p.run.high < (get_or ps i q).run.low → one (in_piece p x) * times (drop i ps) x ≡ 0
 shared_none p ps i q x up lt behind = cases_in (in_piece p x) (λ b. one b * times (drop i ps) x ≡ 0)
     (λ held. omega (arith, up i q lt x (omega (arith, up_to_last p x held, behind))))
     (λ none. omega arith)
@@ -153,7 +149,7 @@ held_either a b c m n k is_a is_b is_c all = elim (cases_lt 0 m) [
 ]
 
 -- those that are kept and those from the place on leave what the list does
-pub left_alive : (p : Piece) (ps alive : List Piece) (place n x : ℕ) → AreAlive ps place alive p.low → n ≡ cond (holds alive x) 0 (one (in_piece p x)) →
+pub left_alive : (p : Piece) (ps alive : List Piece) (place n x : ℕ) → AreAlive ps place alive p.run.low → n ≡ cond (holds alive x) 0 (one (in_piece p x)) →
     cond (holds (drop place ps) x) 0 n ≡ cond (holds ps x) 0 (one (in_piece p x))
 left_alive p ps alive place n x are is = ap (cond (holds (drop place ps) x) 0) is ∙ cases_in (in_piece p x)
     (λ b. cond (holds (drop place ps) x) 0 (cond (holds alive x) 0 (one b)) ≡ cond (holds ps x) 0 (one b))
@@ -175,11 +171,11 @@ left_behind qs i q out next m n x lt is all same =
       behind false false out next m n all same = all
 
 -- where what follows has a number, the piece at the place begins no higher
-pub begun : (qs : List Piece) (i : ℕ) (q : Piece) (x : ℕ) → Ascends qs → i < length qs → q ≡ get_or qs i q → holds (drop (i + 1) qs) x ≡ true → q.low ≤ x
-begun qs i q x up lt is held = elim (cases_lt x q.low) [
+pub begun : (qs : List Piece) (i : ℕ) (q : Piece) (x : ℕ) → Ascends qs → i < length qs → q ≡ get_or qs i q → holds (drop (i + 1) qs) x ≡ true → q.run.low ≤ x
+begun qs i q x up lt is held = elim (cases_lt x q.run.low) [
   | inr from ↦ from
   | inl below ↦ (
-      let none : times (drop i qs) x ≡ 0 = up i q lt x (omega (arith, below, ap (λ (p : Piece). p.low) is)) in
+      let none : times (drop i qs) x ≡ 0 = up i q lt x (omega (arith, below, ap (λ (p : Piece). p.run.low) is)) in
       let less : times (drop (i + 1) qs) x ≡ 0 = omega (arith, none, times_rest qs i q x lt is) in
       absurd (false≢true (sym (holds_as (drop (i + 1) qs) [] x less) ∙ held))
       )
@@ -197,9 +193,9 @@ left_apart p rest n x within none = cases_in (in_piece p x) (λ b. b ≡ in_piec
     refl
 
 -- a piece that ends before another loses nothing by it
-pub ends_before : (p q : Piece) (x : ℕ) → p.high < q.low → one (in_piece p x && not (in_piece q x)) ≡ one (in_piece p x)
+pub ends_before : (p q : Piece) (x : ℕ) → p.run.high < q.run.low → one (in_piece p x && not (in_piece q x)) ≡ one (in_piece p x)
 ends_before p q x lt = cases_in (in_piece q x) (λ b. one (in_piece p x && not b) ≡ one (in_piece p x))
-    (λ held. ap (λ (b : Bool). one (b && false)) (ended p x (omega (arith, lt, from_first q x held))) ∙ sym (not_reaching p q.low x lt (from_first q x held)))
+    (λ held. ap (λ (b : Bool). one (b && false)) (ended p x (omega (arith, lt, from_first q x held))) ∙ sym (not_reaching p q.run.low x lt (from_first q x held)))
     (λ out. kept (in_piece p x)) where
       kept : (b : Bool) → one (b && true) ≡ one b
       kept true = refl

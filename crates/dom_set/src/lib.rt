@@ -1,27 +1,27 @@
-//! Exact finite sets of 32-bit numbers. A `Set` is kept as pieces, each a range of numbers of which
-//! those count that have given bits under a mask, and no number is in two of them; no call's time grows
-//! with the number of elements, but that of `shift` where it splits a piece. `from_ranges` keeps at most
-//! one piece for each pair, with the mask 2^k - 1 for the multiples of 2^k, `below` and `with_odd` one for
-//! each piece, `signed_below` two, and `and` one for each two that have a number in common. A piece less one
-//! that it has a number in common with is at most 2 + k pieces, k the bits of the second mask that the first
-//! lacks: what is below the other and what is above it, and for each of these bits the numbers that
-//! differ in it first. `from_patterns` makes one piece of each pattern, whose ends tell the highest bits
-//! of the mask down to the highest one that it lacks, and joins the pieces of each half of the patterns as
-//! `or` does, which keeps those of one set, and beside them what `minus` leaves of the other. `shift` keeps at
-//! most two for a piece whose mask is 2^k - 1; of another it makes such pieces first, without the highest bits that
-//! all its numbers share. Their number, and the time, can double for each bit that the mask lacks below its highest
-//! one, though those that hold no number are left out. Where the piece reaches into no more blocks of as many numbers
-//! as tell the mask's bits apart than that, or, if the mask lacks two such bits or more, into fewer than 4,096, it is
-//! taken block by block. Of two sets of n and m pieces that `from_ranges` made at most n + m pairs
-//! overlap, so `and` keeps at most n + m pieces, and `minus` at most (1 + k) (n + m), with k = 0 where
-//! the second power of two is the lesser. That is 23 (n + m) for multiples of up to 4,194,304, as are
-//! those in use, 1, 2, 4, 4,096 and 4,194,304; no mask of a result has a bit above all those of its
-//! sources. A chain of `and` and `minus` with sets that `from_ranges` made at these powers, of N pieces
-//! in all, keeps fewer than 46 N: their ends cut the numbers into fewer than 2 N spans, and on a span
-//! each piece of the result holds the multiples of some 2^k or the odd ones alone, of which at most 23
-//! have no number in common. Nothing of the kind is said of sets that are shifted by different
-//! distances or that `from_patterns` made, nor of a result that is taken off: `minus` of two results can
-//! keep pieces in the order of n m, and its time can be more than quadratic in n + m.
+//! Exact finite sets of 32-bit numbers. A `Set` is kept as pieces, and no number is in two of them. A piece is a run but
+//! for its hole: a run is a range of numbers of which those count that have given bits under a mask, and a hole is a
+//! second pattern of bits, whose numbers do not count. No call's time grows with the number of elements, but that of
+//! `shift` where it splits a piece. `from_ranges` keeps at most one piece for each pair, with the mask 2^k - 1 for the
+//! multiples of 2^k, `below` and `with_odd` one for each piece, `signed_below` two. `from_patterns` makes one piece of each
+//! pattern, whose ends tell the highest bits of the mask down to the highest one that it lacks, and joins the pieces of
+//! each half of the patterns as `or` does, which keeps those of one set, and beside them what `minus` leaves of the other.
+//!
+//! `and` keeps one piece for each two that have a number in common, where their holes are one: where one of two holes has
+//! all that the other has, as the multiples of 64 and those of 4,096 have. A piece less one that it has a number in common
+//! with is what is below the other, what is above it, and between its ends one piece with a hole, where this and the
+//! piece's own hole are one, and beside these what the other's hole leaves. Where two holes are not one, the numbers that a
+//! hole leaves are taken by its bits: for each bit that the hole has and the run's mask lacks a piece of those that differ
+//! in it first. So a set that `from_ranges` made at a power of two, less others that it made at greater powers, on the
+//! same or on other ranges, has one piece for each range into which the ends of all cut the numbers. Nothing of the kind
+//! is said of sets that are shifted by different distances or that `from_patterns` made. No mask of a result has a bit
+//! above all those of its sources.
+//!
+//! `shift` keeps at most two pieces for one whose mask, and whose hole's, is 2^k - 1; the numbers of another with a hole
+//! are taken by the hole's bits first. Of a run whose mask is none of these it makes such runs, without the highest bits
+//! that all its numbers share. Their number, and the time, can double for each bit that the mask lacks below its highest
+//! one, though those that hold no number are left out. Where the run reaches into no more blocks of as many numbers as tell
+//! the mask's bits apart than that, or, if the mask lacks two such bits or more, into fewer than 4,096, it is taken block by
+//! block.
 //!
 //! The pieces of a set begin in ascending order. So `and`, `minus` and `or` go through those of both sets once:
 //! on the way they keep apart the pieces of one set that have begun and have not ended, also where a long
@@ -29,18 +29,24 @@
 //! both lists and of the pairs of pieces whose ranges overlap; `minus` and `or` compare the second piece of such a
 //! pair with all parts into which the first was cut that do not end before it. `from_patterns` takes that time for
 //! each half, each half of a half and so on, in the order of n log^2 n for n patterns whose ranges do not overlap.
-//! `==` compares all pairs of pieces of two sets of the same size whose pieces differ.
+//! `==` compares all pairs of pieces of two sets of the same size whose pieces differ. `tracks` tells ranges of numbers a
+//! power of two apart around a set's numbers: one or two for each piece, and as many for each bit of a hole.
 #![tactic(auto)]
 
 mod error;
+mod holes;
 mod laws;
 mod lists;
 mod pairs;
 mod pattern;
 mod piece;
+mod run;
 mod set;
 mod steps;
+mod track;
+mod tracks;
 
 pub use error::OutOfMemory;
 pub use laws::set_laws;
 pub use set::Set;
+pub use track::Track;

@@ -2,11 +2,16 @@
 ghost use Rattle.std.specs.Prelude.{◌≡◌, ℕ, ◌+◌, ◌-◌, ◌*◌, ◌%◌, ◌^◌, ◌<◌, ◌≤◌, ◌↔◌, ◌&&◌, ◌||◌, not, Bool, true, false, bit_and, All, List, length, drop, IfSome, IsTrue, nat_lt, nat_le, if◌then◌else◌, IfOk, OnOk};
 ghost use Rattle.dom_set.specs.Counting.{one, total};
 ghost use Rattle.dom_set.specs.Elements.{is_matching, is_within};
-ghost use Rattle.dom_set.specs.Patterns.{matches};
-ghost use Rattle.dom_set.specs.Pieces.{in_span, in_piece, is_held, times, holds, Ascends, HasPage, IsApart, IsFirstFrom, IsLast, IsPart, AreAlive, greater, lesser};
+ghost use Rattle.dom_set.specs.Patterns.{is_matched, matches};
+ghost use Rattle.dom_set.specs.Runs.{in_run, is_in_run};
+ghost use Rattle.dom_set.specs.Pieces.{in_piece, is_held, times, holds, Ascends, IsApart, AreAlive};
+ghost use Rattle.dom_set.specs.Ends.{HasPage, IsFirstFrom, IsLast, AreEnds, greater, lesser};
 
 use crate::error::OutOfMemory;
-use crate::piece::Piece;
+use crate::holes::{greater, lesser};
+use crate::pattern::Pattern;
+use crate::piece::{Piece, shifted_past, shifted_within};
+use crate::run::Run;
 use crate::steps::END;
 use std::alloc::Global;
 
@@ -50,17 +55,6 @@ pub fn nth(pieces: &[Piece], n: u64) -> u32
     low as u32
 }
 
-/// The lesser of two numbers that may be missing.
-fn lesser(a: Option<u32>, b: Option<u32>) -> Option<u32>
-    ensures { result ≡ lesser a b }
-{
-    match (a, b) {
-        (Some(x), Some(y)) => Some(x.min(y)),
-        (Some(x), None) => Some(x),
-        (None, b) => b,
-    }
-}
-
 /// The nearer of a number and of the first one from the given one up that the piece holds: a piece that begins no
 /// nearer than the number isn't asked.
 fn nearer(nearest: Option<u32>, p: Piece, from: u32) -> Option<u32>
@@ -68,7 +62,7 @@ fn nearer(nearest: Option<u32>, p: Piece, from: u32) -> Option<u32>
         IsFirstFrom (λ x. t x || in_piece p x) from result }
 {
     match nearest {
-        Some(x) if x <= p.low => nearest,
+        Some(x) if x <= p.run.low => nearest,
         _ => lesser(nearest, p.first_from(from)),
     }
 }
@@ -82,17 +76,6 @@ pub fn first_from(pieces: &[Piece], from: u32) -> Option<u32>
         nearest = nearer(nearest, *p, from);
     }
     nearest
-}
-
-/// The greater of two numbers that may be missing.
-fn greater(a: Option<u32>, b: Option<u32>) -> Option<u32>
-    ensures { result ≡ greater a b }
-{
-    match (a, b) {
-        (Some(x), Some(y)) => Some(x.max(y)),
-        (Some(x), None) => Some(x),
-        (None, b) => b,
-    }
 }
 
 /// The last number that they hold.
@@ -109,7 +92,7 @@ pub fn last(pieces: &[Piece]) -> Option<u32>
 /// The lowest and the highest number of each piece that has one, in the order of the pieces.
 pub fn spans(alloc: Global, pieces: &[Piece]) -> Result<Vec<(u32, u32)>, OutOfMemory>
     ensures covered { IfOk result (λ spans. (x : ℕ) → holds pieces.now x ≡ true → is_within spans.items x ≡ true) }
-    ensures parts { IfOk result (λ spans. All (IsPart (holds pieces.now)) spans.items) }
+    ensures ends { IfOk result (λ spans. All (AreEnds (holds pieces.now)) spans.items) }
 {
     let mut spans = Vec::new(alloc);
     for p in pieces {
@@ -118,6 +101,20 @@ pub fn spans(alloc: Global, pieces: &[Piece]) -> Result<Vec<(u32, u32)>, OutOfMe
         }
     }
     Ok(spans)
+}
+
+/// A page as `Piece::pages_end` tells it of the piece, and at least the given end.
+fn further_end(end: u32, p: Piece, page: u32) -> u32
+    requires page { page ≤ 2 ^ 20 }
+    requires end { end ≤ 2 ^ 20 }
+    ensures reached { end ≤ result }
+    ensures most { result ≤ 2 ^ 20 }
+    ensures held { (q : ℕ) → page ≤ q → end ≤ q → q < result → HasPage (in_piece p) q }
+{
+    if p.run.pages_end(page) <= end {
+        return end;
+    }
+    end.max(p.pages_end(page))
 }
 
 /// A page from the given one on, so that each page before it, from the given one on, has one of the numbers.
@@ -129,7 +126,7 @@ pub fn pages_end(pieces: &[Piece], page: u32) -> u32
 {
     let mut end = page;
     for p in pieces {
-        end = end.max(p.pages_end(page));
+        end = further_end(end, *p, page);
     }
     end
 }
@@ -182,7 +179,7 @@ fn ascend(pieces: &[Piece]) -> bool
     ensures { IsTrue result → Ascends pieces.now }
 {
     for i in 1..pieces.len() {
-        if pieces[i].low < pieces[i - 1].low {
+        if pieces[i].run.low < pieces[i - 1].run.low {
             return false;
         }
     }
@@ -194,7 +191,7 @@ fn put_in_order(pieces: &mut Vec<Piece>)
     ensures { (x : ℕ) → times pieces.new.items x ≡ times pieces.old.items x }
 {
     if !ascend(pieces) {
-        pieces.sort_unstable_by_key(|p| p.low);
+        pieces.sort_unstable_by_key(|p| p.run.low);
     }
 }
 
@@ -204,7 +201,7 @@ fn resumed(alive: &mut Vec<Piece>, place: usize, old: u32, from: u32) -> usize
     ensures { (ps : List Piece) → AreAlive ps place alive.old.items old → AreAlive ps result alive.new.items from }
 {
     if old <= from {
-        alive.retain(|p| from <= p.high);
+        alive.retain(|p| from <= p.run.high);
         place
     } else {
         alive.clear();
@@ -217,7 +214,7 @@ fn push_alive(alive: &mut Vec<Piece>, p: Piece, from: u32) -> Result<(), OutOfMe
     ensures { OnOk result ((x : ℕ) → from ≤ x →
         times alive.new.items x ≡ times alive.old.items x + one (in_piece p x)) }
 {
-    if from <= p.high {
+    if from <= p.run.high {
         alive.push(p)?;
     }
     Ok(())
@@ -231,7 +228,7 @@ fn is_passed(pieces: &[Piece], place: usize, from: u32) -> bool
     if place >= pieces.len() {
         return false;
     }
-    pieces[place].high < from || (place < pieces.len() - 1 && pieces[place + 1].low <= from)
+    pieces[place].run.high < from || (place < pieces.len() - 1 && pieces[place + 1].run.low <= from)
 }
 
 /// The place of a walk through a list at a number, and those of the pieces before it that reach from the number on.
@@ -254,6 +251,97 @@ fn next_place(
     Ok(next)
 }
 
+/// Appends the numbers of the piece that the pattern doesn't match: for each bit those that have its bits below that one,
+/// and not that one.
+fn push_missed(out: &mut Vec<Piece>, p: Piece, pattern: Pattern) -> Result<(), OutOfMemory>
+    ensures { OnOk result ((x : ℕ) →
+        times out.new.items x + one (in_piece p x && matches pattern x) ≡ times out.old.items x + one (in_piece p x)) }
+{
+    pattern.ends();
+    for bit in 0..32 {
+        push_piece(out, p.missed(pattern, bit))?;
+    }
+    Ok(())
+}
+
+/// Whether a pattern tells just one bit more than the mask. Then the numbers that don't match it match another such one.
+fn is_one_more(pattern: Pattern, mask: u32) -> bool {
+    (pattern.mask & !mask).count_ones() == 1
+}
+
+/// Appends the numbers of the piece that the pattern doesn't match, where it matches some that the run's pattern does: as
+/// one piece, if the piece has no hole or one of both patterns has all that the other has.
+fn push_holed(out: &mut Vec<Piece>, p: Piece, pattern: Pattern) -> Result<(), OutOfMemory>
+    ensures { OnOk result ((x : ℕ) →
+        times out.new.items x + one (in_piece p x && matches pattern x) ≡ times out.old.items x + one (in_piece p x)) }
+{
+    if is_one_more(pattern, p.run.pattern.mask) {
+        return push_missed(out, p, pattern);
+    }
+    match p.wider_hole(pattern) {
+        Some(hole) => {
+            push_piece(out, Piece::of(p.run, Some(hole)))?;
+            Ok(())
+        }
+        None => push_missed(out, p, pattern),
+    }
+}
+
+/// Appends the numbers of the piece that the pattern doesn't match.
+fn push_unmatched(out: &mut Vec<Piece>, p: Piece, pattern: Pattern) -> Result<(), OutOfMemory>
+    ensures { OnOk result ((x : ℕ) →
+        times out.new.items x + one (in_piece p x && matches pattern x) ≡ times out.old.items x + one (in_piece p x)) }
+{
+    if p.run.pattern.is_within(pattern) {
+        return Ok(());
+    }
+    match p.run.pattern.both(pattern) {
+        Some(narrow) => {
+            push_holed(out, p, narrow)?;
+            Ok(())
+        }
+        None => {
+            push_piece(out, Some(p))?;
+            Ok(())
+        }
+    }
+}
+
+/// Appends the numbers of the piece that the hole doesn't match, if there is one.
+fn push_outside_hole(
+    out: &mut Vec<Piece>,
+    p: Piece,
+    hole: Option<Pattern>,
+) -> Result<(), OutOfMemory>
+    ensures { OnOk result ((x : ℕ) →
+        times out.new.items x + one (in_piece p x && is_matched hole x) ≡ times out.old.items x + one (in_piece p x)) }
+{
+    match hole {
+        Some(pattern) => {
+            push_unmatched(out, p, pattern)?;
+            Ok(())
+        }
+        None => {
+            push_piece(out, Some(p))?;
+            Ok(())
+        }
+    }
+}
+
+/// Appends what two pieces have in common.
+fn push_both(out: &mut Vec<Piece>, p: Piece, q: Piece) -> Result<(), OutOfMemory>
+    ensures { OnOk result ((x : ℕ) → times out.new.items x ≡
+        times out.old.items x + one (in_piece p x && in_piece q x)) }
+{
+    match p.common(q.run) {
+        Some(both) => {
+            push_outside_hole(out, both, q.hole)?;
+            Ok(())
+        }
+        None => Ok(()),
+    }
+}
+
 /// Appends what the piece and those of the list from a place on have in common.
 fn push_common(
     out: &mut Vec<Piece>,
@@ -267,10 +355,10 @@ fn push_common(
         times out.old.items x + one (in_piece p x) * times (drop place others.now) x) }
 {
     for i in place..others.len() {
-        if ascending && p.high < others[i].low {
+        if ascending && p.run.high < others[i].run.low {
             return Ok(());
         }
-        push_piece(out, p.common(others[i]))?;
+        push_both(out, p, others[i])?;
     }
     Ok(())
 }
@@ -286,8 +374,8 @@ pub fn common(alloc: Global, pieces: &[Piece], others: &[Piece]) -> Result<Vec<P
     let mut place = 0;
     let mut low = 0;
     for p in pieces {
-        place = next_place(&mut alive, others, place, low, p.low)?;
-        low = p.low;
+        place = next_place(&mut alive, others, place, low, p.run.low)?;
+        low = p.run.low;
         push_common(&mut out, *p, &alive, 0, false)?;
         push_common(&mut out, *p, others, place, ascending)?;
     }
@@ -306,6 +394,23 @@ fn count_piece(piece: Option<Piece>) -> u64
     }
 }
 
+/// How many numbers the piece and the run have in common, if there is a run.
+fn count_within(p: Piece, run: Option<Run>) -> u64
+    ensures { result ≡ total (λ x. one (in_piece p x && is_in_run run x)) (2 ^ 32) }
+{
+    match run {
+        Some(run) => count_piece(p.common(run)),
+        None => 0,
+    }
+}
+
+/// How many numbers two pieces have in common.
+fn count_both(p: Piece, q: Piece) -> u64
+    ensures { result ≡ total (λ x. one (in_piece p x && in_piece q x)) (2 ^ 32) }
+{
+    count_piece(p.common(q.run)) - count_within(p, q.filled())
+}
+
 /// How many numbers the piece and those of the list have in common.
 fn count_shared(p: Piece, others: &[Piece]) -> u64
     requires { IsApart others.now }
@@ -313,7 +418,7 @@ fn count_shared(p: Piece, others: &[Piece]) -> u64
 {
     let mut count = 0;
     for q in others {
-        count += count_piece(p.common(*q));
+        count += count_both(p, *q);
     }
     count
 }
@@ -331,18 +436,53 @@ pub fn count_common(pieces: &[Piece], others: &[Piece]) -> u64
     count
 }
 
-/// Appends what the pattern of the second piece leaves of the first between the ends of the second:
-/// for each bit the numbers that have its bits below that one, and not that one.
-fn push_missed(out: &mut Vec<Piece>, p: Piece, q: Piece) -> Result<(), OutOfMemory>
+/// Appends the numbers of a part that the pattern doesn't match, if there is a part.
+fn push_part_unmatched(
+    out: &mut Vec<Piece>,
+    part: Option<Piece>,
+    pattern: Pattern,
+) -> Result<(), OutOfMemory>
     ensures { OnOk result ((x : ℕ) →
-        times out.new.items x + one ((in_piece p x && in_span q x) && matches q.pattern x) ≡
-        times out.old.items x + one (in_piece p x && in_span q x)) }
+        times out.new.items x + one (is_held part x && matches pattern x) ≡ times out.old.items x + one (is_held part x)) }
 {
-    q.pattern.ends();
-    for bit in 0..32 {
-        push_piece(out, p.missed(q, bit))?;
+    match part {
+        Some(p) => push_unmatched(out, p, pattern),
+        None => Ok(()),
     }
+}
+
+/// Appends what the run leaves of the piece: what is below the run, what is between its ends, and what is above it.
+fn push_around(out: &mut Vec<Piece>, p: Piece, q: Run) -> Result<(), OutOfMemory>
+    ensures { OnOk result ((x : ℕ) → times out.new.items x ≡
+        times out.old.items x + one (in_piece p x && not (in_run q x))) }
+{
+    let (low, end) = (u64::from(q.low), u64::from(q.high) + 1);
+    push_piece(out, p.clipped(0, low))?;
+    push_part_unmatched(out, p.clipped(low, end), q.pattern)?;
+    push_piece(out, p.clipped(end, END))?;
     Ok(())
+}
+
+/// Appends what the run leaves of the piece.
+fn push_outside(out: &mut Vec<Piece>, p: Piece, q: Run) -> Result<(), OutOfMemory>
+    ensures { OnOk result ((x : ℕ) → times out.new.items x ≡
+        times out.old.items x + one (in_piece p x && not (in_run q x))) }
+{
+    if p.common(q).is_none() {
+        return push_piece(out, Some(p));
+    }
+    push_around(out, p, q)
+}
+
+/// Appends what the piece and the run have in common, if there is a run.
+fn push_within(out: &mut Vec<Piece>, p: Piece, run: Option<Run>) -> Result<(), OutOfMemory>
+    ensures { OnOk result ((x : ℕ) → times out.new.items x ≡
+        times out.old.items x + one (in_piece p x && is_in_run run x)) }
+{
+    match run {
+        Some(run) => push_piece(out, p.common(run)),
+        None => Ok(()),
+    }
 }
 
 /// Appends what the second piece leaves of the first.
@@ -350,18 +490,9 @@ fn push_less(out: &mut Vec<Piece>, p: Piece, q: Piece) -> Result<(), OutOfMemory
     ensures { OnOk result ((x : ℕ) → times out.new.items x ≡
         times out.old.items x + one (in_piece p x && not (in_piece q x))) }
 {
-    match p.common(q) {
-        None => {
-            push_piece(out, Some(p))?;
-            Ok(())
-        }
-        Some(_) => {
-            push_piece(out, p.clipped(0, u64::from(q.low)))?;
-            push_missed(out, p, q)?;
-            push_piece(out, p.clipped(u64::from(q.high) + 1, END))?;
-            Ok(())
-        }
-    }
+    push_outside(out, p, q.run)?;
+    push_within(out, p, q.filled())?;
+    Ok(())
 }
 
 /// What the piece leaves of the list.
@@ -400,12 +531,12 @@ fn push_part(
 ) -> Result<(), OutOfMemory>
     ensures all { OnOk result ((x : ℕ) → times done.new.items x + times rest.new.items x ≡
         times done.old.items x + times rest.old.items x + one (in_piece p x && not (in_piece q x))) }
-    ensures before { OnOk result ((x : ℕ) → (IsTrue ascending → q.low ≤ x) →
+    ensures before { OnOk result ((x : ℕ) → (IsTrue ascending → q.run.low ≤ x) →
         times done.new.items x ≡ times done.old.items x) }
     ensures within { OnOk result ((x : ℕ) →
         times rest.new.items x ≤ times rest.old.items x + one (in_piece p x)) }
 {
-    if ascending && p.high < q.low {
+    if ascending && p.run.high < q.run.low {
         push_piece(done, Some(p))?;
         return Ok(());
     }
@@ -423,7 +554,7 @@ fn left_behind(
 ) -> Result<Vec<Piece>, OutOfMemory>
     ensures all { IfOk result (λ v. (x : ℕ) → times done.new.items x + times v.items x ≡
         times done.old.items x + (if in_piece q x then 0 else times pieces.now x)) }
-    ensures before { OnOk result ((x : ℕ) → (IsTrue ascending → q.low ≤ x) →
+    ensures before { OnOk result ((x : ℕ) → (IsTrue ascending → q.run.low ≤ x) →
         times done.new.items x ≡ times done.old.items x) }
     ensures within { IfOk result (λ v. (x : ℕ) → times v.items x ≤ times pieces.now x) }
 {
@@ -462,7 +593,7 @@ fn push_left(
 {
     let mut left = first;
     for i in place..others.len() {
-        if ascending && p.high < others[i].low {
+        if ascending && p.run.high < others[i].run.low {
             push_all(out, &left)?;
             return Ok(());
         }
@@ -483,8 +614,8 @@ pub fn minus(alloc: Global, pieces: &[Piece], others: &[Piece]) -> Result<Vec<Pi
     let mut place = 0;
     let mut low = 0;
     for p in pieces {
-        place = next_place(&mut alive, others, place, low, p.low)?;
-        low = p.low;
+        place = next_place(&mut alive, others, place, low, p.run.low)?;
+        low = p.run.low;
         let left = left_of(alloc, *p, &alive)?;
         push_left(&mut out, alloc, left, *p, others, place, ascending)?;
     }
@@ -492,17 +623,24 @@ pub fn minus(alloc: Global, pieces: &[Piece], others: &[Piece]) -> Result<Vec<Pi
     Ok(out)
 }
 
+/// Appends the numbers of the run, if there is one.
+fn push_run(out: &mut Vec<Piece>, run: Option<Run>) -> Result<(), OutOfMemory>
+    ensures { OnOk result ((x : ℕ) → times out.new.items x ≡
+        times out.old.items x + one (is_in_run run x)) }
+{
+    match run {
+        Some(run) => push_piece(out, Some(Piece::whole(run))),
+        None => Ok(()),
+    }
+}
+
 /// Appends each number plus the distance, modulo 2^32. Numbers a power of two apart are so still;
 /// others are taken in halves until they are.
-fn push_shifted(
-    out: &mut Vec<Piece>,
-    piece: Option<Piece>,
-    distance: u32,
-) -> Result<(), OutOfMemory>
+fn push_shifted(out: &mut Vec<Piece>, run: Option<Run>, distance: u32) -> Result<(), OutOfMemory>
     ensures { OnOk result ((y : ℕ) → y < 2 ^ 32 → times out.new.items y ≡
-        times out.old.items y + one (is_held piece ((y + (2 ^ 32 - distance)) % 2 ^ 32))) }
+        times out.old.items y + one (is_in_run run ((y + (2 ^ 32 - distance)) % 2 ^ 32))) }
 {
-    let Some(p) = piece else {
+    let Some(p) = run else {
         return Ok(());
     };
     match p.pattern.halves() {
@@ -512,23 +650,23 @@ fn push_shifted(
             Ok(())
         }
         None => {
-            push_piece(out, p.shifted_within(distance))?;
-            push_piece(out, p.shifted_past(distance))?;
+            push_run(out, p.shifted_within(distance))?;
+            push_run(out, p.shifted_past(distance))?;
             Ok(())
         }
     }
 }
 
-/// So many numbers, from each multiple on, tell all bits of the piece's mask apart.
-fn block_of(p: Piece) -> u64
+/// So many numbers, from each multiple on, tell all bits of the run's mask apart.
+fn block_of(p: Run) -> u64
     ensures { 0 < result }
 {
     (u64::from(p.pattern.mask) + 1).next_power_of_two()
 }
 
-/// Whether the piece reaches into no more blocks than it has residues in one, or, where these are more than two, into
+/// Whether the run reaches into no more blocks than it has residues in one, or, where these are more than two, into
 /// fewer than 4,096.
-fn has_few_blocks(p: Piece) -> bool {
+fn has_few_blocks(p: Run) -> bool {
     let block = block_of(p);
     let blocks = (u64::from(p.high) / block).saturating_sub(u64::from(p.low) / block) + 1;
     let residues = block >> p.pattern.mask.count_ones();
@@ -536,9 +674,9 @@ fn has_few_blocks(p: Piece) -> bool {
 }
 
 /// Appends each number plus the distance, modulo 2^32, block by block: of numbers of one block a range may be left.
-fn push_blocks(out: &mut Vec<Piece>, p: Piece, distance: u32) -> Result<(), OutOfMemory>
+fn push_blocks(out: &mut Vec<Piece>, p: Run, distance: u32) -> Result<(), OutOfMemory>
     ensures { OnOk result ((y : ℕ) → y < 2 ^ 32 → times out.new.items y ≡
-        times out.old.items y + one (in_piece p ((y + (2 ^ 32 - distance)) % 2 ^ 32))) }
+        times out.old.items y + one (in_run p ((y + (2 ^ 32 - distance)) % 2 ^ 32))) }
 {
     let block = block_of(p);
     let mut from = u64::from(p.low);
@@ -552,6 +690,83 @@ fn push_blocks(out: &mut Vec<Piece>, p: Piece, distance: u32) -> Result<(), OutO
     Ok(())
 }
 
+/// Appends each number of the run plus the distance, modulo 2^32.
+fn push_moved(out: &mut Vec<Piece>, p: Run, distance: u32) -> Result<(), OutOfMemory>
+    ensures { OnOk result ((y : ℕ) → y < 2 ^ 32 → times out.new.items y ≡
+        times out.old.items y + one (in_run p ((y + (2 ^ 32 - distance)) % 2 ^ 32))) }
+{
+    if p.pattern.is_step() {
+        return push_shifted(out, Some(p), distance);
+    }
+    if has_few_blocks(p) {
+        return push_blocks(out, p, distance);
+    }
+    push_shifted(out, p.tightened(), distance)
+}
+
+/// Appends each number of the run plus the distance, modulo 2^32, if there is a run.
+fn push_moved_part(out: &mut Vec<Piece>, run: Option<Run>, distance: u32) -> Result<(), OutOfMemory>
+    ensures { OnOk result ((y : ℕ) → y < 2 ^ 32 → times out.new.items y ≡
+        times out.old.items y + one (is_in_run run ((y + (2 ^ 32 - distance)) % 2 ^ 32))) }
+{
+    match run {
+        Some(run) => push_moved(out, run, distance),
+        None => Ok(()),
+    }
+}
+
+/// The same of the numbers of a run that a pattern doesn't match, by its bits.
+fn push_moved_parts(
+    out: &mut Vec<Piece>,
+    run: Run,
+    hole: Pattern,
+    distance: u32,
+) -> Result<(), OutOfMemory>
+    ensures { OnOk result ((y : ℕ) → y < 2 ^ 32 → times out.new.items y ≡ times out.old.items y +
+        one (in_run run ((y + (2 ^ 32 - distance)) % 2 ^ 32) && not (matches hole ((y + (2 ^ 32 - distance)) % 2 ^ 32)))) }
+{
+    hole.ends();
+    for bit in 0..32 {
+        push_moved_part(out, run.missed(hole, bit), distance)?;
+    }
+    Ok(())
+}
+
+/// The same, at once where both patterns are those of numbers a power of two apart.
+fn push_moved_holed(
+    out: &mut Vec<Piece>,
+    run: Run,
+    hole: Pattern,
+    distance: u32,
+) -> Result<(), OutOfMemory>
+    ensures { OnOk result ((y : ℕ) → y < 2 ^ 32 → times out.new.items y ≡ times out.old.items y +
+        one (in_run run ((y + (2 ^ 32 - distance)) % 2 ^ 32) && not (matches hole ((y + (2 ^ 32 - distance)) % 2 ^ 32)))) }
+{
+    if run.pattern.is_step() && hole.is_step() {
+        push_piece(out, shifted_within(run, hole, distance))?;
+        push_piece(out, shifted_past(run, hole, distance))?;
+        return Ok(());
+    }
+    push_moved_parts(out, run, hole, distance)
+}
+
+/// Appends each number of the piece plus the distance, modulo 2^32.
+fn push_moved_piece(out: &mut Vec<Piece>, p: Piece, distance: u32) -> Result<(), OutOfMemory>
+    ensures { OnOk result ((y : ℕ) → y < 2 ^ 32 → times out.new.items y ≡
+        times out.old.items y + one (in_piece p ((y + (2 ^ 32 - distance)) % 2 ^ 32))) }
+{
+    match p.hole {
+        Some(hole) => {
+            push_moved_holed(out, p.run, hole, distance)?;
+            Ok(())
+        }
+        None => {
+            push_moved(out, p.run, distance)?;
+            Ok(())
+        }
+    }
+}
+
 /// Each number plus the distance, modulo 2^32.
 pub fn shifted(alloc: Global, pieces: &[Piece], distance: u32) -> Result<Vec<Piece>, OutOfMemory>
     ensures { IfOk result (λ v. (y : ℕ) → y < 2 ^ 32 →
@@ -559,13 +774,7 @@ pub fn shifted(alloc: Global, pieces: &[Piece], distance: u32) -> Result<Vec<Pie
 {
     let mut out = Vec::new(alloc);
     for p in pieces {
-        if p.pattern.is_step() {
-            push_shifted(&mut out, Some(*p), distance)?;
-        } else if has_few_blocks(*p) {
-            push_blocks(&mut out, *p, distance)?;
-        } else {
-            push_shifted(&mut out, p.tightened(), distance)?;
-        }
+        push_moved_piece(&mut out, *p, distance)?;
     }
     put_in_order(&mut out);
     Ok(out)
@@ -628,7 +837,7 @@ fn pieces_matching(alloc: Global, patterns: &[(u32, u32)]) -> Result<Vec<Piece>,
 {
     let mut out = Vec::new(alloc);
     for pattern in patterns {
-        push_piece(&mut out, Piece::matching(pattern.0, pattern.1))?;
+        push_run(&mut out, Run::matching(pattern.0, pattern.1))?;
     }
     Ok(out)
 }

@@ -9,6 +9,7 @@ ghost use Rattle.dom_set.specs.Pieces.{in_piece, is_held, times, holds, IsApart,
 use crate::error::OutOfMemory;
 use crate::pattern::Pattern;
 use crate::piece::Piece;
+use crate::run::Run;
 use crate::steps::{low_bits, step};
 use std::alloc::Global;
 
@@ -36,9 +37,12 @@ fn multiples(low: u32, high: u32, shift: u32) -> Option<Piece>
         return None;
     }
     Some(Piece {
-        low: first as u32,
-        high: last as u32,
-        pattern: Pattern::multiples(shift),
+        run: Run {
+            low: first as u32,
+            high: last as u32,
+            pattern: Pattern::multiples(shift),
+        },
+        hole: None,
     })
 }
 
@@ -72,9 +76,9 @@ fn aligned(alloc: Global, pairs: &[(u32, u32)], shift: u32) -> Result<Vec<Piece>
 
 /// Whether a piece that begins no lower goes on with the first or overlaps it.
 fn touches(p: Piece, q: Piece) -> bool
-    ensures { IsTrue result ↔ (q.low ≤ p.high + p.pattern.mask + 1) }
+    ensures { IsTrue result ↔ (q.run.low ≤ p.run.high + p.run.pattern.mask + 1) }
 {
-    u64::from(q.low) <= u64::from(p.high) + u64::from(p.pattern.mask) + 1
+    u64::from(q.run.low) <= u64::from(p.run.high) + u64::from(p.run.pattern.mask) + 1
 }
 
 /// The numbers of two pieces of one step of which the second begins no lower, and touches the
@@ -82,17 +86,20 @@ fn touches(p: Piece, q: Piece) -> bool
 fn joined(p: Piece, q: Piece, shift: u32) -> Piece
     requires first { IsMultiples shift p }
     requires second { IsMultiples shift q }
-    requires ordered { p.low ≤ q.low }
-    requires touching { q.low ≤ p.high + p.pattern.mask + 1 }
+    requires ordered { p.run.low ≤ q.run.low }
+    requires touching { q.run.low ≤ p.run.high + p.run.pattern.mask + 1 }
     ensures multiples { IsMultiples shift result }
-    ensures first { result.low ≡ p.low }
+    ensures first { result.run.low ≡ p.run.low }
     ensures held { (x : ℕ) →
         in_piece result x ≡ (in_piece p x || in_piece q x) }
 {
     Piece {
-        low: p.low,
-        high: p.high.max(q.high),
-        pattern: p.pattern,
+        run: Run {
+            low: p.run.low,
+            high: p.run.high.max(q.run.high),
+            pattern: p.run.pattern,
+        },
+        hole: None,
     }
 }
 
@@ -106,7 +113,7 @@ fn merged_from(
 ) -> Result<Vec<Piece>, OutOfMemory>
     requires first { IsMultiples shift first }
     requires rest { All (IsMultiples shift) rest.now }
-    requires sorted { IsNonDecreasingBy (λ p. p.low) (first ∷ rest.now) }
+    requires sorted { IsNonDecreasingBy (λ p. p.run.low) (first ∷ rest.now) }
     ensures { IfOk result (λ v. (x : ℕ) →
         times v.items x ≡ one (in_piece first x || holds rest.now x)) }
 {
@@ -127,7 +134,7 @@ fn merged_from(
 /// The numbers of pieces of one step in the order of their first numbers, each once.
 fn merged(alloc: Global, sorted: &[Piece], shift: u32) -> Result<Vec<Piece>, OutOfMemory>
     requires multiples { All (IsMultiples shift) sorted.now }
-    requires sorted { IsNonDecreasingBy (λ p. p.low) sorted.now }
+    requires sorted { IsNonDecreasingBy (λ p. p.run.low) sorted.now }
     ensures { IfOk result (λ v. (x : ℕ) → times v.items x ≡ one (holds sorted.now x)) }
 {
     match sorted {
@@ -145,7 +152,7 @@ pub fn pieces_of(alloc: Global, pairs: &[(u32, u32)], align: u32) -> Result<Vec<
 {
     let shift = exponent(align);
     let mut all = aligned(alloc, pairs, shift)?;
-    all.sort_unstable_by_key(|p| p.low);
+    all.sort_unstable_by_key(|p| p.run.low);
     let pieces = merged(alloc, &all, shift)?;
     Ok(pieces)
 }

@@ -15,7 +15,7 @@ impl Pattern {
     ghost use Rattle.std.specs.Prelude.{◌≡◌, ℕ, ◌+◌, ◌-◌, ◌*◌, ◌/◌, ◌%◌, ◌^◌, ◌<◌, ◌≤◌, ◌↔◌, ◌&&◌, true, false, not, IfSome, IsNone, IsTrue};
     ghost use Rattle.dom_set.specs.Counting.{one, total};
     ghost use Rattle.dom_set.specs.Patterns.{is_matched, matches, matches_below, IsStep};
-    ghost use Rattle.dom_set.specs.Pieces.{IsLastTo};
+    ghost use Rattle.dom_set.specs.Ends.{IsLastTo};
 
     /// Whether the number matches.
     pub fn matches(self, x: u32) -> bool
@@ -146,6 +146,13 @@ impl Pattern {
             mask: self.mask | other.mask,
             bits: self.bits | other.bits,
         })
+    }
+
+    /// Whether it has all bits of the other: then the other matches where it does.
+    pub fn is_within(self, other: Pattern) -> bool
+        ensures { IsTrue result → (x : ℕ) → IsTrue (matches self x) → IsTrue (matches other x) }
+    {
+        self.mask & other.mask == other.mask && self.bits & other.mask == other.bits
     }
 
     /// The pattern of the numbers that have its bits below this one, and not this one.

@@ -1,95 +1,134 @@
-// Ranges of numbers of which those count that match a pattern.
-ghost use Rattle.std.specs.Prelude.{◌≤◌, ◌<◌, ◌^◌};
+// Runs but for the numbers that a second pattern matches.
+ghost use Rattle.std.specs.Prelude.{◌≡◌, ℕ, ◌-◌, ◌+◌, ◌%◌, ◌^◌, ◌<◌, ◌≤◌, ◌&&◌, ◌||◌, true, false, not, nat_lt, nat_le, bit_and, IfSome, IsNone};
+ghost use Rattle.dom_set.specs.Counting.{one, total};
+ghost use Rattle.dom_set.specs.Patterns.{is_matched, matches, matches_below, IsStep};
+ghost use Rattle.dom_set.specs.Ends.{HasPage, IsFirstFrom, IsLast, AreEnds};
+ghost use Rattle.dom_set.specs.Runs.{in_run, is_in_run};
+ghost use Rattle.dom_set.specs.Pieces.{in_piece, is_held};
 
+use crate::holes::{first_without, last_without, pages_unmatched};
 use crate::pattern::Pattern;
-use crate::steps::END;
+use crate::run::Run;
 
-/// The numbers from `low` to `high` that match the pattern.
+/// The numbers of the run that its hole doesn't match, if it has one.
 #[derive(Clone, Copy, PartialEq, Eq)]
 pub struct Piece {
-    pub low: u32,
-    pub high: u32,
-    pub pattern: Pattern,
-    ghost ordered: { low ≤ high },
-    ghost fits: { high < 2 ^ 32 },
+    pub run: Run,
+    pub hole: Option<Pattern>,
+}
+
+/// How many numbers below the given one the run holds, if there is a run.
+#[tactic(auto, using(crate::proofs::Totals::total_zero))]
+fn count_of(run: Option<Run>, x: u64) -> u64
+    ensures { result ≡ total (λ y. one (is_in_run run y)) x }
+{
+    match run {
+        Some(run) => run.count_below(x),
+        None => 0,
+    }
+}
+
+/// The pattern of the numbers that match when bit 0 is cleared.
+fn odd_hole(hole: Option<Pattern>) -> Option<Pattern>
+    ensures { (x : ℕ) → is_matched result x ≡ is_matched hole (x - x % 2) }
+{
+    match hole {
+        Some(hole) => hole.with_odd(),
+        None => None,
+    }
 }
 
 impl Piece {
-    ghost use Rattle.std.specs.Prelude.{◌≡◌, ℕ, ◌+◌, ◌-◌, ◌%◌, ◌^◌, ◌<◌, ◌≤◌, ◌&&◌, ◌==◌, true, false, not, nat_lt, nat_le, bit_and, IfSome, IsNone};
-    ghost use Rattle.dom_set.specs.Counting.{one, total};
-    ghost use Rattle.dom_set.specs.Patterns.{matches, matches_below, IsStep};
-    ghost use Rattle.dom_set.specs.Pieces.{in_span, in_piece, is_held, HasPage, HoldsSome, IsFirstFrom, IsLast, IsPart};
-
-    /// The numbers whose bits under the mask are these, if it has them all. Where the highest bits are among
-    /// them, the ends tell these, and the pattern those below the highest bit that the mask lacks.
-    pub fn matching(mask: u32, bits: u32) -> Option<Piece>
-        ensures held { (x : ℕ) → x < 2 ^ 32 → is_held result x ≡ (bit_and x mask == bits) }
-        ensures some { IfSome result HoldsSome }
+    /// All numbers of the run.
+    pub fn whole(run: Run) -> Piece
+        ensures held { (x : ℕ) → in_piece result x ≡ in_run run x }
+        ensures run { result.run ≡ run }
+        ensures hole { IsNone result.hole }
     {
-        if bits & mask != bits {
-            return None;
-        }
-        let lacks = !mask;
-        let below = ((u64::from(lacks) + 1).next_power_of_two() - 1) as u32;
-        Some(Piece {
-            low: bits,
-            high: bits | lacks,
-            pattern: Pattern {
-                mask: mask & below,
-                bits: bits & below,
-            },
-        })
+        Piece { run, hole: None }
     }
 
-    /// The bits that all its numbers have under the mask, where its pattern tells them or there is just one number.
+    /// The numbers of the run that the pattern doesn't match, if there are any. The hole is kept only where it matches one
+    /// of the run's numbers.
+    fn less(run: Run, hole: Pattern) -> Option<Piece>
+        ensures { (x : ℕ) → is_held result x ≡ (in_run run x && not (matches hole x)) }
+    {
+        if run.matched(hole).is_none() {
+            return Some(Piece::whole(run));
+        }
+        let piece = Piece {
+            run,
+            hole: Some(hole),
+        };
+        match piece.first_from(0) {
+            Some(_) => Some(piece),
+            None => None,
+        }
+    }
+
+    /// The same, where the pattern need not have the bits of the run's own: the hole gets them, too.
+    fn unmatched(run: Run, hole: Pattern) -> Option<Piece>
+        ensures { (x : ℕ) → is_held result x ≡ (in_run run x && not (matches hole x)) }
+    {
+        match run.pattern.both(hole) {
+            Some(both) => Piece::less(run, both),
+            None => Some(Piece::whole(run)),
+        }
+    }
+
+    /// The numbers of the run that the hole doesn't match, if there are any.
+    pub fn of(run: Run, hole: Option<Pattern>) -> Option<Piece>
+        ensures { (x : ℕ) → is_held result x ≡ (in_run run x && not (is_matched hole x)) }
+    {
+        match hole {
+            Some(hole) => Piece::unmatched(run, hole),
+            None => Some(Piece::whole(run)),
+        }
+    }
+
+    /// Whether the hole matches the number.
+    fn is_missing(self, x: u32) -> bool
+        ensures { result ≡ is_matched self.hole x }
+    {
+        match self.hole {
+            Some(hole) => hole.matches(x),
+            None => false,
+        }
+    }
+
+    /// The numbers of the run that the hole matches.
+    pub fn filled(self) -> Option<Run>
+        ensures { (x : ℕ) → is_in_run result x ≡ (in_run self.run x && is_matched self.hole x) }
+    {
+        match self.hole {
+            Some(hole) => self.run.matched(hole),
+            None => None,
+        }
+    }
+
+    /// The bits that all its numbers have under the mask, where its run's pattern tells them, or the run has just one
+    /// number.
     pub fn bits_under(self, mask: u32) -> Option<u32>
         ensures { IfSome result (λ bits. (x : ℕ) → in_piece self x ≡ true → bit_and x mask ≡ bits) }
     {
-        if self.pattern.mask & mask == mask {
-            return Some(self.pattern.bits & mask);
-        }
-        let (low, high) = self.span()?;
-        if low == high { Some(low & mask) } else { None }
+        self.run.bits_under(mask)
     }
 
     /// Whether it holds the number.
     pub fn has(self, x: u32) -> bool
         ensures { result ≡ in_piece self x }
     {
-        self.low <= x && x <= self.high && self.pattern.matches(x)
+        self.run.has(x) && !self.is_missing(x)
     }
 
     /// Its numbers from one number on and below another.
     pub fn clipped(self, from: u64, end: u64) -> Option<Piece>
         requires { from ≤ 2 ^ 32 }
-        ensures held { (x : ℕ) →
-            is_held result x ≡ (in_piece self x && (nat_le from x && nat_lt x end)) }
-        ensures pattern { IfSome result (λ r. r.pattern ≡ self.pattern) }
-        ensures from { IfSome result (λ r. from ≤ r.low) }
-        ensures end { IfSome result (λ r. r.high < end) }
-        ensures some { IfSome result HoldsSome }
+        ensures { (x : ℕ) → is_held result x ≡ (in_piece self x && (nat_le from x && nat_lt x end)) }
     {
-        let low = from.max(u64::from(self.low));
-        let end = end.min(u64::from(self.high) + 1);
-        if end <= self.pattern.next_from(low) {
-            return None;
-        }
-        Some(Piece {
-            low: low as u32,
-            high: (end - 1) as u32,
-            pattern: self.pattern,
-        })
-    }
-
-    /// The numbers between its ends that match another pattern.
-    pub fn with_pattern(self, pattern: Pattern) -> Piece
-        ensures held { (x : ℕ) → in_piece result x ≡ (in_span self x && matches pattern x) }
-        ensures pattern { result.pattern ≡ pattern }
-    {
-        Piece {
-            low: self.low,
-            high: self.high,
-            pattern,
+        match self.run.clipped(from, end) {
+            Some(run) => Piece::of(run, self.hole),
+            None => None,
         }
     }
 
@@ -97,14 +136,9 @@ impl Piece {
     pub fn first_from(self, from: u32) -> Option<u32>
         ensures { IsFirstFrom (in_piece self) from result }
     {
-        if self.high < from {
-            return None;
-        }
-        let first = self.pattern.next_from(u64::from(from.max(self.low)));
-        if first <= u64::from(self.high) {
-            Some(first as u32)
-        } else {
-            None
+        match self.hole {
+            Some(hole) => first_without(self.run, hole, from),
+            None => self.run.first_from(from),
         }
     }
 
@@ -112,32 +146,21 @@ impl Piece {
     pub fn last(self) -> Option<u32>
         ensures { IsLast (in_piece self) result }
     {
-        let last = self.pattern.last_to(self.high)?;
-        if self.low <= last { Some(last) } else { None }
+        match self.hole {
+            Some(hole) => last_without(self.run, hole),
+            None => self.run.last(),
+        }
     }
 
     /// Its lowest and its highest number.
     pub fn span(self) -> Option<(u32, u32)>
         ensures none { IsNone result → (x : ℕ) → in_piece self x ≡ false }
         ensures covered { IfSome result (λ s. (x : ℕ) → in_piece self x ≡ true → (s.0 ≤ x) × (x ≤ s.1)) }
-        ensures part { IfSome result (IsPart (in_piece self)) }
+        ensures ends { IfSome result (AreEnds (in_piece self)) }
     {
         let low = self.first_from(0)?;
         let high = self.last()?;
         Some((low, high))
-    }
-
-    /// The same numbers, from the first of them to the last one, by a pattern without the highest bits that they share.
-    pub fn tightened(self) -> Option<Piece>
-        ensures { (x : ℕ) → is_held result x ≡ in_piece self x }
-    {
-        let low = self.first_from(0)?;
-        let high = self.last()?;
-        Some(Piece {
-            low,
-            high,
-            pattern: self.pattern.between(low, high),
-        })
     }
 
     /// A page from the given one on, so that each page before it, from the given one on, has one of the numbers.
@@ -147,10 +170,9 @@ impl Piece {
         ensures most { result ≤ 2 ^ 20 }
         ensures held { (q : ℕ) → page ≤ q → q < result → HasPage (in_piece self) q }
     {
-        if self.pattern.mask < 4096 && u64::from(self.low) <= u64::from(page) * 4096 {
-            page.max(self.high / 4096)
-        } else {
-            page
+        match self.hole {
+            Some(hole) => pages_unmatched(self.run, hole, page),
+            None => self.run.pages_end(page),
         }
     }
 
@@ -158,123 +180,80 @@ impl Piece {
     pub fn count_below(self, x: u64) -> u64
         ensures { result ≡ total (λ y. one (in_piece self y)) x }
     {
-        let end = x.min(u64::from(self.high) + 1);
-        let low = u64::from(self.low);
-        if end <= low {
-            0
-        } else {
-            self.pattern.count_below(end) - self.pattern.count_below(low)
-        }
+        self.run.count_below(x) - count_of(self.filled(), x)
     }
 
-    /// The numbers that both pieces hold.
-    pub fn common(self, other: Self) -> Option<Piece>
-        ensures held { (x : ℕ) → is_held result x ≡ (in_piece self x && in_piece other x) }
-        ensures some { IfSome result HoldsSome }
+    /// The numbers that it has in common with the run.
+    pub fn common(self, other: Run) -> Option<Piece>
+        ensures { (x : ℕ) → is_held result x ≡ (in_piece self x && in_run other x) }
     {
-        if self.high < other.low || other.high < self.low {
-            return None;
-        }
-        match self.pattern.both(other.pattern) {
-            Some(pattern) => {
-                let both = self.with_pattern(pattern);
-                both.clipped(u64::from(other.low), u64::from(other.high) + 1)
-            }
+        match self.run.common(other) {
+            Some(run) => Piece::of(run, self.hole),
             None => None,
         }
     }
 
-    /// Its numbers between the ends of the other that have the other's bits below this one, and not
-    /// this one.
-    pub fn missed(self, other: Self, bit: u32) -> Option<Piece>
-        requires { bit < 32 }
-        ensures held { (x : ℕ) → is_held result x ≡ ((in_piece self x && in_span other x) &&
-            (matches_below other.pattern bit x && not (matches_below other.pattern (bit + 1) x))) }
-        ensures some { IfSome result HoldsSome }
+    /// A pattern that is matched where the hole or the other pattern is, if one of them has all that the other has.
+    pub fn wider_hole(self, other: Pattern) -> Option<Pattern>
+        ensures { IfSome result (λ h. (x : ℕ) → matches h x ≡ (is_matched self.hole x || matches other x)) }
     {
-        match self.pattern.missed(other.pattern, bit) {
-            Some(pattern) => {
-                let part = self.with_pattern(pattern);
-                part.clipped(u64::from(other.low), u64::from(other.high) + 1)
-            }
+        let Some(hole) = self.hole else {
+            return Some(other);
+        };
+        if hole.is_within(other) {
+            return Some(other);
+        }
+        if other.is_within(hole) {
+            return Some(hole);
+        }
+        None
+    }
+
+    /// Its numbers that have the pattern's bits below this one, and not this one.
+    pub fn missed(self, other: Pattern, bit: u32) -> Option<Piece>
+        requires { bit < 32 }
+        ensures { (x : ℕ) → is_held result x ≡ (in_piece self x &&
+            (matches_below other bit x && not (matches_below other (bit + 1) x))) }
+    {
+        match self.run.missed(other, bit) {
+            Some(run) => Piece::of(run, self.hole),
             None => None,
         }
     }
 
     /// The numbers that it holds when bit 0 is cleared.
     pub fn with_odd(self) -> Option<Piece>
-        ensures held { (x : ℕ) → x < 2 ^ 32 → is_held result x ≡ in_piece self (x - x % 2) }
-        ensures some { IfSome result HoldsSome }
+        ensures { (x : ℕ) → x < 2 ^ 32 → is_held result x ≡ in_piece self (x - x % 2) }
     {
-        let low = u64::from(self.low) + u64::from(self.low % 2);
-        let high = self.high - self.high % 2 + 1;
-        if u64::from(high) < low {
-            return None;
-        }
-        match self.pattern.with_odd() {
-            Some(pattern) => {
-                let both = Piece {
-                    low: low as u32,
-                    high,
-                    pattern,
-                };
-                both.clipped(0, END)
-            }
+        match self.run.with_odd() {
+            Some(run) => Piece::of(run, odd_hole(self.hole)),
             None => None,
         }
     }
+}
 
-    /// Each number plus the distance.
-    fn raised(self, distance: u32) -> Piece
-        requires step { IsStep self.pattern }
-        requires fits { self.high + distance < 2 ^ 32 }
-        ensures { (y : ℕ) → in_piece result y ≡
-            (nat_le distance y && in_piece self (y - distance)) }
-    {
-        Piece {
-            low: self.low + distance,
-            high: self.high + distance,
-            pattern: self.pattern.raised(distance),
-        }
+/// The numbers of the run that the hole doesn't match, each plus the distance, where that is below 2^32.
+pub fn shifted_within(run: Run, hole: Pattern, distance: u32) -> Option<Piece>
+    requires run { IsStep run.pattern }
+    requires hole { IsStep hole }
+    ensures { (y : ℕ) → y < 2 ^ 32 → is_held result y ≡
+        (nat_le distance y && (in_run run (y - distance) && not (matches hole (y - distance)))) }
+{
+    match run.shifted_within(distance) {
+        Some(moved) => Piece::of(moved, Some(hole.raised(distance))),
+        None => None,
     }
+}
 
-    /// Each number less the distance.
-    fn lowered(self, distance: u32) -> Piece
-        requires step { IsStep self.pattern }
-        requires above { distance ≤ self.low }
-        ensures { (y : ℕ) → in_piece result y ≡ in_piece self (y + distance) }
-    {
-        Piece {
-            low: self.low - distance,
-            high: self.high - distance,
-            pattern: self.pattern.lowered(distance),
-        }
-    }
-
-    /// Each number plus the distance, where that is below 2^32.
-    pub fn shifted_within(self, distance: u32) -> Option<Piece>
-        requires { IsStep self.pattern }
-        ensures held { (y : ℕ) → y < 2 ^ 32 → is_held result y ≡
-            (nat_le distance y && in_piece self (y - distance)) }
-        ensures some { IfSome result HoldsSome }
-    {
-        match self.clipped(0, END - u64::from(distance)) {
-            Some(low) => Some(low.raised(distance)),
-            None => None,
-        }
-    }
-
-    /// Each number plus the distance less 2^32, where that is no less than 0.
-    pub fn shifted_past(self, distance: u32) -> Option<Piece>
-        requires { IsStep self.pattern }
-        ensures held { (y : ℕ) → y < 2 ^ 32 → is_held result y ≡
-            (nat_lt y distance && in_piece self (y + (2 ^ 32 - distance))) }
-        ensures some { IfSome result HoldsSome }
-    {
-        let cut = END - u64::from(distance);
-        match self.clipped(cut, END) {
-            Some(high) => Some(high.lowered(cut as u32)),
-            None => None,
-        }
+/// The same less 2^32, where that is no less than 0.
+pub fn shifted_past(run: Run, hole: Pattern, distance: u32) -> Option<Piece>
+    requires run { IsStep run.pattern }
+    requires hole { IsStep hole }
+    ensures { (y : ℕ) → y < 2 ^ 32 → is_held result y ≡
+        (nat_lt y distance && (in_run run (y + (2 ^ 32 - distance)) && not (matches hole (y + (2 ^ 32 - distance))))) }
+{
+    match run.shifted_past(distance) {
+        Some(moved) => Piece::of(moved, Some(hole.lowered(0u32.wrapping_sub(distance)))),
+        None => None,
     }
 }

@@ -2,13 +2,16 @@
 ghost use Rattle.std.specs.Prelude.{◌≡◌, ℕ, ◌+◌, ◌-◌, ◌^◌, ◌%◌, ◌<◌, ◌≤◌, ◌↔◌, ◌==◌, ◌&&◌, ◌||◌, true, [], length, filter, not, nat_lt, nat_le, Some, slice_get, ◌≢◌, ◌∷◌, MatchOption, IfOk, IfSome, IsTrue, IsNone, bit_and, All, Contains};
 ghost use Rattle.std.specs.List.Sorted.{IsStrictlyIncreasing};
 ghost use Rattle.std.specs.Int.{IsPowerOfTwo};
-ghost use Rattle.dom_set.specs.Pieces.{HasPage, IsPart};
+ghost use Rattle.dom_set.specs.Ends.{HasPage};
+ghost use Rattle.dom_set.specs.Ends.{AreEnds};
+ghost use Rattle.dom_set.specs.Tracks.{is_on_one};
 ghost use Rattle.dom_set.specs.Elements.{elements_of, is_in, is_within, is_matching, is_signed_lt, first_cyclic};
 
 use crate::error::OutOfMemory;
 use crate::piece::Piece;
 use crate::steps::END;
-use crate::{lists, pairs};
+use crate::track::Track;
+use crate::{lists, pairs, tracks};
 use std::alloc::Global;
 use std::marker::Model;
 
@@ -168,14 +171,21 @@ impl Set {
         lists::bits_under(&self.pieces, mask)
     }
 
-    /// Ranges that hold all elements, each from one element to another: between these the elements are those numbers
-    /// that have the bits of both under a mask.
+    /// Ranges that hold all elements, each from one element to another.
     pub fn spans(&self, alloc: Global) -> Result<Vec<(u32, u32)>, OutOfMemory>
         ensures covered { IfOk result (λ spans. (x : ℕ) → IsTrue (is_in self.now x) → IsTrue (is_within spans.items x)) }
-        ensures parts { IfOk result (λ spans. All (IsPart (is_in self.now)) spans.items) }
+        ensures ends { IfOk result (λ spans. All (AreEnds (is_in self.now)) spans.items) }
     {
         let spans = lists::spans(alloc, &self.pieces)?;
         Ok(spans)
+    }
+
+    /// Tracks that hold all elements, and perhaps more.
+    pub fn tracks(&self, alloc: Global) -> Result<Vec<Track>, OutOfMemory>
+        ensures { IfOk result (λ tracks. (x : ℕ) → IsTrue (is_in self.now x) → IsTrue (is_on_one tracks.items x)) }
+    {
+        let tracks = tracks::tracks(alloc, &self.pieces)?;
+        Ok(tracks)
     }
 
     /// A page of 4,096 numbers from the given one on, so that each page before it, from the given one on, has an

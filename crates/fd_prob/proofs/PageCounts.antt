@@ -10,7 +10,7 @@ use Rattle.std.proofs.lemmas.List.Elements.{filter-append}
 use Rattle.std.proofs.lemmas.Bool.{eq-eqb, eqb-true}
 use Rattle.std.proofs.lemmas.List.Folds.{Any-from_list_any, list_any_at}
 use Rattle.dom_set.specs.Elements.{is_in, numbers_below}
-use Rattle.dom_set.specs.Pieces.{HasPage}
+use Rattle.dom_set.specs.Ends.{HasPage}
 use Rattle.fd_prob.specs.Spaces.{has_page, pages_below}
 
 abbrev tail : List ℕ → ℕ → ℕ

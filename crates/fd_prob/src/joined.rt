@@ -25,7 +25,7 @@ fn common(alloc: Global, a: &Set, b: &Set) -> Result<Option<Set>, OutOfMemory>
     Ok(Some(common))
 }
 
-/// The row that holds where both do, unless no two of their sets meet.
+/// The row that holds where both do, unless two of their sets do not meet.
 fn common_row(alloc: Global, a: &Quad, b: &Quad) -> Result<Option<Quad>, OutOfMemory>
     ensures { IfOk result (IsCommonRow a.now b.now) }
 {

@@ -127,7 +127,7 @@ fn solve_marked(
 }
 
 /// The least assignment that has the operation and is of one of the cases, with what the marked biases add to them. The cases
-/// that are searched stand for those of the problem; where they are narrow, their relations take nothing from their domains.
+/// that are searched stand for those of the problem; where they are narrow, their relations were asked.
 pub fn solve_cases(
     alloc: Global,
     marked: &Marked,

@@ -1,6 +1,6 @@
 //! The exact solver of problems. Where a problem's space is within a budget, `solve` finds the least
 //! assignment that fits, in the order of the problem's pivots, or that there is none. `solve_leaf` takes
-//! biases one after another and keeps each that leaves the problem an answer. The search goes through the
+//! biases one after another and keeps each that leaves the problem an assignment for its answer. The search goes through the
 //! cases of one operation after another; in a case it goes through the variables in their order, tries the
 //! values of each from its pivot, and lets the relations narrow the domains of the others.
 #![tactic(auto)]

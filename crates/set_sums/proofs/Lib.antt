@@ -1,4 +1,7 @@
 pub mod Members
 pub mod Spans
 pub mod Quarters
-pub mod Parts
+pub mod Wanted
+pub mod Grids
+pub mod Marking
+pub mod Remembered

@@ -1,10 +1,8 @@
 -- Sets and ranges that hold what is asked for.
-use Rattle.std.proofs.Common.{nat_lt, nat_le, inl, inr}
-use Rattle.std.proofs.lemmas.Bool.{cases_lt, lt-ltb, le-leb}
-use Rattle.std.proofs.Common.{◌≡◌, ℕ, ◌+◌, ◌-◌, ◌%◌, ◌^◌, ◌<◌, ◌≤◌, ◌&&◌, ◌||◌, ◌==◌, Bool, true, false, List, [], ◌∷◌, ◌++◌, All, IsTrue, Some, nat_le, slice_get, length, get_or, refl, sym, ap, ◌∙◌, subst, arith, inl, inr, ◌⊎◌, ⊎_elim}
+use Rattle.std.proofs.Common.{◌≡◌, ℕ, ◌+◌, ◌-◌, ◌%◌, ◌^◌, ◌<◌, ◌≤◌, ◌&&◌, ◌||◌, ◌==◌, Bool, true, false, List, [], ◌∷◌, ◌++◌, All, IsTrue, Some, nat_le, nat_lt, slice_get, length, get_or, refl, sym, ap, ◌∙◌, subst, arith, inl, inr, ◌⊎◌, ⊎_elim}
 use Rattle.std.specs.List.{filter}
 use Rattle.std.specs.List.Sorted.{IsStrictlyIncreasing}
-use Rattle.std.proofs.lemmas.Bool.{cases_lt, leb-true, le-leb}
+use Rattle.std.proofs.lemmas.Bool.{cases_lt, le-leb, leb-true, lt-ltb}
 use Rattle.std.proofs.lemmas.List.Folds.{list_any-append}
 use Rattle.std.proofs.lemmas.List.Kept.{AllPairs-from_increasing}
 use Rattle.std.proofs.lemmas.Option.{get_or_from_slice_get}
@@ -29,6 +27,15 @@ pub true_or_false : (b : Bool) → IsTrue b ⊎ (b ≡ false)
 true_or_false true = inl refl
 true_or_false false = inr refl
 
+pub of_pair : (span : ℕ × ℕ) (v : ℕ) → IsTrue (nat_le span.0 v && nat_le v span.1) → (span.0 ≤ v) × (v ≤ span.1)
+of_pair span v h = (leb-true span.0 v (left (nat_le span.0 v) (nat_le v span.1) h), leb-true v span.1 (right (nat_le span.0 v) (nat_le v span.1) h))
+
+pub only_pair : (span : ℕ × ℕ) (v : ℕ) → IsTrue (is_within (span ∷ []) v) → IsTrue (nat_le span.0 v && nat_le v span.1)
+only_pair span v h = alone (nat_le span.0 v && nat_le v span.1) h where
+  alone : (b : Bool) → IsTrue (b || false) → IsTrue b
+  alone true k = refl
+  alone false k = k
+
 module _ (pass : ElementsPass) (tests : IsInTests) where
   pub shifted_has : (set made : List ℕ) (distance : ℕ) → made ≡ elements_of (λ y. is_in set ((y + (2 ^ 32 - distance)) % 2 ^ 32)) → (v : ℕ) → v < 2 ^ 32 → is_in made v ≡ is_in set ((v + (2 ^ 32 - distance)) % 2 ^ 32)
   shifted_has set made distance is v small = ap (λ (d : List ℕ). is_in d v) is ∙ is_in-elements_of pass tests (λ y. is_in set ((y + (2 ^ 32 - distance)) % 2 ^ 32)) v small
@@ -45,24 +52,15 @@ module _ (pass : ElementsPass) (tests : IsInTests) where
 in_pair : (span : ℕ × ℕ) (v : ℕ) → span.0 ≤ v → v ≤ span.1 → IsTrue (nat_le span.0 v && nat_le v span.1)
 in_pair span v low high = joined (nat_le span.0 v) (nat_le v span.1) (le-leb span.0 v low) (le-leb v span.1 high)
 
-pub of_pair : (span : ℕ × ℕ) (v : ℕ) → IsTrue (nat_le span.0 v && nat_le v span.1) → (span.0 ≤ v) × (v ≤ span.1)
-of_pair span v h = (leb-true span.0 v (left (nat_le span.0 v) (nat_le v span.1) h), leb-true v span.1 (right (nat_le span.0 v) (nat_le v span.1) h))
-
-pub only_pair : (span : ℕ × ℕ) (v : ℕ) → IsTrue (is_within (span ∷ []) v) → IsTrue (nat_le span.0 v && nat_le v span.1)
-only_pair span v h = alone (nat_le span.0 v && nat_le v span.1) h where
-  alone : (b : Bool) → IsTrue (b || false) → IsTrue b
-  alone true k = refl
-  alone false k = k
-
 -- one range more
 pub pushed_kept : (ranges : List (ℕ × ℕ)) (span : ℕ × ℕ) → AreKept ranges (ranges ++ span ∷ [])
 pushed_kept ranges span v h = subst (λ (b : Bool). IsTrue b) (sym (list_any-append (λ (r : ℕ × ℕ). nat_le r.0 v && nat_le v r.1) ranges (span ∷ []))) (first_of_two (is_within ranges v) (is_within (span ∷ []) v) h)
 
-pub pushed_has : (ranges : List (ℕ × ℕ)) (span : ℕ × ℕ) (v : ℕ) → span.0 ≤ v → v ≤ span.1 → IsTrue (is_within (ranges ++ span ∷ []) v)
-pushed_has ranges span v low high = subst (λ (b : Bool). IsTrue b) (sym (list_any-append (λ (r : ℕ × ℕ). nat_le r.0 v && nat_le v r.1) ranges (span ∷ []))) (second_of_two (is_within ranges v) (is_within (span ∷ []) v) (first_of_two (nat_le span.0 v && nat_le v span.1) false (in_pair span v low high)))
-
 pub pushed_splits : (ranges : List (ℕ × ℕ)) (span : ℕ × ℕ) (v : ℕ) → IsTrue (is_within (ranges ++ span ∷ []) v) → IsTrue (is_within ranges v) ⊎ ((span.0 ≤ v) × (v ≤ span.1))
 pushed_splits ranges span v h = ⊎_elim inl (λ k. inr (of_pair span v (only_pair span v k))) (either (is_within ranges v) (is_within (span ∷ []) v) (subst (λ (b : Bool). IsTrue b) (list_any-append (λ (r : ℕ × ℕ). nat_le r.0 v && nat_le v r.1) ranges (span ∷ [])) h))
+
+pub pushed_has : (ranges : List (ℕ × ℕ)) (span : ℕ × ℕ) (v : ℕ) → span.0 ≤ v → v ≤ span.1 → IsTrue (is_within (ranges ++ span ∷ []) v)
+pushed_has ranges span v low high = subst (λ (b : Bool). IsTrue b) (sym (list_any-append (λ (r : ℕ × ℕ). nat_le r.0 v && nat_le v r.1) ranges (span ∷ []))) (second_of_two (is_within ranges v) (is_within (span ∷ []) v) (first_of_two (nat_le span.0 v && nat_le v span.1) false (in_pair span v low high)))
 
 at_least_first : (xs : List ℕ) (low k : ℕ) (d : ℕ) → IsStrictlyIncreasing xs → slice_get xs 0 ≡ Some low → k < length xs → low ≤ get_or xs k d
 at_least_first xs low k d ascends first below = elim (cases_lt 0 k) [

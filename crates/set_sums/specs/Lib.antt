@@ -1,3 +1,5 @@
-pub mod Spans
+pub mod Near
 pub mod Remainders
-pub mod Parts
+pub mod Spans
+pub mod Wanted
+pub mod Classes

@@ -1,14 +1,16 @@
-//! Sums, differences and halves of sets of words, modulo 2^32, by ranges around their elements and by the low bits of
-//! these. Each holds all that is asked for, and just that where one of the sets has one element; else perhaps more. Of
-//! sums and differences only those in a domain are asked for. Where the whole sets tell nothing of the domain, and spans
-//! of one differ in their low bits, sums and differences are those of each two of a few parts with low bits of their own,
-//! so that a far element doesn't hide what the others have in common. It stands on `dom_set` alone, and `fd_narrow` cuts
-//! domains by it.
+//! Sums, differences and halves of sets of words, modulo 2^32. Each holds all that is asked for, and perhaps more; how much
+//! more is no clause's. Of sums and differences only those in a domain are asked for. They are
+//! found by ranges around the elements and by the low bits of these, each alone. Differences in a domain whose words are
+//! all from -2,048 to 2,047, as those of an immediate, are found by both together: the elements are taken as numbers that
+//! are a power of two apart, and what two of these give is marked, or all where that would take too long. It stands on
+//! `dom_set` and `lane_bits` alone, and `fd_narrow` cuts domains by it.
 #![tactic(auto)]
 
+mod marks;
+mod near;
 mod ranges;
 mod remainders;
-mod splits;
+mod steps;
 mod sums;
 
 pub use dom_set::OutOfMemory;

@@ -3,6 +3,7 @@ ghost use Rattle.std.specs.Prelude.{◌≡◌, ℕ, ◌+◌, ◌-◌, ◌%◌, �
 ghost use Rattle.dom_set.specs.Elements.{is_in};
 ghost use Rattle.set_sums.specs.Spans.{AreCovered, AreKept, AreNegated, AreNegatives, HasDifferencesWithin, HasHalves, HasSumsWithin, HaveHalves, HaveHalvesOf, HaveRound, HaveSums, HaveSumsOf, HaveSumsWith, IsAround, IsBetween, IsMet, IsOfRanges, MayMeet};
 
+use crate::near::is_narrow;
 use dom_set::{OutOfMemory, Set, set_laws};
 use std::alloc::Global;
 
@@ -80,17 +81,14 @@ fn push_ends(ranges: &mut Vec<Span>, set: &Set) -> Result<(), OutOfMemory>
 /// How many elements a set may have so that each is a range of its own.
 const FEW: u64 = 32;
 
-/// How many sums of ranges are kept, at most, where both sets are taken as they are.
-const MANY: usize = 8192;
+/// How many ranges a set is taken by, at most.
+const MANY: usize = 4096;
 
-/// How many pairs of ranges are, at most, where the windows are not narrow.
-const PAIRS: usize = 131_072;
+/// How many it is taken by where all its elements are near 0, since two ranges around these lose little there.
+const NEAR: usize = 32;
 
-/// How many are, where the windows are narrow.
-const MORE: usize = 1_048_576;
-
-/// How many words narrow windows have, at most.
-const NARROW: u64 = 65_536;
+/// How many pairs of ranges there are, at most.
+const PAIRS: usize = 16_384;
 
 /// How many ranges are looked at one by one.
 const BLOCK: usize = 16;
@@ -133,20 +131,21 @@ fn merged_spans(alloc: Global, set: &Set) -> Result<Vec<Span>, OutOfMemory>
     Ok(merged)
 }
 
-/// Ranges around the elements: the spans of the set, one for each element where these are few and not all numbers of
-/// the spans, or two at most where the spans are too many.
+/// Ranges around the elements: the spans of the set, one for each element where these are few and more than the
+/// spans, or two at most where the spans are too many.
 fn parts(alloc: Global, set: &Set) -> Result<Vec<Span>, OutOfMemory>
     ensures { IfOk result (λ parts. AreCovered set.now parts.items) }
 {
     let parts = merged_spans(alloc, set)?;
+    let most = if is_narrow(set) { NEAR } else { MANY };
+    if parts.len() > most {
+        let parts = halves(alloc, set)?;
+        return Ok(parts);
+    }
     if set.size() <= FEW && set.size() > parts.len() as u64 {
         let parts = elements(alloc, set)?;
         return Ok(parts);
     }
-    if parts.len() <= MANY / 2 {
-        return Ok(parts);
-    }
-    let parts = halves(alloc, set)?;
     Ok(parts)
 }
 
@@ -205,62 +204,9 @@ fn may_meet(firsts: &[Span], others: &[Span], windows: &[Span]) -> bool
     are_met(windows, low, high)
 }
 
-/// How many of the others have a sum with the first range that is in a window.
-fn count_met(first: Span, others: &[Span], windows: &[Span]) -> usize {
-    let mut count = 0usize;
-    for other in others {
-        let (low, high) = sum_of(first, *other);
-        if are_met(windows, low, high) {
-            count = count.saturating_add(1);
-        }
-    }
-    count
-}
-
-/// How many sums of ranges are kept, at most, where so many pairs of sets share them: more where the windows are narrow,
-/// since then few numbers are left.
-fn most_of(windows: &[Span], pairs: usize) -> usize {
-    let mut width = 0u64;
-    for window in windows {
-        width = width.saturating_add(u64::from(window.1.saturating_sub(window.0)));
-    }
-    let most = if width < NARROW { MORE } else { PAIRS };
-    most.checked_div(pairs).unwrap_or(most)
-}
-
-/// How many pairs there are besides so many, as `push_pairs` finds them, until there are too many.
-fn count_pairs(
-    many: usize,
-    most: usize,
-    firsts: &[Span],
-    others: &[Span],
-    windows: &[Span],
-) -> usize {
-    if many > most || !may_meet(firsts, others, windows) {
-        return many;
-    }
-    if firsts.len() <= BLOCK && others.len() <= BLOCK {
-        let mut count = many;
-        for first in firsts {
-            count = count.saturating_add(count_met(*first, others, windows));
-        }
-        return count;
-    }
-    if firsts.len() < others.len() {
-        let (front, back) = others.split_at(others.len() / 2);
-        let many = count_pairs(many, most, firsts, front, windows);
-        return count_pairs(many, most, firsts, back, windows);
-    }
-    let (front, back) = firsts.split_at(firsts.len() / 2);
-    let many = count_pairs(many, most, front, others, windows);
-    count_pairs(many, most, back, others, windows)
-}
-
-/// Whether more sums of ranges would be kept than at most.
-fn are_many(firsts: &[Span], others: &[Span], windows: &[Span], pairs: usize) -> bool {
-    let most = most_of(windows, pairs);
-    firsts.len().saturating_mul(others.len()) > most
-        && count_pairs(0, most, firsts, others, windows) > most
+/// Whether there are more pairs of ranges than at most.
+fn are_many(firsts: &[Span], others: &[Span]) -> bool {
+    firsts.len().saturating_mul(others.len()) > PAIRS
 }
 
 /// How far the ranges reach, together.
@@ -279,20 +225,18 @@ fn is_narrower(alloc: Global, set: &Set, other: &Set) -> Result<bool, OutOfMemor
     Ok(width(&own) < width(&others))
 }
 
-/// Ranges around the elements of both sets. Where too many sums of them would matter, the set whose
-/// halves are narrower is given two at most.
+/// Ranges around the elements of both sets. Where there are too many pairs of them, the set whose halves are narrower is
+/// given two at most.
 fn both_parts(
     alloc: Global,
     first: &Set,
     second: &Set,
-    windows: &[Span],
-    pairs: usize,
 ) -> Result<(Vec<Span>, Vec<Span>), OutOfMemory>
     ensures { IfOk result (λ both. AreCovered first.now both.0.items × AreCovered second.now both.1.items) }
 {
     let firsts = parts(alloc, first)?;
     let seconds = parts(alloc, second)?;
-    if !are_many(&firsts, &seconds, windows, pairs) {
+    if !are_many(&firsts, &seconds) {
         return Ok((firsts, seconds));
     }
     let narrower = is_narrower(alloc, first, second)?;
@@ -305,7 +249,7 @@ fn both_parts(
 }
 
 /// Adds the numbers from the lowest to the highest, modulo 2^32.
-fn push_round(ranges: &mut Vec<Span>, low: u64, high: u64) -> Result<(), OutOfMemory>
+pub fn push_round(ranges: &mut Vec<Span>, low: u64, high: u64) -> Result<(), OutOfMemory>
     ensures round { OnOk result (HaveRound ranges.new.items low high) }
     ensures kept { OnOk result (AreKept ranges.old.items ranges.new.items) }
 {
@@ -444,31 +388,28 @@ fn negated(alloc: Global, ranges: &[Span]) -> Result<Vec<Span>, OutOfMemory>
     Ok(negated)
 }
 
-/// The sums of elements of two sets that are in the domain, by ranges. So many pairs of sets share the most sums.
+/// The sums of elements of two sets that are in the domain, by ranges.
 pub fn sums_around(
     alloc: Global,
     first: &Set,
     second: &Set,
     domain: &Set,
-    pairs: usize,
 ) -> Result<Set, OutOfMemory>
     ensures { IfOk result (HasSumsWithin first.now second.now domain.now) }
 {
     let windows = windows_of(alloc, domain)?;
-    let (firsts, others) = both_parts(alloc, first, second, &windows, pairs)?;
+    let (firsts, others) = both_parts(alloc, first, second)?;
     let ranges = range_sums(alloc, &firsts, &others, &windows)?;
     let sums = words_of(alloc, &ranges)?;
     Ok(sums)
 }
 
-/// Ranges around the elements of the first set, and around what leads to 0 when one of the second is added. Where too
-/// many sums of them would matter, the set whose halves are narrower is given two at most.
+/// Ranges around the elements of the first set, and around what leads to 0 when one of the second is added. Where
+/// there are too many pairs of them, the set whose halves are narrower is given two at most.
 fn difference_parts(
     alloc: Global,
     first: &Set,
     second: &Set,
-    windows: &[Span],
-    pairs: usize,
 ) -> Result<(Vec<Span>, Vec<Span>), OutOfMemory>
     requires { All (λ w. w < 2 ^ 32) second.now }
     ensures { IfOk result (λ both. AreCovered first.now both.0.items × AreNegatives second.now both.1.items) }
@@ -476,7 +417,7 @@ fn difference_parts(
     let wholes = parts(alloc, first)?;
     let seconds = parts(alloc, second)?;
     let others = negated(alloc, &seconds)?;
-    if !are_many(&wholes, &others, windows, pairs) {
+    if !are_many(&wholes, &others) {
         return Ok((wholes, others));
     }
     let narrower = is_narrower(alloc, first, second)?;
@@ -489,21 +430,19 @@ fn difference_parts(
     Ok((wholes, others))
 }
 
-/// The words of the domain that give an element of the first set when one of the second is added, by ranges. So many
-/// pairs of sets share the most sums.
+/// The words of the domain that give an element of the first set when one of the second is added, by ranges.
 pub fn differences_around(
     alloc: Global,
     first: &Set,
     second: &Set,
     domain: &Set,
-    pairs: usize,
 ) -> Result<Set, OutOfMemory>
     ensures { IfOk result (HasDifferencesWithin first.now second.now domain.now) }
 {
     second.element_laws();
     domain.element_laws();
     let windows = windows_of(alloc, domain)?;
-    let (firsts, others) = difference_parts(alloc, first, second, &windows, pairs)?;
+    let (firsts, others) = difference_parts(alloc, first, second)?;
     let ranges = range_sums(alloc, &firsts, &others, &windows)?;
     let differences = words_of(alloc, &ranges)?;
     Ok(differences)

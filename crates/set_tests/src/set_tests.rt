@@ -408,6 +408,16 @@ fn spans_go_from_one_element_to_another(rt: HostRuntime) {
     assert!(rt; none.is_empty());
 }
 
+#[test]
+fn ranges_less_multiples_are_one_span_each(rt: HostRuntime) {
+    let alloc = rt.alloc();
+    let set = set_of(&rt, alloc, 64, &pairs_of(&rt, alloc, "0:10000 20000:30000"));
+    let less = set_of(&rt, alloc, 4096, &pairs_of(&rt, alloc, "0:ffffffff"));
+    let left = set.minus(alloc, &less).expect(&rt, "memory");
+    let spans = left.spans(alloc).expect(&rt, "memory");
+    assert!(rt; spans.as_slice() == [(0x40, 0xffc0), (0x20040, 0x2ffc0)].as_slice());
+}
+
 fn assert_place(rt: &impl Abort, alloc: Global, all: &Set, x: u32) {
     let place = u64::from(x);
     assert!(rt; place < all.size());

@@ -1,12 +1,13 @@
 use Rattle.std.proofs.Common.{◌≡◌, ℕ, ◌+◌, ◌-◌, ◌%◌, ◌^◌, ap, ◌∙◌, arith}
 use Rattle.dom_set.specs.Counting.{one}
 use Rattle.dom_set.specs.Patterns.{matches}
-use Rattle.dom_set.specs.Pieces.{in_span, in_piece, is_held}
+use Rattle.dom_set.specs.Runs.{in_span}
+use Rattle.dom_set.specs.Runs.{in_run, is_in_run}
 use Rattle.dom_set.proofs.Pieces.{halves_are, all_words}
 use Rattle.dom_set.proofs.lists.+push_shifted.Goals as goal
 
 pub returns-in_ok-push_shifted-in-Some-halves-2 : goal.returns-in_ok-push_shifted-in-Some-halves-2
-unfolding in_piece
+unfolding in_run
 returns-in_ok-push_shifted-in-Some-halves-2 t c = λ y lt.
     let z : ℕ = (y + (2 ^ 32 - c.args.distance)) % 2 ^ 32 in
     let apart : one (matches c.in-Some.p.pattern z) ≡ one (matches c.in-Some-halves.first z) + one (matches c.in-Some-halves.second z) =
@@ -17,6 +18,6 @@ returns-in_ok-push_shifted-in-Some-halves-2 t c = λ y lt.
       c.in_ok-push_shifted-in-Some-halves.ensures y lt,
       ap one (c.clipped.ensures.held z ∙ all_words _ z (omega arith) ∙ c.with_pattern.ensures.held z),
       ap one (c.clipped-in-Some-halves.ensures.held z ∙ all_words _ z (omega arith) ∙ c.with_pattern-in-Some-halves.ensures.held z),
-      ap (λ o. one (is_held o z)) c.in-Some.is,
+      ap (λ o. one (is_in_run o z)) c.in-Some.is,
       halves_are (in_span c.in-Some.p z) (matches c.in-Some.p.pattern z) (matches c.in-Some-halves.first z) (matches c.in-Some-halves.second z) apart,
     )

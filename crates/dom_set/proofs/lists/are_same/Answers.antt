@@ -1,12 +1,13 @@
 use Rattle.std.proofs.Common.{◌^◌, sym, ◌∙◌, rules}
-use Rattle.std.proofs.lemmas.Bool.{eqb-true, eq-eqb}
-use Rattle.dom_set.proofs.Sameness.{same_fields, same_by_place, same_from_counts, sizes_from_same, common_from_same}
+use Rattle.std.proofs.lemmas.Bool.{eqb-true, eq-eqb, and_parts}
+use Rattle.dom_set.proofs.Sameness.{same_fields, same_holes, same_by_place, same_from_counts, sizes_from_same, common_from_same}
 use Rattle.dom_set.proofs.lists.are_same.Goals as goal
 
 pub returns-then-eq : goal.returns-then-eq
 returns-then-eq c = (
   λ _ x lt. same_by_place _ c.args.pieces.now c.args.others.now (sym c.eq.ensures ∙ c.if-eq.true)
-      (λ p q h y. same_fields p q y (search rules) (search rules) (search rules) (search rules)) x,
+      (λ p q h y. same_fields p q y (search rules) (search rules) (search rules) (search rules)
+      (same_holes _ p.hole q.hole y (λ a b e. (eqb-true _ _ (and_parts _ _ e).0, eqb-true _ _ (and_parts _ _ e).1)) (and_parts _ _ h).1)) x,
   λ _. search rules,
 )
 

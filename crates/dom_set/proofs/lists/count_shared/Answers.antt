@@ -7,9 +7,9 @@ overflow_add-count c =
     omega (
       arith,
       c.loop-q.invariant,
-      c.count_piece-count.ensures,
+      c.count_both-count.ensures,
       shared_fits c.args.p c.args.others.now (2 ^ 32) c.requires,
-      shared_rest c.args.p c.args.others.now c.loop-q.q-index c.q-item.result c.common.result (2 ^ 32) c.loop-q-test.true c.q-item.is c.common.ensures.held,
+      shared_rest c.args.p c.args.others.now c.loop-q.q-index c.q-item.result (2 ^ 32) c.loop-q-test.true c.q-item.is,
     )
 
 pub loop-q-preserved : goal.loop-q-preserved
@@ -17,8 +17,8 @@ loop-q-preserved c =
     omega (
       arith,
       c.loop-q.invariant,
-      c.count_piece-count.ensures,
-      shared_rest c.args.p c.args.others.now c.loop-q.q-index c.q-item.result c.common.result (2 ^ 32) c.loop-q-test.true c.q-item.is c.common.ensures.held,
+      c.count_both-count.ensures,
+      shared_rest c.args.p c.args.others.now c.loop-q.q-index c.q-item.result (2 ^ 32) c.loop-q-test.true c.q-item.is,
     )
 
 pub returns : goal.returns

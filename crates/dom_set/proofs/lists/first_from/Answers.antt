@@ -1,12 +1,9 @@
-use Rattle.std.proofs.Common.{◌≡◌, ℕ, ◌+◌, ◌||◌, Bool, take, Option, Some, None, sym, ap, ◌∙◌}
+use Rattle.std.proofs.Common.{ℕ, ◌+◌, ◌||◌, Bool, take, sym, ap, ◌∙◌}
 use Rattle.std.proofs.lemmas.List.Folds.{list_any_more}
 use Rattle.dom_set.specs.declared.piece.Piece.{Piece}
-use Rattle.dom_set.specs.Pieces.{in_piece, holds, IsFirstFrom}
+use Rattle.dom_set.specs.Pieces.{in_piece, holds}
+use Rattle.dom_set.proofs.Unmatched.{first_same}
 use Rattle.dom_set.proofs.lists.first_from.Goals as goal
-
-first_same : (t u : ℕ → Bool) (from : ℕ) (o : Option ℕ) → ((x : ℕ) → t x ≡ u x) → IsFirstFrom t from o → IsFirstFrom u from o
-first_same t u from None same none = λ x le. sym (same x) ∙ none x le
-first_same t u from (Some v) same is = (sym (same v) ∙ is.0, is.1, λ x le lt. sym (same x) ∙ is.2 x le lt)
 
 pub loop-p-preserved : goal.loop-p-preserved
 loop-p-preserved c =

@@ -1,19 +1,20 @@
-use Rattle.std.proofs.Common.{◌≡◌, ℕ, ◌+◌, ◌-◌, ◌%◌, ◌^◌, ◌<◌, ◌≤◌, ◌&&◌, false, ltb, ap, sym, ◌∙◌, arith}
+use Rattle.std.proofs.Common.{◌≡◌, ◌+◌, ◌-◌, ◌%◌, ◌^◌, ◌&&◌, false, ltb, ap, ◌∙◌, arith}
 use Rattle.dom_set.specs.Counting.{one}
 use Rattle.dom_set.specs.Patterns.{matches}
-use Rattle.dom_set.specs.Pieces.{in_piece, times}
+use Rattle.dom_set.specs.Runs.{in_run}
+use Rattle.dom_set.specs.Pieces.{times}
 use Rattle.dom_set.proofs.Pieces.{all_below, none_below}
 use Rattle.dom_set.proofs.lists.push_blocks.Goals as goal
 
 pub loop-from-init : goal.loop-from-init
-unfolding in_piece
+unfolding in_run
 loop-from-init c = λ y small.
     let x = (y + (2 ^ 32 - c.args.distance)) % 2 ^ 32 in
-    let none : (in_piece c.args.p x && ltb x c.from-from.result) ≡ false = none_below (matches c.args.p.pattern) c.args.p.low c.args.p.high c.from-from.result x (omega (arith, c.from-from.ensures)) in
+    let none : (in_run c.args.p x && ltb x c.from-from.result) ≡ false = none_below (matches c.args.p.pattern) c.args.p.low c.args.p.high c.from-from.result x (omega (arith, c.from-from.ensures)) in
     omega (arith, ap one none)
 
 pub returns : goal.returns
-unfolding in_piece
+unfolding in_run
 returns c = λ y small.
     let x = (y + (2 ^ 32 - c.args.distance)) % 2 ^ 32 in
     c.loop-from.invariant y small

@@ -1,11 +1,12 @@
 use Rattle.std.proofs.Common.{◌≡◌, ℕ, ◌+◌, ◌-◌, ◌%◌, ◌^◌, ◌<◌, ◌&&◌, nat_lt}
 use Rattle.dom_set.specs.Counting.{one}
-use Rattle.dom_set.specs.Pieces.{in_piece, times}
+use Rattle.dom_set.specs.Runs.{in_run}
+use Rattle.dom_set.specs.Pieces.{times}
 use Rattle.dom_set.proofs.lists.push_blocks.Given as goal
 
 abbrev pub invariant-loop-from : goal.invariant-loop-from
 invariant-loop-from l = (y : ℕ) → y < 2 ^ 32 → times l.out.items y ≡ times l.initial.out.items y +
-    one (in_piece l.p ((y + (2 ^ 32 - l.distance)) % 2 ^ 32) && nat_lt ((y + (2 ^ 32 - l.distance)) % 2 ^ 32) l.from)
+    one (in_run l.p ((y + (2 ^ 32 - l.distance)) % 2 ^ 32) && nat_lt ((y + (2 ^ 32 - l.distance)) % 2 ^ 32) l.from)
 
 abbrev pub decreases-loop-from : goal.decreases-loop-from
 decreases-loop-from l = l.p.high + 1 - l.from

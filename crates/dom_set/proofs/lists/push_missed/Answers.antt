@@ -1,7 +1,7 @@
 use Rattle.std.proofs.Common.{◌≡◌, ◌+◌, Bool, ◌&&◌, ap, arith}
 use Rattle.dom_set.specs.Counting.{one}
 use Rattle.dom_set.specs.Patterns.{matches_below}
-use Rattle.dom_set.specs.Pieces.{in_span, in_piece}
+use Rattle.dom_set.specs.Pieces.{in_piece}
 use Rattle.dom_set.proofs.Pieces.{and_all, next_part, matches_fewer}
 use Rattle.dom_set.proofs.lists.push_missed.Goals as goal
 
@@ -9,8 +9,8 @@ pub loop-bit-init : goal.loop-bit-init
 loop-bit-init c = λ x.
     omega (
       arith,
-      ap (λ (b : Bool). one ((in_piece c.args.p x && in_span c.args.q x) && b)) (c.ends.ensures.none x),
-      ap one (and_all (in_piece c.args.p x && in_span c.args.q x)),
+      ap (λ (b : Bool). one ((in_piece c.args.p x) && b)) (c.ends.ensures.none x),
+      ap one (and_all (in_piece c.args.p x)),
     )
 
 pub loop-bit-preserved : goal.loop-bit-preserved
@@ -19,8 +19,8 @@ loop-bit-preserved c = λ x.
       arith,
       c.loop-bit.invariant x,
       c.in_ok-push_piece.ensures x,
-      ap one (c.missed.ensures.held x),
-      next_part (in_piece c.args.p x && in_span c.args.q x) (matches_below c.args.q.pattern c.loop-bit.bit x) (matches_below c.args.q.pattern (c.loop-bit.bit + 1) x) (matches_fewer c.args.q.pattern c.loop-bit.bit x),
+      ap one (c.missed.ensures x),
+      next_part (in_piece c.args.p x) (matches_below c.args.pattern c.loop-bit.bit x) (matches_below c.args.pattern (c.loop-bit.bit + 1) x) (matches_fewer c.args.pattern c.loop-bit.bit x),
     )
 
 pub returns : goal.returns
@@ -29,6 +29,6 @@ returns c = λ x.
     omega (
       arith,
       c.loop-bit.invariant x,
-      ap (λ n. one ((in_piece c.args.p x && in_span c.args.q x) && matches_below c.args.q.pattern n x)) is,
-      ap (λ (b : Bool). one ((in_piece c.args.p x && in_span c.args.q x) && b)) (c.ends.ensures.all x),
+      ap (λ n. one ((in_piece c.args.p x) && matches_below c.args.pattern n x)) is,
+      ap (λ (b : Bool). one ((in_piece c.args.p x) && b)) (c.ends.ensures.all x),
     )

@@ -1,10 +1,10 @@
 use Rattle.std.proofs.Common.{◌≡◌, ℕ, ◌+◌, ◌&&◌}
 use Rattle.dom_set.specs.Counting.{one}
 use Rattle.dom_set.specs.Patterns.{matches_below}
-use Rattle.dom_set.specs.Pieces.{in_span, in_piece, times}
+use Rattle.dom_set.specs.Pieces.{in_piece, times}
 use Rattle.dom_set.proofs.lists.push_missed.Given as goal
 
 abbrev pub invariant-loop-bit : goal.invariant-loop-bit
 invariant-loop-bit l = (x : ℕ) →
-    times l.out.items x + one ((in_piece l.p x && in_span l.q x) && matches_below l.q.pattern l.bit x)
-    ≡ times l.initial.out.items x + one (in_piece l.p x && in_span l.q x)
+    times l.out.items x + one (in_piece l.p x && matches_below l.pattern l.bit x)
+    ≡ times l.initial.out.items x + one (in_piece l.p x)

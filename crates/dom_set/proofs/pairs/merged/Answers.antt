@@ -5,4 +5,4 @@ use Rattle.dom_set.proofs.pairs.merged.Goals as goal
 
 pub merged_from-requires-clause-sorted : goal.merged_from-requires-clause-sorted
 merged_from-requires-clause-sorted c =
-    subst (IsNonDecreasingBy (λ p. p.low)) (sym (front_is c.args.sorted.now c.first-item.result c.in-len1-up.len_at_least c.first-item.is)) c.requires.sorted
+    subst (IsNonDecreasingBy (λ p. p.run.low)) (sym (front_is c.args.sorted.now c.first-item.result c.in-len1-up.len_at_least c.first-item.is)) c.requires.sorted

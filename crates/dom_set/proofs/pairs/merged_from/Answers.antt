@@ -23,8 +23,8 @@ loop-p-preserved c =
     let p = c.p-item.result in
     let lt : i < length rest = c.loop-p-test.true in
     let opened : drop i rest ≡ p ∷ drop (i + 1) rest = rest_is rest i p lt c.p-item.is in
-    let first_is : (d : Piece) → p.low ≡ (get_or rest i d).low = λ d. ap (λ (q : Piece). q.low) (get_or_read rest i p lt c.p-item.is d) in
-    let later : (k : ℕ) (d : Piece) → i ≤ k → k < length rest → p.low ≤ (get_or rest k d).low =
+    let first_is : (d : Piece) → p.run.low ≡ (get_or rest i d).run.low = λ d. ap (λ (q : Piece). q.run.low) (get_or_read rest i p lt c.p-item.is d) in
+    let later : (k : ℕ) (d : Piece) → i ≤ k → k < length rest → p.run.low ≤ (get_or rest k d).run.low =
     λ k d from within. omega (arith, first_is d, c.requires.sorted (suc i) (suc k) d (omega arith) (omega arith)) in
     elim c.if-touches.branch [
       | then-touches w ↦ rw (w.open-is, w.out-is) (record {
@@ -41,12 +41,12 @@ loop-p-preserved c =
         multiples = subst (IsMultiples c.args.shift) (sym c.p-item.is) (c.requires.rest i p lt);
         ordered = λ k d from within. later k d (omega arith) within;
         held = λ x.
-            let before : c.loop-p.open.high < p.low = elim (cases_lt c.loop-p.open.high p.low) [
+            let before : c.loop-p.open.run.high < p.run.low = elim (cases_lt c.loop-p.open.run.high p.run.low) [
               | inl apart ↦ apart
               | inr over ↦ absurd (false≢true (sym w.if-touches.false ∙ c.touches.ensures.1 (omega arith)))
             ] in
-            let follows : (k : ℕ) (d : Piece) → k < length (drop (i + 1) rest) → p.low ≤ (get_or (drop (i + 1) rest) k d).low =
-            λ k d within. omega (arith, ap (λ (q : Piece). q.low) (get_or-drop (i + 1) rest k d), later (i + 1 + k) d (omega arith) (omega (arith, length-drop (i + 1) rest))) in
+            let follows : (k : ℕ) (d : Piece) → k < length (drop (i + 1) rest) → p.run.low ≤ (get_or (drop (i + 1) rest) k d).run.low =
+            λ k d within. omega (arith, ap (λ (q : Piece). q.run.low) (get_or-drop (i + 1) rest k d), later (i + 1 + k) d (omega arith) (omega (arith, length-drop (i + 1) rest))) in
             omega (
               arith,
               ap (λ (qs : List Piece). times qs x) w.in_ok-push.ensures.items,

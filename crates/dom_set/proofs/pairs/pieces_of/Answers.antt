@@ -12,7 +12,7 @@ merged-requires-clause-multiples c = rw c.deref.ensures.value
 
 pub merged-requires-clause-sorted : goal.merged-requires-clause-sorted
 merged-requires-clause-sorted c = rw c.deref.ensures.value
-    (IsNonDecreasingBy-from_sort_by_key (λ p. p.low) _ c.sort_unstable_by_key.ensures.sorted (λ a r q k. search rules))
+    (IsNonDecreasingBy-from_sort_by_key (λ p. p.run.low) _ c.sort_unstable_by_key.ensures.sorted (λ a r q k. search rules))
 
 pub returns-clause-held : goal.returns-clause-held
 returns-clause-held c = λ x lt.

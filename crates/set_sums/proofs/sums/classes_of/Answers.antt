@@ -1,7 +1,7 @@
 use Rattle.std.proofs.Common.{subst, sym}
 use Rattle.set_sums.specs.declared.sums.Wanted.{Wanted}
-use Rattle.set_sums.specs.Parts.{HoldsAny}
-use Rattle.set_sums.proofs.Parts.{wanted_class_sums}
+use Rattle.set_sums.specs.Wanted.{HoldsAny}
+use Rattle.set_sums.proofs.Wanted.{wanted_class_sums}
 use Rattle.set_sums.proofs.sums.classes_of.Goals as goal
 
 pub returns-in_ok-sums-in-Sums : goal.returns-in_ok-sums-in-Sums

@@ -1,4 +1,4 @@
-use Rattle.set_sums.proofs.Parts.{both_wanted}
+use Rattle.set_sums.proofs.Wanted.{both_wanted}
 use Rattle.set_sums.proofs.sums.of_wholes.Goals as goal
 
 pub returns : goal.returns

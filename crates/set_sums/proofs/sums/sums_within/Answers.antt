@@ -1,5 +1,5 @@
 use Rattle.set_sums.proofs.Members.{only_in}
-use Rattle.set_sums.proofs.Parts.{sums_wanted}
+use Rattle.set_sums.proofs.Wanted.{sums_wanted}
 use Rattle.set_sums.proofs.Spans.{sums_by_shift, sums_turned}
 use Rattle.set_sums.proofs.sums.sums_within.Goals as goal
 

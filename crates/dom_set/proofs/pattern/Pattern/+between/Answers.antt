@@ -1,4 +1,4 @@
-use Rattle.std.proofs.Common.{◌≡◌, ◌+◌, ◌*◌, ◌/◌, ◌%◌, sym, ap, ◌∙◌, refl, arith}
+use Rattle.std.proofs.Common.{◌≡◌, sym, ap, ◌∙◌, refl, arith}
 use Rattle.dom_set.specs.Patterns.{matches}
 use Rattle.dom_set.proofs.Halving.{all_match, same_between}
 use Rattle.dom_set.proofs.pattern.Pattern.+between.Goals as goal

@@ -1,5 +1,13 @@
-use Rattle.dom_set.proofs.Tells.{told_bits}
+use Rattle.std.proofs.Common.{◌≡◌, ℕ, Option, Some, None, IfSome, bit_and, true}
+use Rattle.dom_set.specs.declared.piece.Piece.{Piece}
+use Rattle.dom_set.specs.Runs.{in_run}
+use Rattle.dom_set.specs.Pieces.{in_piece}
+use Rattle.dom_set.proofs.Without.{own_run}
 use Rattle.dom_set.proofs.piece.Piece.bits_under.Goals as goal
 
-pub returns-then-self-mask : goal.returns-then-self-mask
-returns-then-self-mask c = λ x held. told_bits c.args.self c.args.mask x c.if-self-mask.true held
+told : (p : Piece) (mask : ℕ) (o : Option ℕ) → IfSome o (λ bits. (x : ℕ) → in_run p.run x ≡ true → bit_and x mask ≡ bits) → IfSome o (λ bits. (x : ℕ) → in_piece p x ≡ true → bit_and x mask ≡ bits)
+told p mask None h = h
+told p mask (Some bits) h = λ x held. h x (own_run p x held)
+
+pub returns : goal.returns
+returns c = told c.args.self c.args.mask c.bits_under.result c.bits_under.ensures

@@ -1,25 +1,14 @@
-use Rattle.std.proofs.Common.{◌-◌, arith}
-use Rattle.dom_set.specs.Patterns.{matches}
+use Rattle.std.proofs.Common.{Bool, ◌&&◌, not, ap, ◌∙◌}
+use Rattle.dom_set.specs.Patterns.{is_matched}
+use Rattle.dom_set.specs.Runs.{in_run}
 use Rattle.dom_set.specs.Pieces.{in_piece}
-use Rattle.dom_set.proofs.Pieces.{test_from, clip_none, clip_some}
+use Rattle.dom_set.proofs.Without.{swapped, none_swapped}
 use Rattle.dom_set.proofs.piece.Piece.clipped.Goals as goal
 
-pub returns-then-end-next_from-clause-held : goal.returns-then-end-next_from-clause-held
+pub returns-in-Some : goal.returns-in-Some
 unfolding in_piece
-returns-then-end-next_from-clause-held c = λ x.
-    clip_none (matches c.args.self.pattern) c.args.self.low c.args.self.high c.args.from c.args.end c.next_from.result x
-    (λ y from lt. c.next_from.ensures.first y (omega arith) lt) (omega arith)
+returns-in-Some c = λ x. c.of.ensures x ∙ ap (λ (b : Bool). b && not (is_matched c.args.self.hole x)) (c.in-Some.ensures.held x) ∙ swapped (in_run c.args.self.run x) _ _
 
-pub returns-clause-held : goal.returns-clause-held
+pub returns-in-None : goal.returns-in-None
 unfolding in_piece
-returns-clause-held c = λ x.
-    clip_some c.args.self.low c.args.self.high c.args.from c.args.end c.max-low.result c.min-end.result x (matches c.args.self.pattern x)
-    (omega arith) (omega arith) (omega (arith, c.next_from.ensures.reached))
-
-pub returns-clause-some : goal.returns-clause-some
-unfolding in_piece
-returns-clause-some c = (
-  c.next_from.result,
-  test_from (matches c.args.self.pattern) c.max-low.result (c.min-end.result - 1) c.next_from.result
-      (record { above = c.next_from.ensures.reached; below = omega arith; matched = c.next_from.ensures.matching }),
-)
+returns-in-None c = λ x. none_swapped (in_run c.args.self.run x) _ (not (is_matched c.args.self.hole x)) (c.in-None.ensures.held x)

@@ -1,27 +1,9 @@
-use Rattle.std.proofs.Common.{◌≡◌, ℕ, ◌+◌, ap, ◌∙◌, arith}
-use Rattle.dom_set.specs.Counting.{one, total}
-use Rattle.dom_set.specs.Patterns.{matches}
-use Rattle.dom_set.specs.Pieces.{in_piece}
-use Rattle.dom_set.proofs.Pieces.{count_none, count_some}
+use Rattle.std.proofs.Common.{arith}
+use Rattle.dom_set.proofs.Without.{counted_apart}
 use Rattle.dom_set.proofs.piece.Piece.count_below.Goals as goal
 
-pub returns-then-end-low : goal.returns-then-end-low
-unfolding in_piece
-returns-then-end-low c = count_none (matches c.args.self.pattern) c.args.self.low c.args.self.high c.args.x (omega arith) c.args.self.ordered
-
 pub overflow_sub-result : goal.overflow_sub-result
-overflow_sub-result c =
-    let m : ℕ → ℕ = λ y. one (matches c.args.self.pattern y) in
-    let to : c.count_below.result ≡ total m c.min-end.result = c.count_below.ensures in
-    let from : c.count_below-else-end-low.result ≡ total m c.args.self.low = c.count_below-else-end-low.ensures ∙ ap (total m) c.from-low.ensures in
-    omega (arith, count_some (matches c.args.self.pattern) c.args.self.low c.args.self.high c.args.x c.min-end.result (omega arith) (omega arith))
+overflow_sub-result c = omega (arith, c.count_below.ensures, c.count_of.ensures, counted_apart c.args.self c.filled.result c.args.x c.filled.ensures)
 
-pub returns-else-end-low : goal.returns-else-end-low
-unfolding in_piece
-returns-else-end-low c =
-    let m : ℕ → ℕ = λ y. one (matches c.args.self.pattern y) in
-    let to : c.count_below.result ≡ total m c.min-end.result = c.count_below.ensures in
-    let from : c.count_below-else-end-low.result ≡ total m c.args.self.low = c.count_below-else-end-low.ensures ∙ ap (total m) c.from-low.ensures in
-    let all : total (λ y. one (in_piece c.args.self y)) c.args.x + total m c.args.self.low ≡ total m c.min-end.result =
-    count_some (matches c.args.self.pattern) c.args.self.low c.args.self.high c.args.x c.min-end.result (omega arith) (omega arith) in
-    omega arith
+pub returns : goal.returns
+returns c = omega (arith, c.count_below.ensures, c.count_of.ensures, counted_apart c.args.self c.filled.result c.args.x c.filled.ensures)

@@ -1,26 +1,18 @@
-use Rattle.std.proofs.Common.{arith}
-use Rattle.dom_set.specs.Patterns.{matches}
+use Rattle.std.proofs.Common.{◌&&◌, not, Option, sym, ap, ◌∙◌}
+use Rattle.dom_set.specs.declared.pattern.Pattern.{Pattern}
+use Rattle.dom_set.specs.Patterns.{matches, is_matched}
+use Rattle.dom_set.specs.Runs.{in_run}
 use Rattle.dom_set.specs.Pieces.{in_piece}
-use Rattle.dom_set.proofs.Pieces.{test_from, none_before, none_from}
-use Rattle.dom_set.proofs.Pages.{past_end}
+use Rattle.dom_set.proofs.Pieces.{and_all}
+use Rattle.dom_set.proofs.Unmatched.{first_same}
 use Rattle.dom_set.proofs.piece.Piece.first_from.Goals as goal
 
-pub returns-then-first-from : goal.returns-then-first-from
+pub returns-in-Some : goal.returns-in-Some
 unfolding in_piece
-returns-then-first-from c = (
-  test_from (matches c.args.self.pattern) c.args.self.low c.args.self.high c.next_from-first.result
-      (record { above = omega (arith, c.next_from-first.ensures.reached); below = omega arith; matched = c.next_from-first.ensures.matching }),
-  omega (arith, c.next_from-first.ensures.reached),
-  λ x le lt. none_before (matches c.args.self.pattern) c.args.self.low c.args.self.high c.args.from c.next_from-first.result x
-      (λ y from before. c.next_from-first.ensures.first y (omega arith) before) le lt,
-)
+returns-in-Some c = first_same (λ x. in_run c.args.self.run x && not (matches c.in-Some.hole x)) (λ x. in_run c.args.self.run x && not (is_matched c.args.self.hole x)) c.args.from c.first_without.result
+    (λ x. ap (λ (o : Option Pattern). in_run c.args.self.run x && not (is_matched o x)) (sym c.in-Some.is)) c.first_without.ensures
 
-pub returns-else-first-from : goal.returns-else-first-from
+pub returns-in-None : goal.returns-in-None
 unfolding in_piece
-returns-else-first-from c = λ x le.
-    none_from (matches c.args.self.pattern) c.args.self.low c.args.self.high c.args.from c.next_from-first.result x
-    (λ y from before. c.next_from-first.ensures.first y (omega arith) before) (omega arith) le
-
-pub returns-then-self-from : goal.returns-then-self-from
-unfolding in_piece
-returns-then-self-from c = λ x le. past_end (matches c.args.self.pattern x) c.args.self.low c.args.self.high x (omega (arith, le, c.if-self-from.true))
+returns-in-None c = first_same (in_run c.args.self.run) (λ x. in_run c.args.self.run x && not (is_matched c.args.self.hole x)) c.args.from c.first_from.result
+    (λ x. sym (and_all (in_run c.args.self.run x)) ∙ ap (λ (o : Option Pattern). in_run c.args.self.run x && not (is_matched o x)) (sym c.in-None.is)) c.first_from.ensures

@@ -1,12 +1,12 @@
-use Rattle.std.proofs.Common.{arith}
-use Rattle.std.proofs.lemmas.Bool.Decides.{nat_tests}
+use Rattle.std.proofs.Common.{Bool, ◌&&◌, not, sym, ap, ◌∙◌}
+use Rattle.dom_set.specs.Patterns.{is_matched}
 use Rattle.dom_set.specs.Pieces.{in_piece}
 use Rattle.dom_set.proofs.piece.Piece.has.Goals as goal
 
-pub returns-then-x-self : goal.returns-then-x-self
+pub returns-then-has : goal.returns-then-has
 unfolding in_piece
-returns-then-x-self c = grind (arith, nat_tests)
+returns-then-has c = ap not c.is_missing.ensures ∙ ap (λ (b : Bool). b && not (is_matched c.args.self.hole c.args.x)) (sym c.if-has.true ∙ c.has.ensures)
 
-pub returns-else-x-self : goal.returns-else-x-self
+pub returns-else-has : goal.returns-else-has
 unfolding in_piece
-returns-else-x-self c = grind (arith, nat_tests)
+returns-else-has c = c.if-has.false ∙ ap (λ (b : Bool). b && not (is_matched c.args.self.hole c.args.x)) (sym c.if-has.false ∙ c.has.ensures)

@@ -1,13 +1,18 @@
-use Rattle.std.proofs.Common.{sym, subst, arith}
-use Rattle.dom_set.specs.Pieces.{in_piece, IsLast}
-use Rattle.dom_set.proofs.Lasts.{last_held, none_held}
+use Rattle.std.proofs.Common.{◌&&◌, not, Option, sym, ap, ◌∙◌}
+use Rattle.dom_set.specs.declared.pattern.Pattern.{Pattern}
+use Rattle.dom_set.specs.Patterns.{matches, is_matched}
+use Rattle.dom_set.specs.Runs.{in_run}
+use Rattle.dom_set.specs.Pieces.{in_piece}
+use Rattle.dom_set.proofs.Pieces.{and_all}
+use Rattle.dom_set.proofs.Lasts.{last_same}
 use Rattle.dom_set.proofs.piece.Piece.last.Goals as goal
 
-pub returns-in_err-last : goal.returns-in_err-last
-returns-in_err-last c = subst (IsLast (in_piece c.args.self)) (sym c.from_residual.ensures) (none_held c.args.self (λ x from to. c.in_err-last.ensures x to))
+pub returns-in-Some : goal.returns-in-Some
+unfolding in_piece
+returns-in-Some c = last_same (λ x. in_run c.args.self.run x && not (matches c.in-Some.hole x)) (λ x. in_run c.args.self.run x && not (is_matched c.args.self.hole x)) c.last_without.result
+    (λ x. ap (λ (o : Option Pattern). in_run c.args.self.run x && not (is_matched o x)) (sym c.in-Some.is)) c.last_without.ensures
 
-pub returns-then-self-last : goal.returns-then-self-last
-returns-then-self-last c = last_held c.args.self c.in_ok-last.last c.if-self-last.true c.in_ok-last.ensures
-
-pub returns-else-self-last : goal.returns-else-self-last
-returns-else-self-last c = none_held c.args.self (λ x from to. c.in_ok-last.ensures.2 x (omega (arith, from, c.if-self-last.false)) to)
+pub returns-in-None : goal.returns-in-None
+unfolding in_piece
+returns-in-None c = last_same (in_run c.args.self.run) (λ x. in_run c.args.self.run x && not (is_matched c.args.self.hole x)) c.last.result
+    (λ x. sym (and_all (in_run c.args.self.run x)) ∙ ap (λ (o : Option Pattern). in_run c.args.self.run x && not (is_matched o x)) (sym c.in-None.is)) c.last.ensures

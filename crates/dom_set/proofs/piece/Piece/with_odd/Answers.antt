@@ -1,19 +1,12 @@
-use Rattle.std.proofs.Common.{◌-◌, ◌%◌, ◌∙◌}
-use Rattle.dom_set.specs.Patterns.{matches}
-use Rattle.dom_set.specs.Pieces.{in_span, in_piece}
-use Rattle.dom_set.proofs.Pieces.{all_words, and_none, odd_crossed, odd_is}
+use Rattle.std.proofs.Common.{◌-◌, ◌%◌, Bool, ◌&&◌, not, ap, ◌∙◌}
+use Rattle.dom_set.specs.Patterns.{is_matched}
+use Rattle.dom_set.specs.Pieces.{in_piece}
 use Rattle.dom_set.proofs.piece.Piece.with_odd.Goals as goal
 
-pub returns-then-from-low-clause-held : goal.returns-then-from-low-clause-held
+pub returns-in-Some : goal.returns-in-Some
 unfolding in_piece
-returns-then-from-low-clause-held c = λ x lt. odd_crossed c.args.self.low c.args.self.high x (matches c.args.self.pattern (x - x % 2))
-    (rw (c.from.ensures, c.from-2.ensures, c.from-3.ensures) at c.if-from-low.true)
+returns-in-Some c = λ x lt. c.of.ensures x ∙ (λ i. c.in-Some.ensures.held x lt i && not (c.odd_hole.ensures x i))
 
-pub returns-in-Some-clause-held : goal.returns-in-Some-clause-held
+pub returns-in-None : goal.returns-in-None
 unfolding in_piece
-returns-in-Some-clause-held c = λ x lt. c.clipped.ensures.held x ∙ all_words _ x lt ∙ rw (c.from.ensures, c.from-2.ensures)
-    (odd_is c.args.self.low c.args.self.high x (matches c.in-Some.pattern x) (matches c.args.self.pattern (x - x % 2)) (c.in-Some.ensures x))
-
-pub returns-in-None-clause-held : goal.returns-in-None-clause-held
-unfolding in_piece
-returns-in-None-clause-held c = λ x lt. and_none (in_span c.args.self (x - x % 2)) (matches c.args.self.pattern (x - x % 2)) (c.in-None.ensures x)
+returns-in-None c = λ x lt. ap (λ (b : Bool). b && not (is_matched c.args.self.hole (x - x % 2))) (c.in-None.ensures.held x lt)

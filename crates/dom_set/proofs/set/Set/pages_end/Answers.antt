@@ -1,6 +1,7 @@
 use Rattle.std.proofs.Common.{List, subst}
 use Rattle.dom_set.specs.declared.piece.Piece.{Piece}
-use Rattle.dom_set.specs.Pieces.{holds, HasPage}
+use Rattle.dom_set.specs.Pieces.{holds}
+use Rattle.dom_set.specs.Ends.{HasPage}
 use Rattle.dom_set.proofs.Sets.{page_in}
 use Rattle.dom_set.proofs.set.Set.pages_end.Goals as goal
 

@@ -1,0 +1,99 @@
+-- Numbers that are a power of two apart, and their sums that are near a multiple of 2 ^ 32.
+use Rattle.std.specs.Prelude.{◌≡◌, ℕ, Bool, ◌+◌, ◌-◌, ◌%◌, ◌^◌, ◌<◌, ◌≤◌, ◌==◌, ◌&&◌, nat_le, List, IsTrue}
+use Rattle.std.specs.List.{list_any}
+use Rattle.lane_bits.specs.Pages.{has}
+use Rattle.dom_set.specs.declared.track.Track.{Track}
+use Rattle.dom_set.specs.Elements.{is_in, is_within}
+use Rattle.dom_set.specs.Tracks.{is_on, is_on_one}
+use Rattle.set_sums.specs.declared.steps.Steps.{Steps}
+
+-- whether the number is between the ends of the steps and a multiple of 2 ^ shift from their lowest number
+abbrev pub is_at : Steps → ℕ → Bool
+is_at s n = (nat_le s.low n && nat_le n s.high) && (n % 2 ^ s.shift == s.low % 2 ^ s.shift)
+
+-- whether the number is at one of the steps
+abbrev pub is_at_one : List Steps → ℕ → Bool
+is_at_one all n = list_any (λ s. is_at s n) all
+
+-- what is on the track is at the steps
+abbrev pub IsAlong : Track → Steps → Type 0
+IsAlong track steps = (x : ℕ) → IsTrue (is_on track x) → IsTrue (is_at steps x)
+
+-- what leads to 2 ^ 32 and 2,048 when a number of the track is added is
+abbrev pub IsAgainst : Track → Steps → Type 0
+IsAgainst track steps = (x : ℕ) → IsTrue (is_on track x) → IsTrue (is_at steps (2 ^ 32 + 2048 - x))
+
+-- what is on one of the tracks is at one of the steps
+abbrev pub AreForward : List Track → List Steps → Type 0
+AreForward tracks all = (x : ℕ) → IsTrue (is_on_one tracks x) → IsTrue (is_at_one all x)
+
+-- what leads to 2 ^ 32 and 2,048 when a number of the tracks is added is at one of the steps
+abbrev pub AreBackward : List Track → List Steps → Type 0
+AreBackward tracks all = (x : ℕ) → IsTrue (is_on_one tracks x) → IsTrue (is_at_one all (2 ^ 32 + 2048 - x))
+
+-- the number is the first one from the given one up that is a multiple of 2 ^ shift from the lowest
+pub record IsNext (low shift from found : ℕ) : Type 0 where
+  pub above : low ≤ found
+  pub reached : from ≤ found
+  pub same : found % 2 ^ shift ≡ low % 2 ^ shift
+  pub first : (n : ℕ) → low ≤ n → from ≤ n → n % 2 ^ shift ≡ low % 2 ^ shift → found ≤ n
+
+-- every number is marked
+abbrev pub AreAllMarked : List ℕ → Type 0
+AreAllMarked marks = (x : ℕ) → x < 4096 → IsTrue (has marks x)
+
+-- what was marked is
+abbrev pub AreStillMarked : List ℕ → List ℕ → Type 0
+AreStillMarked old new = (x : ℕ) → x < 4096 → IsTrue (has old x) → IsTrue (has new x)
+
+-- the numbers from the first to the last one, 2 ^ shift apart
+abbrev pub HaveEach : List ℕ → ℕ → ℕ → ℕ → Type 0
+HaveEach marks first last shift = (x : ℕ) → first ≤ x → x ≤ last → x % 2 ^ shift ≡ first % 2 ^ shift → IsTrue (has marks x)
+
+-- the numbers from a lowest to a highest one that are a multiple of 2 ^ shift from the lowest, from the base on
+abbrev pub HaveSteps : List ℕ → ℕ → ℕ → ℕ → ℕ → Type 0
+HaveSteps marks low high shift base = (n x : ℕ) → low ≤ n → n ≤ high → n % 2 ^ shift ≡ low % 2 ^ shift → n ≡ base + x → x < 4096 → IsTrue (has marks x)
+
+-- a number of the steps plus a distance, from the base on
+abbrev pub HaveMoved : List ℕ → Steps → ℕ → ℕ → Type 0
+HaveMoved marks steps distance base = (m x : ℕ) → IsTrue (is_at steps m) → m + distance ≡ base + x → x < 4096 → IsTrue (has marks x)
+
+-- a number of the first steps plus one of the others, from the base on
+abbrev pub HaveSumsFrom : List ℕ → Steps → Steps → ℕ → Type 0
+HaveSumsFrom marks first other base = (m n x : ℕ) → IsTrue (is_at first m) → IsTrue (is_at other n) → m + n ≡ base + x → x < 4096 → IsTrue (has marks x)
+
+-- a number of the first steps plus one of the other, modulo 2 ^ 32
+abbrev pub HaveNearOf : List ℕ → Steps → Steps → Type 0
+HaveNearOf marks first other = (m n : ℕ) → IsTrue (is_at first m) → IsTrue (is_at other n) → (m + n) % 2 ^ 32 < 4096 → IsTrue (has marks ((m + n) % 2 ^ 32))
+
+-- a number of the first steps plus one of the others, modulo 2 ^ 32
+abbrev pub HaveNearWith : List ℕ → Steps → List Steps → Type 0
+HaveNearWith marks first others = (m n : ℕ) → IsTrue (is_at first m) → IsTrue (is_at_one others n) → (m + n) % 2 ^ 32 < 4096 → IsTrue (has marks ((m + n) % 2 ^ 32))
+
+-- a number of one of the first steps plus one of the others, modulo 2 ^ 32
+abbrev pub HaveNear : List ℕ → List Steps → List Steps → Type 0
+HaveNear marks firsts others = (m n : ℕ) → IsTrue (is_at_one firsts m) → IsTrue (is_at_one others n) → (m + n) % 2 ^ 32 < 4096 → IsTrue (has marks ((m + n) % 2 ^ 32))
+
+-- the range is around all steps
+abbrev pub IsAroundSteps : List Steps → ℕ × ℕ → Type 0
+IsAroundSteps all span = (n : ℕ) → IsTrue (is_at_one all n) → (span.0 ≤ n) × (n ≤ span.1)
+
+-- where a number from the lowest to the highest, modulo 2 ^ 32, is less than 4,096, the answer says so
+abbrev pub IsNearMet : ℕ → ℕ → Bool → Type 0
+IsNearMet low high near = (n : ℕ) → low ≤ n → n ≤ high → n % 2 ^ 32 < 4096 → IsTrue near
+
+-- where a number of one of the first steps plus one of the others is, the answer says so
+abbrev pub MayBeNear : List Steps → List Steps → Bool → Type 0
+MayBeNear firsts others near = (m n : ℕ) → IsTrue (is_at_one firsts m) → IsTrue (is_at_one others n) → (m + n) % 2 ^ 32 < 4096 → IsTrue near
+
+-- what is marked and below an end is in one of the ranges, less 2,048, modulo 2 ^ 32
+abbrev pub AreInRanges : List ℕ → ℕ → List (ℕ × ℕ) → Type 0
+AreInRanges marks end ranges = (x : ℕ) → x < end → IsTrue (has marks x) → IsTrue (is_within ranges ((2 ^ 32 - 2048 + x) % 2 ^ 32))
+
+-- every element is one of the 2,048 words from 0 on or one of the last 2,048
+abbrev pub IsNarrow : List ℕ → Type 0
+IsNarrow set = (v : ℕ) → IsTrue (is_in set v) → (v + 2048) % 2 ^ 32 < 4096
+
+-- those of these words that give an element of the first set when one of the second is added, modulo 2 ^ 32
+abbrev pub HasNearDifferences : List ℕ → List ℕ → List ℕ → Type 0
+HasNearDifferences first second set = (v w : ℕ) → v < 2 ^ 32 → (v + 2048) % 2 ^ 32 < 4096 → IsTrue (is_in second w) → IsTrue (is_in first ((v + w) % 2 ^ 32)) → IsTrue (is_in set v)
