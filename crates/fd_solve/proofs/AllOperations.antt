@@ -13,9 +13,9 @@ use Rattle.fd_prob.specs.Order.{ComesBefore, pivot_of, rank}
 use Rattle.fd_prob.specs.Relations.{value_of}
 use Rattle.fd_prob.specs.Slots.{slot_number}
 use Rattle.fd_solve.specs.Answers.{IsLeast, NothingFits}
-use Rattle.fd_solve.specs.Search.{IsFitting, IsLeastFrom, IsMadeOfAny, NoneBetween}
-use Rattle.fd_solve.proofs.Ranks.{rank_round, rank_up}
-use Rattle.fd_solve.proofs.Searching.{value_word}
+use Rattle.fd_solve.specs.Operations.{IsFitting, IsLeastFrom, IsMadeOfAny, NoneBetween}
+use Rattle.case_search.proofs.Putting.{value_word}
+use Rattle.case_search.proofs.Ranks.{rank_round, rank_up}
 
 -- the operation is the first variable
 pub op_or_later : (s : Slot) → (s ≡ slots.Op) ⊎ (0 < slot_number s)

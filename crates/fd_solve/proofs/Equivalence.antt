@@ -1,72 +1,25 @@
--- Cases that the same assignments fit.
-use Rattle.std.proofs.Common.{◌≡◌, ℕ, zero, suc, ◌+◌, ◌<◌, ◌≤◌, Bool, true, ◌&&◌, ◌==◌, List, [], ◌∷◌, ◌++◌, Option, length, drop, get_or, All, inl, inr, refl, sym, ap, ◌∙◌, subst, arith}
-use Rattle.std.specs.List.{list_all}
+-- Cases that the same assignments fit, one by one and with what marked biases add to them.
+use Rattle.std.proofs.Common.{◌≡◌, ℕ, zero, suc, ◌+◌, ◌<◌, ◌≤◌, Bool, ◌&&◌, List, [], ◌∷◌, ◌++◌, Option, length, drop, get_or, All, inl, inr, refl, sym, ap, ◌∙◌, subst, arith}
 use Rattle.std.proofs.Math.Seq.{get_or-append_seam}
 use Rattle.std.proofs.lemmas.Bool.{cases_lt}
 use Rattle.std.proofs.lemmas.List.{append_assoc, append-nil, get_or_append_left}
 use Rattle.std.proofs.lemmas.List.Elements.{All-cons, All-head, All-nil, All-tail}
-use Rattle.set_sums.proofs.Members.{same}
-use Rattle.rv_isa.specs.declared.operation.Op.{Op}
 use Rattle.rv_isa.specs.Numbers.{op_numbered}
-use Rattle.fd_narrow.specs.Narrowing.{AllHold, Narrows}
 use Rattle.fd_prob.specs.declared.problem.Assignment.{Assignment}
 use Rattle.fd_prob.specs.declared.problem.Case.{Case}
 use Rattle.fd_prob.specs.declared.problem.Extra.{Extra}
-use Rattle.fd_prob.specs.declared.relation.Rel.{Rel}
-use Rattle.fd_prob.specs.declared.slot.Slot.TheVariants as slots
 use Rattle.fd_prob.specs.declared.problem.Problem.{Problem}
-use Rattle.fd_prob.specs.Fitting.{IsCase, IsProblem, fits_case, is_within}
-use Rattle.fd_prob.specs.Laws.{IsOfCase}
-use Rattle.fd_prob.specs.Relations.{holds, value_of}
+use Rattle.fd_prob.specs.Fitting.{IsCase, IsProblem, fits_case}
 use Rattle.fd_prob.proofs.Fitted.{fits_its_case, of_case}
-use Rattle.fd_solve.specs.Equivalent.{AreEquivalent, AreMarked, IsEquivalent}
+use Rattle.case_search.specs.Equivalent.{IsEquivalent}
+use Rattle.fd_solve.specs.Equivalent.{AreEquivalent, AreMarked}
 use Rattle.fd_solve.specs.Marks.{marked_case, with_marked}
 use Rattle.fd_solve.specs.Meeting.{meets_marked}
-use Rattle.fd_solve.specs.Search.{IsMadeOf, LeastOrNone}
-use Rattle.fd_solve.specs.Stronger.{IsAlike}
-use Rattle.fd_solve.proofs.FittingMarks.{all_marks, within_same}
-use Rattle.fd_solve.proofs.Joining.{case_alike}
+use Rattle.case_search.specs.Search.{IsMadeOf, LeastOrNone}
+use Rattle.fd_solve.proofs.FittingMarks.{all_marks}
 use Rattle.fd_solve.proofs.Lists.{any_default, drop_here, drop_past}
 use Rattle.fd_solve.proofs.Marking.{many_marked, marked_at, marked_case_whole, marked_op}
-use Rattle.fd_solve.proofs.OneOperation.{each_of, inside_of}
-use Rattle.fd_solve.proofs.Orders.{as_well}
-
-pub itself : (c : Case) → IsCase c → IsEquivalent c c
-itself c is = record { whole = is; op = refl; same = λ x. refl }
-
-pub followed : (a b c : Case) → IsEquivalent a b → IsEquivalent b c → IsEquivalent a c
-followed a b c one two = record { whole = two.whole; op = two.op ∙ one.op; same = λ x. two.same x ∙ one.same x }
-
-pub alike_same : (c made : Case) → IsAlike c made → (x : Assignment) → fits_case x made ≡ fits_case x c
-unfolding fits_case
-alike_same c made is x =
-    ap (λ (n : ℕ). (n == value_of x slots.Op && is_within made x) && list_all (holds (op_numbered n) x) made.rels) is.op
-    ∙ ap (λ (b : Bool). (c.op == value_of x slots.Op && b) && list_all (holds (op_numbered c.op) x) made.rels) (within_same made c x is.doms)
-    ∙ ap (λ (b : Bool). (c.op == value_of x slots.Op && is_within c x) && b) (is.rels (op_numbered c.op) x)
-
-pub alike_equivalent : (c made : Case) → IsCase c → IsAlike c made → IsEquivalent c made
-alike_equivalent c made whole is = record { whole = case_alike c made is whole; op = is.op; same = alike_same c made is }
-
--- with domains from which its relations took values away
-pub narrow_equivalent : (c made : Case) → IsCase c → made.op ≡ c.op → made.rels ≡ c.rels → length made.doms ≡ 14 → Narrows (op_numbered c.op) c.rels c.doms made.doms → IsEquivalent c made
-narrow_equivalent c made whole op_is rels_are long narrows = record {
-  whole = record { op = omega (arith, op_is, whole.op); domains = long };
-  op = op_is;
-  same = λ x. same (fits_case x made) (fits_case x c) (λ fits. fits_its_case x c (there x (of_case x made fits))) (λ fits. fits_its_case x made (back x (of_case x c fits)));
-} where
-  there : (x : Assignment) → IsOfCase x made → IsOfCase x c
-  there x is = record {
-    op = is.op ∙ op_is;
-    domains = each_of c x (narrows.within x (inside_of made x is.domains));
-    relations = subst (λ (n : ℕ). AllHold (op_numbered n) c.rels x) op_is (subst (λ (rels : List Rel). AllHold (op_numbered made.op) rels x) rels_are is.relations);
-  }
-
-  back : (x : Assignment) → IsOfCase x c → IsOfCase x made
-  back x is = record {
-    op = is.op ∙ sym op_is;
-    domains = each_of made x (narrows.keeps x (inside_of c x is.domains) is.relations);
-    relations = subst (λ (n : ℕ). AllHold (op_numbered n) made.rels x) (sym op_is) (subst (λ (rels : List Rel). AllHold (op_numbered c.op) rels x) (sym rels_are) is.relations);
-  }
+use Rattle.case_search.proofs.Orders.{as_well}
 
 -- what is added by marked biases is the same of both
 module _ (marks : List Bool) (es : List Extra) (place : ℕ) (c d : Case) (whole : IsCase c) (is : IsEquivalent c d) where
@@ -93,7 +46,7 @@ module _ (marks : List Bool) (es : List Extra) (place : ℕ) (c d : Case) (whole
 -- case by case
 pub all_itself : (cases : List Case) → All IsCase cases → AreEquivalent cases cases
 all_itself [] are = tt
-all_itself (c ∷ cases) are = (itself c (All-head IsCase c cases are), all_itself cases (All-tail IsCase c cases are))
+all_itself (c ∷ cases) are = (record { whole = All-head IsCase c cases are; op = refl; same = λ x. refl }, all_itself cases (All-tail IsCase c cases are))
 
 pub equivalent_count : (cases made : List Case) → AreEquivalent cases made → length made ≡ length cases
 equivalent_count [] [] are = refl
@@ -158,4 +111,4 @@ still_stand marks es p cases made problem entries are new =
     let here : get_or (with_marked marks es p).cases n c ≡ marked_case marks es n own = any_default (with_marked marks es p).cases n c (marked_case marks es n own) less ∙ sym at in
     let one : IsEquivalent (marked_case marks es n own) (marked_case marks es n (get_or cases n own)) = marked_equivalent marks es n own (get_or cases n own) (problem n c below) (equivalent_each p.cases cases are n c own below) in
     let two : IsEquivalent (marked_case marks es n (get_or cases n own)) (get_or made n d) = new.each n own d (omega (arith, below, count)) in
-    subst (λ (e : Case). IsEquivalent e (get_or made n d)) (sym here) (followed (marked_case marks es n own) (marked_case marks es n (get_or cases n own)) (get_or made n d) one two))
+    subst (λ (e : Case). IsEquivalent e (get_or made n d)) (sym here) (record { whole = two.whole; op = two.op ∙ one.op; same = λ x. two.same x ∙ one.same x }))

@@ -7,7 +7,7 @@ use Rattle.std.proofs.lemmas.Option.{same_Some}
 use Rattle.std.proofs.lemmas.Bool.Decides.{nat_tests}
 use Rattle.std.proofs.lemmas.List.{take_more}
 use Rattle.std.proofs.lemmas.List.Folds.{find-append}
-use Rattle.fd_solve.specs.Search.{ArePivots}
+use Rattle.fd_solve.specs.Operations.{ArePivots}
 use Rattle.dom_set.specs.Elements.{is_in}
 use Rattle.fd_prob.specs.declared.problem.Case.{Case}
 use Rattle.fd_prob.specs.declared.problem.Extra.{Extra}

@@ -1,6 +1,6 @@
 -- What fits a problem with its marked biases.
 use Rattle.std.proofs.Common.{◌≡◌, ℕ, ◌+◌, ◌<◌, ◌≤◌, Bool, true, false, not, ◌&&◌, ◌||◌, ◌==◌, List, [], ◌∷◌, ◌++◌, All, length, drop, get_or, refl, sym, ap, ◌∙◌, arith}
-use Rattle.std.specs.Prelude.{if◌then◌else◌, filter, slice_index_or}
+use Rattle.std.specs.Prelude.{if◌then◌else◌, filter}
 use Rattle.std.specs.List.{list_any, list_all}
 use Rattle.std.proofs.lemmas.List.Elements.{All-head, All-tail}
 use Rattle.std.proofs.lemmas.List.Folds.{list_all-append}
@@ -16,20 +16,18 @@ use Rattle.fd_prob.specs.declared.problem.Problem.{Problem}
 use Rattle.fd_prob.specs.declared.relation.Rel.{Rel}
 use Rattle.fd_prob.specs.declared.slot.Slot.{Slot}
 use Rattle.fd_prob.specs.declared.slot.Slot.TheVariants as slots
-use Rattle.fd_prob.specs.declared.slot.TheConstants.{SLOTS}
 use Rattle.fd_prob.specs.Extras.{closed_by, cut_by, cut_by_all, extended, extended_case, extended_cases}
-use Rattle.fd_prob.specs.Fitting.{IsCase, IsProblem, domain_of, fits_case, is_within}
+use Rattle.fd_prob.specs.Fitting.{IsCase, IsProblem, fits_case, is_within}
 use Rattle.fd_prob.specs.Relations.{holds, value_of}
-use Rattle.fd_prob.specs.Slots.{slot_number}
 use Rattle.fd_prob.proofs.Fitted.{all_within, each_within}
 use Rattle.fd_solve.specs.Answers.{NothingFits}
 use Rattle.fd_solve.specs.Marks.{marked_case, with_marked}
 use Rattle.fd_solve.specs.Meeting.{is_in_cut, meets_bias, meets_marked}
-use Rattle.fd_solve.proofs.Cuts.{put_in, put_out, value_in}
+use Rattle.case_search.proofs.Inside.{each_of, inside_of, within_same}
+use Rattle.case_search.proofs.Putting.{put_in, put_out, value_in}
 use Rattle.fd_solve.proofs.Extensions.{case_whole, length_cut}
 use Rattle.fd_solve.proofs.Lists.{drop_here, drop_past}
 use Rattle.fd_solve.proofs.Marking.{many_marked, marked_at}
-use Rattle.fd_solve.proofs.OneOperation.{each_of, inside_of}
 
 abbrev with_doms : Case → List (List ℕ) → Case
 with_doms c doms = record { op = c.op; doms = doms; rels = c.rels }
@@ -84,11 +82,6 @@ sorted true true true true false false = refl
 sorted true true true true false true = refl
 sorted true true true true true false = refl
 sorted true true true true true true = refl
-
--- within is told by the domains alone
-pub within_same : (c d : Case) (x : Assignment) → c.doms ≡ d.doms → is_within c x ≡ is_within d x
-unfolding is_within domain_of
-within_same c d x e = ap (λ (ds : List (List ℕ)). list_all (λ s. is_in (slice_index_or ds (slot_number s) []) (value_of x s)) SLOTS) e
 
 one_bias : (e : Extra) (place : ℕ) (c : Case) (x : Assignment) → IsCase c → fits_case x (extended_case e (get_or e.cases place false) c) ≡ (fits_case x c && meets_bias (op_numbered c.op) x place e)
 unfolding fits_case

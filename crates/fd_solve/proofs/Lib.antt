@@ -1,13 +1,5 @@
-pub mod Ranks
-pub mod Orders
-pub mod Searching
-pub mod Cuts
-pub mod EqualSlots
 pub mod Lists
 pub mod OneOperation
-pub mod Joining
-pub mod JoinedTargets
-pub mod Strengthening
 pub mod AllOperations
 pub mod Allowed
 pub mod Pivoting
@@ -23,7 +15,4 @@ pub mod Existing
 pub mod FittingMarks
 pub mod Biases
 pub mod Dropping
-pub mod Mentions
-pub mod Freedom
-pub mod Leaving
 pub mod Equivalence

@@ -1,52 +1,16 @@
 -- Cases of one operation.
-use Rattle.std.proofs.Common.{◌≡◌, ◌≢◌, ℕ, ◌+◌, ◌<◌, ◌≤◌, true, List, length, get_or, Option, ◌⊎◌, inl, inr, refl, sym, ◌∙◌, subst, arith}
+use Rattle.std.proofs.Common.{◌≡◌, ◌≢◌, ℕ, ◌+◌, ◌<◌, ◌≤◌, List, length, get_or, Option, ◌⊎◌, inl, inr, sym, ◌∙◌, subst, arith}
 use Rattle.std.proofs.lemmas.Bool.{cases_lt}
-use Rattle.dom_set.specs.Elements.{is_in}
-use Rattle.fd_narrow.specs.Narrowing.{IsInside, domain_in}
 use Rattle.fd_prob.specs.declared.problem.Assignment.{Assignment}
 use Rattle.fd_prob.specs.declared.problem.Case.{Case}
-use Rattle.fd_prob.specs.declared.slot.Slot.{Slot}
 use Rattle.fd_prob.specs.declared.slot.Slot.TheVariants as slots
-use Rattle.fd_prob.specs.Fitting.{domain_of}
 use Rattle.fd_prob.specs.Laws.{IsOfCase}
 use Rattle.fd_prob.specs.Order.{IsAssignment}
 use Rattle.fd_prob.specs.Relations.{value_of}
-use Rattle.fd_solve.specs.Search.{IsCut, IsLesser, IsMadeOf, IsMadeOfAny, IsMet, LeastOrNone}
+use Rattle.case_search.specs.Search.{IsLesser, IsMadeOf, LeastOrNone}
+use Rattle.fd_solve.specs.Operations.{IsMadeOfAny}
 use Rattle.fd_solve.proofs.Lists.{any_default}
-use Rattle.fd_solve.proofs.Orders.{as_well, lesser_of_both}
-
-pub domain_is : (c : Case) (s : Slot) → domain_of c s ≡ domain_in c.doms s
-unfolding domain_of
-domain_is c s = refl
-
--- what is inside the domains of the case is in each of them
-pub inside_of : (c : Case) (x : Assignment) → ((s : Slot) → is_in (domain_of c s) (value_of x s) ≡ true) → IsInside c.doms x
-inside_of c x each s = subst (λ (xs : List ℕ). is_in xs (value_of x s) ≡ true) (domain_is c s) (each s)
-
-pub each_of : (c : Case) (x : Assignment) → IsInside c.doms x → (s : Slot) → is_in (domain_of c s) (value_of x s) ≡ true
-each_of c x inside s = subst (λ (xs : List ℕ). is_in xs (value_of x s) ≡ true) (sym (domain_is c s)) (inside s)
-
--- the domains of a case cut to its operation
-module _ (c : Case) (start : List (List ℕ)) (start_is : start ≡ c.doms) (op : ℕ) (op_is : op ≡ c.op) (cut : List (List ℕ)) (cuts : IsCut c start slots.Op op cut) where
-  made : (x : Assignment) → IsMet c cut x → IsMadeOf c x
-  made x met = (
-    met.words,
-    record {
-      op = cuts.value x met.inside ∙ op_is;
-      domains = each_of c x (subst (λ (ds : List (List ℕ)). IsInside ds x) start_is (cuts.within x met.inside));
-      relations = met.holding;
-    },
-  )
-
-  met : (x : Assignment) → IsMadeOf c x → IsMet c cut x
-  met x is = record {
-    words = is.0;
-    inside = cuts.keeps x (subst (λ (ds : List (List ℕ)). IsInside ds x) (sym start_is) (inside_of c x is.1.domains)) (is.1.op ∙ sym op_is) is.1.relations;
-    holding = is.1.relations;
-  }
-
-  pub least_made : (ps : List ℕ) (o : Option Assignment) → LeastOrNone ps (IsMet c cut) o → LeastOrNone ps (IsMadeOf c) o
-  least_made ps o least = as_well ps (IsMet c cut) (IsMadeOf c) made met o least
+use Rattle.case_search.proofs.Orders.{as_well, lesser_of_both}
 
 -- the assignment has the operation and is of one of the first n cases
 abbrev pub IsMadeBefore : ℕ → List Case → ℕ → Assignment → Type 0

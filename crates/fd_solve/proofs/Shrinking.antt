@@ -1,20 +1,20 @@
 -- A bias that cuts no variable whose cut may make a space larger.
-use Rattle.std.proofs.Common.{◌≡◌, ◌≢◌, ℕ, zero, suc, ◌+◌, ◌*◌, ◌≤◌, ◌/◌, ◌&&◌, ◌||◌, ◌==◌, Bool, true, false, cond, List, [], ◌∷◌, length, map, filter, find, set, get_or, Option, Some, None, option_map, refl, sym, ap, ◌∙◌, subst, mul-le-mul, mul-le-mul_right, add-le-add, le_refl, le_trans, arith}
+use Rattle.std.proofs.Common.{◌≡◌, ◌≢◌, ℕ, zero, suc, ◌+◌, ◌≤◌, ◌/◌, ◌||◌, ◌==◌, Bool, true, false, cond, List, [], ◌∷◌, length, map, filter, find, set, get_or, Option, Some, None, option_map, refl, sym, ap, ◌∙◌, subst, mul-le-mul, mul-le-mul_right, add-le-add, le_refl, le_trans, arith}
 use Rattle.std.specs.Prelude.{if◌then◌else◌, not}
 use Rattle.std.specs.List.{cons_option, filter_map, list_all, list_any}
 use Rattle.std.proofs.lemmas.Bool.{and_parts}
 use Rattle.std.proofs.lemmas.Option.{same_Some}
 use Rattle.std.proofs.lemmas.List.{get_or-set_other}
-use Rattle.dom_set.specs.Elements.{is_in, numbers_below}
+use Rattle.dom_set.specs.Elements.{is_in}
 use Rattle.fd_prob.specs.declared.problem.Case.{Case}
 use Rattle.fd_prob.specs.declared.problem.Extra.{Extra}
 use Rattle.fd_prob.specs.declared.problem.Problem.{Problem}
 use Rattle.fd_prob.specs.declared.slot.Slot.{Slot}
 use Rattle.fd_prob.specs.declared.slot.Slot.TheVariants as slots
-use Rattle.fd_prob.specs.Extras.{cut_by, cut_by_all, extended, extended_cases}
+use Rattle.fd_prob.specs.Extras.{cut_by, cut_by_all, extended}
 use Rattle.fd_prob.specs.Fitting.{domain_of}
 use Rattle.fd_prob.specs.Slots.{slot_number}
-use Rattle.fd_prob.specs.Spaces.{access_space, allowed_case, allowed_cases, counted_fields, has_page, if_allowed, is_access, numbers_from, operation_space, pages_below, pages_in, pages_of, product_of, saturated, size_in, source_of, space, sum_of}
+use Rattle.fd_prob.specs.Spaces.{access_space, allowed_case, allowed_cases, counted_fields, has_page, if_allowed, is_access, numbers_from, operation_space, pages_in, pages_of, product_of, saturated, size_in, source_of, space, sum_of}
 use Rattle.rv_isa.specs.Numbers.{op_numbered}
 use Rattle.rv_isa.specs.Table.{row_of}
 use Rattle.fd_solve.specs.Marks.{bare, cut_case, first_of}

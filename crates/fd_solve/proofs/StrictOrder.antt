@@ -13,7 +13,7 @@ use Rattle.fd_prob.specs.Slots.{slot_number}
 use Rattle.fd_solve.specs.Laws.{ArePivotsWords, OrderIsStrictAndTotal}
 use Rattle.fd_solve.proofs.AllOperations.{op_or_later}
 use Rattle.fd_prob.proofs.Places.{in_place, same_slot}
-use Rattle.fd_solve.proofs.Ranks.{rank_injective}
+use Rattle.case_search.proofs.Ranks.{rank_injective}
 
 at_operation : (p : Problem) (a b : ℕ) → pivot_of p a slots.Op ≡ pivot_of p b slots.Op
 unfolding pivot_of

@@ -1,18 +1,11 @@
--- Cases that the same assignments fit.
+-- Cases that stand for those of a problem.
 use Rattle.std.specs.Prelude.{◌≡◌, ◌<◌, ℕ, Bool, ⊤, List, [], ◌∷◌, length, slice_index_or, Option, IfSome}
-use Rattle.fd_prob.specs.declared.problem.Assignment.{Assignment}
 use Rattle.fd_prob.specs.declared.problem.Case.{Case}
 use Rattle.fd_prob.specs.declared.problem.Extra.{Extra}
-use Rattle.fd_prob.specs.Fitting.{IsCase, fits_case}
+use Rattle.case_search.specs.Equivalent.{IsEquivalent}
 use Rattle.fd_solve.specs.Marks.{marked_case}
 
--- the same assignments fit both cases, which are of one operation
-pub record IsEquivalent (c made : Case) : Type 0 where
-  pub whole : IsCase made
-  pub op : made.op ≡ c.op
-  pub same : (x : Assignment) → fits_case x made ≡ fits_case x c
-
--- case by case
+-- case by case, the same assignments fit both
 abbrev pub AreEquivalent : List Case → List Case → Type 0
 AreEquivalent [] [] = ⊤
 AreEquivalent (c ∷ cases) (d ∷ made) = IsEquivalent c d × AreEquivalent cases made

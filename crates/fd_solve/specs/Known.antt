@@ -7,7 +7,7 @@ use Rattle.fd_solve.specs.declared.answers.Solved.TheVariants as answers
 use Rattle.fd_solve.specs.declared.known.Known.{Known}
 use Rattle.fd_solve.specs.declared.known.Known.TheVariants.{Answer, Fits}
 use Rattle.fd_solve.specs.Answers.{IsAnswer}
-use Rattle.fd_solve.specs.Search.{IsFitting}
+use Rattle.fd_solve.specs.Operations.{IsFitting}
 
 -- it is known of the problem
 abbrev pub IsKnown : Problem → ℕ → Known → Type 0

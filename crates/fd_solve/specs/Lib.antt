@@ -1,4 +1,3 @@
-pub mod Classes
 pub mod Equivalent
 pub mod Answers
 pub mod Dropping
@@ -7,10 +6,6 @@ pub mod Marks
 pub mod Meeting
 pub mod Ready
 pub mod Laws
-pub mod Search
 pub mod Taking
-pub mod Free
-pub mod Easier
 pub mod Shrinking
-pub mod Stronger
-pub mod Targets
+pub mod Operations

@@ -10,7 +10,7 @@ use crate::answers::Solved;
 use crate::marked::Marked;
 use crate::meeting::fits_marked;
 use crate::ready::Ready;
-use crate::search::words;
+use case_search::words;
 use dom_set::OutOfMemory;
 use fd_prob::{Assignment, space};
 use std::alloc::Global;

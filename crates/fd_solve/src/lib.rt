@@ -1,31 +1,22 @@
 //! The exact solver of problems. Where a problem's space is within a budget, `solve` finds the least
 //! assignment that fits, in the order of the problem's pivots, or that there is none. `solve_leaf` takes
 //! biases one after another and keeps each that leaves the problem an assignment for its answer. The search goes through the
-//! cases of one operation after another; in a case it goes through the variables in their order, tries the
-//! values of each from its pivot, and lets the relations narrow the domains of the others.
+//! cases of one operation after another, and `case_search` through what is in a case.
 #![tactic(auto)]
 
 mod answers;
 mod cases;
-mod classes;
-mod easier;
 mod extended;
 mod firsts;
-mod free;
 mod known;
 mod laws;
 mod leaf;
 mod marked;
 mod meeting;
 mod operations;
-mod order;
 mod pivots;
-mod place;
 mod ready;
-mod search;
 mod sought;
-mod stronger;
-mod targets;
 
 pub use answers::{LeafAnswer, Solved};
 pub use dom_set::OutOfMemory;

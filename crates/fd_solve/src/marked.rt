@@ -5,7 +5,7 @@ ghost use Rattle.fd_prob.specs.Fitting.{IsCase, IsProblem};
 ghost use Rattle.fd_prob.specs.Order.{pivot_of};
 ghost use Rattle.fd_prob.specs.declared.slot.Slot.TheVariants as slots;
 ghost use Rattle.fd_solve.specs.Marks.{IsSound, base_of, marked_case, whole_of, with_marked};
-ghost use Rattle.fd_solve.specs.Search.{ArePivots};
+ghost use Rattle.fd_solve.specs.Operations.{ArePivots};
 
 use crate::extended::extended_case;
 use crate::pivots::pivots_of;

@@ -9,7 +9,7 @@ ghost use Rattle.fd_solve.specs.declared.answers.Solved.TheVariants.{Found, None
 ghost use Rattle.fd_solve.specs.Answers.{IsAnswer, IsLeast, NothingFits};
 ghost use Rattle.fd_solve.specs.Equivalent.{AreEquivalent};
 ghost use Rattle.fd_solve.specs.Marks.{IsSound, whole_of};
-ghost use Rattle.fd_solve.specs.Search.{IsLeastFrom, NoneBetween};
+ghost use Rattle.fd_solve.specs.Operations.{IsLeastFrom, NoneBetween};
 
 use crate::Solved;
 use crate::cases::solve_cases;

@@ -6,10 +6,9 @@ ghost use Rattle.fd_prob.specs.declared.slot.Slot.TheVariants as slots;
 ghost use Rattle.fd_prob.specs.Order.{allowed_ops, draw_of, picked, pivot_of};
 ghost use Rattle.fd_prob.specs.Slots.{slot_number};
 ghost use Rattle.fd_solve.specs.Laws.{ArePivotsWords, HasWordPicks};
-ghost use Rattle.fd_solve.specs.Search.{ArePivots};
+ghost use Rattle.fd_solve.specs.Operations.{ArePivots};
 
-use crate::place::slot_at;
-use crate::search::words;
+use case_search::{slot_at, words};
 use dom_set::{OutOfMemory, Set};
 use fd_prob::{Case, Problem, allowed_case, first_case};
 use std::alloc::Global;

@@ -1,13 +1,14 @@
 // Cases that stand for those of a problem in a search.
 ghost use Rattle.std.specs.Prelude.{◌≡◌, ◌<◌, ◌≤◌, All, IfOk, length};
 ghost use Rattle.fd_prob.specs.Fitting.{IsCase};
-ghost use Rattle.fd_solve.specs.Equivalent.{AreEquivalent, AreMarked, IsEquivalent};
+ghost use Rattle.case_search.specs.Equivalent.{IsEquivalent};
+ghost use Rattle.fd_solve.specs.Equivalent.{AreEquivalent, AreMarked};
 ghost use Rattle.fd_solve.specs.Marks.{marked_case};
 
 use crate::marked::marked_case;
-use crate::stronger::{can_be_stronger, stronger};
+use case_search::{narrow_again, narrow_case};
 use dom_set::OutOfMemory;
-use fd_narrow::{Domains, Losses};
+use fd_narrow::Losses;
 use fd_prob::{Case, Extra, Items};
 use std::alloc::Global;
 
@@ -17,64 +18,6 @@ pub struct Sought<'a> {
     pub cases: &'a [Case],
     /// Whether their domains are narrowed by their relations already.
     pub are_narrow: bool,
-}
-
-/// A case with at most one relation of rows.
-fn with_one_row(alloc: Global, case: &Case) -> Result<Case, OutOfMemory>
-    requires { IsCase case.now }
-    ensures { IfOk result (IsEquivalent case.now) }
-{
-    if case.has_several_rows() {
-        let joined = case.joined(alloc)?;
-        return Ok(joined);
-    }
-    let same = case.copy(alloc)?;
-    Ok(same)
-}
-
-/// The case with relations from which more follows at once.
-fn with_more(alloc: Global, case: Case) -> Result<Case, OutOfMemory>
-    requires { IsCase case }
-    ensures { IfOk result (IsEquivalent case) }
-{
-    if can_be_stronger(&case) {
-        let stronger = stronger(alloc, &case)?;
-        return Ok(stronger);
-    }
-    Ok(case)
-}
-
-/// The case with domains narrowed by its relations. They were narrowed before by the first ones, `known`, and since then just
-/// some variables lost values.
-fn with_narrow_domains(
-    alloc: Global,
-    case: Case,
-    known: usize,
-    losses: &Losses,
-) -> Result<Case, OutOfMemory>
-    requires { IsCase case }
-    ensures { IfOk result (IsEquivalent case) }
-{
-    let doms = Domains::of(alloc, &case)?;
-    let rels = case.rels.as_slice();
-    let narrow = doms.narrowed_from(alloc, case.operation(), rels, known, losses)?;
-    let Case { op, rels, .. } = case;
-    Ok(Case {
-        op,
-        doms: Items::from_vec(narrow.into_sets()),
-        rels,
-    })
-}
-
-/// A case that stands for this one, with narrowed domains.
-fn narrow_case(alloc: Global, case: &Case) -> Result<Case, OutOfMemory>
-    requires { IsCase case.now }
-    ensures { IfOk result (IsEquivalent case.now) }
-{
-    let joined = with_one_row(alloc, case)?;
-    let strong = with_more(alloc, joined)?;
-    let narrow = with_narrow_domains(alloc, strong, 0, &[true; 14])?;
-    Ok(narrow)
 }
 
 /// Cases that stand for these, with narrowed domains.
@@ -118,10 +61,7 @@ fn narrow_more(
 {
     let known = case.rels.as_slice().len();
     let made = marked_case(alloc, case, place, biases, marks)?;
-    if made.has_several_rows() || can_be_stronger(&made) {
-        return narrow_case(alloc, &made);
-    }
-    with_narrow_domains(alloc, made, known, &losses_by(biases, marks))
+    narrow_again(alloc, made, known, &losses_by(biases, marks))
 }
 
 /// Cases that stand for these narrow ones with what marked biases add to them, with narrowed domains.

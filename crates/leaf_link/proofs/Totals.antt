@@ -7,7 +7,7 @@ use Rattle.fd_prob.specs.declared.slot.TheConstants.{SLOTS}
 use Rattle.fd_prob.specs.Order.{rank}
 use Rattle.fd_prob.specs.Slots.{slot_number}
 use Rattle.fd_prob.proofs.Places.{in_place, place_below, same_slot}
-use Rattle.fd_solve.proofs.Ranks.{rank_injective}
+use Rattle.case_search.proofs.Ranks.{rank_injective}
 use Rattle.leaf_link.specs.Values.{Values}
 
 -- the variables before one have the same values

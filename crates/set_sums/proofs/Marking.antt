@@ -1,5 +1,5 @@
 -- Sums of steps that are near.
-use Rattle.std.proofs.Common.{◌≡◌, ℕ, ◌+◌, ◌-◌, ◌%◌, ◌^◌, ◌<◌, ◌≤◌, ◌==◌, ◌&&◌, ◌||◌, ◌++◌, ◌∷◌, [], inl, inr, Bool, true, false, List, All, Option, Some, IsTrue, nat_le, nat_eq, min, length, take, get_or, slice_get, refl, sym, ap, ◌∙◌, subst, eqb-true, eq-eqb, arith}
+use Rattle.std.proofs.Common.{◌≡◌, ℕ, ◌+◌, ◌-◌, ◌%◌, ◌^◌, ◌<◌, ◌≤◌, ◌==◌, ◌&&◌, ◌||◌, ◌++◌, ◌∷◌, [], inl, inr, Bool, true, false, List, All, Option, Some, None, IfSome, IsTrue, nat_le, nat_eq, min, length, take, get_or, slice_get, refl, sym, ap, ◌∙◌, subst, eqb-true, eq-eqb, arith}
 use Rattle.std.specs.List.{find, position_or_len}
 use Rattle.std.specs.List.Sorted.{IsStrictlyIncreasing}
 use Rattle.std.specs.Option.{option_or}
@@ -14,7 +14,7 @@ use Rattle.dom_set.specs.declared.track.Track.{Track}
 use Rattle.dom_set.specs.Elements.{first_cyclic, is_in, is_within}
 use Rattle.dom_set.specs.Tracks.{is_on, is_on_one}
 use Rattle.set_sums.specs.declared.steps.Steps.{Steps}
-use Rattle.set_sums.specs.Near.{AreBackward, AreForward, AreInRanges, AreStillMarked, HasNearDifferences, HaveEach, HaveMoved, HaveNear, HaveSteps, HaveSumsFrom, IsAgainst, IsAlong, IsNarrow, IsNext, is_at, is_at_one}
+use Rattle.set_sums.specs.Near.{AreBackward, AreForward, AreInRanges, AreStillMarked, AreWholes, HasNearDifferences, HasNearOn, HaveEach, HaveMoved, HaveNear, HaveSteps, HaveSumsFrom, IsAgainst, IsAlong, IsNarrow, IsNext, IsWhole, is_at, is_at_one}
 use Rattle.set_sums.specs.Spans.{IsOfRanges}
 use Rattle.set_sums.proofs.Grids.{added, fewer, lowered, mirrored, nearest}
 use Rattle.set_sums.proofs.Members.{element}
@@ -160,9 +160,37 @@ near_sum v w small word = omega (arith, small, word)
 near_word : (v : ℕ) → v < 2 ^ 32 → (2 ^ 32 - 2048 + (v + 2048) % 2 ^ 32) % 2 ^ 32 ≡ v
 near_word v small = omega (arith, small)
 
-pub by_near : (first second made marks : List ℕ) (tracks others : List Track) (all turned : List Steps) (ranges : List (ℕ × ℕ)) → All (λ w. w < 2 ^ 32) second → ((x : ℕ) → IsTrue (is_in first x) → IsTrue (is_on_one tracks x)) → ((x : ℕ) → IsTrue (is_in second x) → IsTrue (is_on_one others x)) → AreForward tracks all → AreBackward others turned → HaveNear marks all turned → AreInRanges marks 4096 ranges → IsOfRanges ranges made → HasNearDifferences first second made
-by_near first second made marks tracks others all turned ranges words one two ahead back sums within is v w small near h k =
-    let word : w < 2 ^ 32 = element (λ n. n < 2 ^ 32) second w words h in
+pub near_on : (made marks : List ℕ) (tracks others : List Track) (all turned : List Steps) (ranges : List (ℕ × ℕ)) → AreForward tracks all → AreBackward others turned → HaveNear marks all turned → AreInRanges marks 4096 ranges → IsOfRanges ranges made → HasNearOn tracks others made
+near_on made marks tracks others all turned ranges ahead back sums within is v w small near word h k =
     let sum : ((v + w) % 2 ^ 32 + (2 ^ 32 + 2048 - w)) % 2 ^ 32 ≡ (v + 2048) % 2 ^ 32 = near_sum v w small word in
-    let marked : IsTrue (has marks ((v + 2048) % 2 ^ 32)) = subst (λ (n : ℕ). IsTrue (has marks n)) sum (sums ((v + w) % 2 ^ 32) (2 ^ 32 + 2048 - w) (ahead ((v + w) % 2 ^ 32) (one ((v + w) % 2 ^ 32) k)) (back w (two w h)) (omega (arith, sum, near))) in
+    let marked : IsTrue (has marks ((v + 2048) % 2 ^ 32)) = subst (λ (n : ℕ). IsTrue (has marks n)) sum (sums ((v + w) % 2 ^ 32) (2 ^ 32 + 2048 - w) (ahead ((v + w) % 2 ^ 32) k) (back w h) (omega (arith, sum, near))) in
     is.all v small (subst (λ (n : ℕ). IsTrue (is_within ranges n)) (near_word v small) (within ((v + 2048) % 2 ^ 32) near marked))
+
+pub by_tracks : (first second made : List ℕ) (tracks others : List Track) → All (λ w. w < 2 ^ 32) second → ((x : ℕ) → IsTrue (is_in first x) → IsTrue (is_on_one tracks x)) → ((x : ℕ) → IsTrue (is_in second x) → IsTrue (is_on_one others x)) → HasNearOn tracks others made → HasNearDifferences first second made
+by_tracks first second made tracks others words one two on v w small near h k = on v w small near (element (λ n. n < 2 ^ 32) second w words h) (two w h) (one ((v + w) % 2 ^ 32) k)
+
+pub all_by_tracks : (near : Option (List ℕ)) (first second : List ℕ) (tracks others : List Track) → All (λ w. w < 2 ^ 32) second → ((x : ℕ) → IsTrue (is_in first x) → IsTrue (is_on_one tracks x)) → ((x : ℕ) → IsTrue (is_in second x) → IsTrue (is_on_one others x)) → IfSome near (HasNearOn tracks others) → IfSome near (HasNearDifferences first second)
+all_by_tracks None first second tracks others words one two h = h
+all_by_tracks (Some made) first second tracks others words one two on = by_tracks first second made tracks others words one two on
+
+-- ---- ranges as tracks
+
+pub whole_at : (low top high x : ℕ) → top ≤ high → IsTrue (nat_le low x && nat_le x top) → IsTrue ((nat_le low x && nat_le x high) && (x % 2 ^ 0 == low % 2 ^ 0))
+whole_at low top high x below h =
+    let ends = and_parts (nat_le low x) (nat_le x top) h in
+    and_from (nat_le low x && nat_le x high) (x % 2 ^ 0 == low % 2 ^ 0)
+    (and_from (nat_le low x) (nat_le x high) ends.0 (le-leb x high (omega (arith, below, leb-true x top ends.1))))
+    (eq-eqb (x % 2 ^ 0) (low % 2 ^ 0) (omega arith))
+
+on_more : (all new : List Track) (t : Track) (x : ℕ) → new ≡ all ++ t ∷ [] → IsTrue (is_on_one all x || is_on t x) → IsTrue (is_on_one new x)
+on_more all new t x new_is h = subst (λ (d : List Track). IsTrue (is_on_one d x)) (sym new_is) (subst IsTrue (sym (list_any-append (λ (u : Track). is_on u x) all (t ∷ []) ∙ ap (λ (b : Bool). is_on_one all x || b) (alone (is_on t x)))) h) where
+  alone : (b : Bool) → (b || false) ≡ b
+  alone true = refl
+  alone false = refl
+
+pub wholes_more : (spans : List (ℕ × ℕ)) (all new : List Track) (i : ℕ) (t : Track) → i < length spans → new ≡ all ++ t ∷ [] → IsWhole (get_or spans i (0, 0)) t → AreWholes (take i spans) all → AreWholes (take (i + 1) spans) new
+wholes_more spans all new i t below new_is one before x h =
+    elim (either (is_within (take i spans) x) (nat_le (get_or spans i (0, 0)).0 x && nat_le x (get_or spans i (0, 0)).1) (subst IsTrue (list_any_more (λ (r : ℕ × ℕ). nat_le r.0 x && nat_le x r.1) spans i (0, 0) below) h)) [
+      | inl old ↦ on_more all new t x new_is (or_left (is_on_one all x) (is_on t x) (before x old))
+      | inr here ↦ on_more all new t x new_is (or_right (is_on_one all x) (is_on t x) (one x here))
+    ]

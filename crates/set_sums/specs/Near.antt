@@ -97,3 +97,15 @@ IsNarrow set = (v : ℕ) → IsTrue (is_in set v) → (v + 2048) % 2 ^ 32 < 4096
 -- those of these words that give an element of the first set when one of the second is added, modulo 2 ^ 32
 abbrev pub HasNearDifferences : List ℕ → List ℕ → List ℕ → Type 0
 HasNearDifferences first second set = (v w : ℕ) → v < 2 ^ 32 → (v + 2048) % 2 ^ 32 < 4096 → IsTrue (is_in second w) → IsTrue (is_in first ((v + w) % 2 ^ 32)) → IsTrue (is_in set v)
+
+-- the track has the numbers of the range
+abbrev pub IsWhole : ℕ × ℕ → Track → Type 0
+IsWhole span track = (x : ℕ) → IsTrue (nat_le span.0 x && nat_le x span.1) → IsTrue (is_on track x)
+
+-- the tracks have the numbers of the ranges
+abbrev pub AreWholes : List (ℕ × ℕ) → List Track → Type 0
+AreWholes spans tracks = (x : ℕ) → IsTrue (is_within spans x) → IsTrue (is_on_one tracks x)
+
+-- those of the near words that give a number of the first tracks when a word of the others is added, modulo 2 ^ 32
+abbrev pub HasNearOn : List Track → List Track → List ℕ → Type 0
+HasNearOn firsts others set = (v w : ℕ) → v < 2 ^ 32 → (v + 2048) % 2 ^ 32 < 4096 → w < 2 ^ 32 → IsTrue (is_on_one others w) → IsTrue (is_on_one firsts ((v + w) % 2 ^ 32)) → IsTrue (is_in set v)

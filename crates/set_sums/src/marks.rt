@@ -4,7 +4,8 @@ ghost use Rattle.lane_bits.specs.Pages.{has};
 ghost use Rattle.set_sums.specs.Classes.{IsClassMarked};
 ghost use Rattle.set_sums.specs.Near.{AreAllMarked};
 
-use crate::steps::step;
+use crate::ranges::Span;
+use crate::steps::{NEAR, REACH, step};
 use lane_bits::PageBits;
 use std::marker::Model;
 
@@ -42,11 +43,28 @@ fn class_of(shift: u32, number: u64) -> u16
     (step + (number & (step - 1))) as u16
 }
 
+/// Takes out the words of a range, each plus the reach, or all numbers where not all of these are below 4,096.
+fn clear(bits: &mut PageBits, range: Span) {
+    let low = u64::from(range.0.wrapping_add(REACH as u32));
+    let high = u64::from(range.1.wrapping_add(REACH as u32));
+    if low > high || high >= NEAR {
+        *bits = PageBits::new();
+        return;
+    }
+    for number in low..high + 1 {
+        bits.clear(number as u16);
+    }
+}
+
 impl Marks {
-    /// No number is marked.
-    pub fn new() -> Marks {
+    /// The numbers are marked that are no word of the ranges plus the reach, since these are not looked for.
+    pub fn but_for(ranges: &[Span]) -> Marks {
+        let mut bits = PageBits::multiples_of(1);
+        for range in ranges {
+            clear(&mut bits, *range);
+        }
         Marks {
-            bits: PageBits::new(),
+            bits,
             classes: PageBits::new(),
         }
     }
@@ -90,6 +108,16 @@ impl Marks {
             return;
         }
         self.classes.set(class_of(shift, number));
+    }
+
+    /// Whether every number is marked.
+    pub fn is_full(&self) -> bool
+        ensures { IsTrue result → AreAllMarked self.now }
+    {
+        PageBits::multiples_of(1)
+            .and_not(&self.bits)
+            .first_from(0)
+            .is_none()
     }
 
     /// The marked numbers.

@@ -1,7 +1,7 @@
 // Differences of two sets that are near 0, by the places and the low bits of their elements together.
-ghost use Rattle.std.specs.Prelude.{◌≡◌, ℕ, ◌+◌, ◌-◌, ◌*◌, ◌%◌, ◌^◌, ◌<◌, ◌≤◌, false, IfOk, IsTrue};
+ghost use Rattle.std.specs.Prelude.{◌≡◌, ℕ, ◌+◌, ◌-◌, ◌*◌, ◌%◌, ◌^◌, ◌<◌, ◌≤◌, false, IfOk, IfSome, IsTrue};
 ghost use Rattle.lane_bits.specs.Pages.{has};
-ghost use Rattle.set_sums.specs.Near.{AreAllMarked, AreBackward, AreForward, AreInRanges, AreStillMarked, HasNearDifferences, HaveEach, HaveMoved, HaveNear, HaveNearOf, HaveNearWith, HaveSteps, HaveSumsFrom, IsAgainst, IsAlong, IsAroundSteps, IsNarrow, IsNearMet, IsNext, MayBeNear};
+ghost use Rattle.set_sums.specs.Near.{AreAllMarked, AreBackward, AreForward, AreInRanges, AreStillMarked, AreWholes, HasNearDifferences, HasNearOn, HaveEach, HaveMoved, HaveNear, HaveNearOf, HaveNearWith, HaveSteps, HaveSumsFrom, IsAgainst, IsAlong, IsAroundSteps, IsNarrow, IsNearMet, IsNext, IsWhole, MayBeNear};
 
 use crate::marks::Marks;
 use crate::ranges::{Span, WORDS, push_round, words_of};
@@ -10,8 +10,12 @@ use dom_set::{OutOfMemory, Set, Track};
 use lane_bits::PageBits;
 use std::alloc::Global;
 
-/// How many pairs of steps are looked at, at most, before every number is marked.
-const MOST: u64 = 2_000_000;
+/// How many pairs of ranges are looked at, at most, before every number is marked.
+const PLACES: u64 = 2_000_000;
+
+/// How many pairs of tracks are looked at, at most. They are asked again and again, and where they tell nothing there
+/// is what places tell.
+const TRACKS: u64 = 200_000;
 
 /// So many marks count as one pair.
 const MARKS: u64 = 16;
@@ -283,7 +287,7 @@ fn mark_pairs(marks: &mut Marks, left: &mut u64, firsts: &[Steps], others: &[Ste
         mark_all(marks, left);
         return;
     }
-    if !may_be_near(firsts, others) {
+    if marks.is_full() || !may_be_near(firsts, others) {
         return;
     }
     if firsts.len() <= BLOCK && others.len() <= BLOCK {
@@ -301,11 +305,10 @@ fn mark_pairs(marks: &mut Marks, left: &mut u64, firsts: &[Steps], others: &[Ste
     mark_pairs(marks, left, back, others);
 }
 
-/// The first of the gaps behind a number that is none, or the end of all.
-fn gap_behind(gaps: &PageBits, number: u16) -> u16
-    requires within { number < 4096 }
-    requires marked { has gaps.now number ≡ false }
-    ensures behind { number < result }
+/// The first of the gaps from a number on, or the end of all.
+fn next_gap(gaps: &PageBits, number: u16) -> u16
+    requires { number ≤ 4096 }
+    ensures behind { number ≤ result }
     ensures within { result ≤ 4096 }
 {
     match gaps.first_from(number) {
@@ -314,15 +317,42 @@ fn gap_behind(gaps: &PageBits, number: u16) -> u16
     }
 }
 
-/// Ranges of the words that are marked, less the reach.
-fn marked_ranges(alloc: Global, marks: &PageBits) -> Result<Vec<Span>, OutOfMemory>
+/// Whether the set has none of the words from the first number on that are before the end, less the reach.
+fn leaves_out(classes: &Set, first: u16, end: u16) -> bool {
+    for number in first..end {
+        if classes.has(u32::from(number).wrapping_sub(REACH as u32)) {
+            return false;
+        }
+    }
+    true
+}
+
+/// The end of the range that goes on behind a number. It goes over the gaps that the set leaves out, so that there are
+/// fewer ranges.
+fn range_end(classes: &Set, gaps: &PageBits, marks: &PageBits, number: u16) -> u16
+    requires { number < 4096 }
+    ensures behind { number < result }
+    ensures within { result ≤ 4096 }
+{
+    let mut end = next_gap(gaps, number + 1);
+    while let Some(next) = marks.first_from(end) {
+        if !leaves_out(classes, end, next) {
+            return end;
+        }
+        end = next_gap(gaps, next + 1);
+    }
+    end
+}
+
+/// Ranges of the words that are marked, less the reach, and perhaps of some that the set leaves out.
+fn marked_ranges(alloc: Global, classes: &Set, marks: &PageBits) -> Result<Vec<Span>, OutOfMemory>
     ensures { IfOk result (λ ranges. AreInRanges marks.now 4096 ranges.items) }
 {
     let gaps = PageBits::multiples_of(1).and_not(marks);
     let mut ranges = Vec::new(alloc);
     let mut from = 0u16;
     while let Some(first) = marks.first_from(from) {
-        let end = gap_behind(&gaps, first);
+        let end = range_end(classes, &gaps, marks, first);
         push_round(
             &mut ranges,
             WORDS - REACH + u64::from(first),
@@ -344,19 +374,115 @@ pub fn is_narrow(domain: &Set) -> bool
     }
 }
 
-/// The near words that give an element of the first set when one of the second is added.
-pub fn near_differences(alloc: Global, first: &Set, second: &Set) -> Result<Set, OutOfMemory>
-    ensures { IfOk result (HasNearDifferences first.now second.now) }
+/// The numbers of a range.
+fn whole(span: Span) -> Track
+    ensures { IsWhole span result }
+{
+    Track {
+        low: span.0,
+        high: span.0.max(span.1),
+        shift: 0,
+    }
+}
+
+/// The numbers of ranges.
+fn wholes(alloc: Global, spans: &[Span]) -> Result<Vec<Track>, OutOfMemory>
+    ensures { IfOk result (λ tracks. AreWholes spans.now tracks.items) }
+{
+    let mut tracks = Vec::new(alloc);
+    for span in spans {
+        tracks.push(whole(*span))?;
+    }
+    Ok(tracks)
+}
+
+/// The near words that give a number of the first tracks when one of the others is added, those that are marked from
+/// the start, and perhaps some that are in none of the classes; nothing where it would take more pairs than are to be
+/// looked at.
+fn near_on(
+    alloc: Global,
+    firsts: &[Track],
+    others: &[Track],
+    wanted: &[Span],
+    classes: &Set,
+    most: u64,
+) -> Result<Option<Set>, OutOfMemory>
+    ensures { IfOk result (λ near. IfSome near (HasNearOn firsts.now others.now)) }
+{
+    let firsts = forward(alloc, firsts)?;
+    let others = backward(alloc, others)?;
+    let mut marks = Marks::but_for(wanted);
+    let mut left = most;
+    mark_pairs(&mut marks, &mut left, &firsts, &others);
+    if left == 0 {
+        return Ok(None);
+    }
+    let ranges = marked_ranges(alloc, classes, &marks.page())?;
+    let words = words_of(alloc, &ranges)?;
+    Ok(Some(words))
+}
+
+/// The near words that give an element of the first set when one of the second is added, by the places of the elements
+/// alone.
+fn near_by_places(
+    alloc: Global,
+    first: &Set,
+    second: &Set,
+    wanted: &[Span],
+    classes: &Set,
+) -> Result<Option<Set>, OutOfMemory>
+    ensures { IfOk result (λ near. IfSome near (HasNearDifferences first.now second.now)) }
 {
     second.element_laws();
-    let tracks = first.tracks(alloc)?;
-    let firsts = forward(alloc, &tracks)?;
-    let tracks = second.tracks(alloc)?;
-    let others = backward(alloc, &tracks)?;
-    let mut marks = Marks::new();
-    let mut left = MOST;
-    mark_pairs(&mut marks, &mut left, &firsts, &others);
-    let ranges = marked_ranges(alloc, &marks.page())?;
-    let words = words_of(alloc, &ranges)?;
-    Ok(words)
+    let spans = first.spans(alloc)?;
+    let firsts = wholes(alloc, &spans)?;
+    let spans = second.spans(alloc)?;
+    let others = wholes(alloc, &spans)?;
+    let near = near_on(alloc, &firsts, &others, wanted, classes, PLACES)?;
+    Ok(near)
+}
+
+/// The same by places and low bits.
+fn near_by_tracks(
+    alloc: Global,
+    first: &Set,
+    second: &Set,
+    wanted: &[Span],
+    classes: &Set,
+) -> Result<Option<Set>, OutOfMemory>
+    ensures { IfOk result (λ near. IfSome near (HasNearDifferences first.now second.now)) }
+{
+    second.element_laws();
+    let firsts = first.tracks(alloc)?;
+    let others = second.tracks(alloc)?;
+    let near = near_on(alloc, &firsts, &others, wanted, classes, TRACKS)?;
+    Ok(near)
+}
+
+/// The near words that give an element of the first set when one of the second is added, and perhaps some that are in
+/// none of the classes or not in the domain; nothing where it would take too long to tell them. Places come first, so
+/// that low bits are looked at only for words that places leave.
+pub fn near_differences(
+    alloc: Global,
+    first: &Set,
+    second: &Set,
+    domain: &Set,
+    classes: &Set,
+) -> Result<Option<Set>, OutOfMemory>
+    ensures { IfOk result (λ near. IfSome near (HasNearDifferences first.now second.now)) }
+{
+    let wanted = domain.spans(alloc)?;
+    let Some(places) = near_by_places(alloc, first, second, &wanted, classes)? else {
+        let near = near_by_tracks(alloc, first, second, &wanted, classes)?;
+        return Ok(near);
+    };
+    let left = places.and(alloc, domain)?;
+    let wanted = left.spans(alloc)?;
+    match near_by_tracks(alloc, first, second, &wanted, classes)? {
+        Some(tracks) => {
+            let near = tracks.and(alloc, &places)?;
+            Ok(Some(near))
+        }
+        None => Ok(Some(places)),
+    }
 }

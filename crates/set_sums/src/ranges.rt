@@ -88,7 +88,7 @@ const MANY: usize = 4096;
 const NEAR: usize = 32;
 
 /// How many pairs of ranges there are, at most.
-const PAIRS: usize = 16_384;
+const PAIRS: usize = 4096;
 
 /// How many ranges are looked at one by one.
 const BLOCK: usize = 16;

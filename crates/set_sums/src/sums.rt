@@ -17,13 +17,36 @@ pub enum Wanted {
     Differences,
 }
 
-/// What is wanted of two sets and is in the domain, by ranges.
+/// The words of the domain that give an element of the first set when one of the second is added: where the domain is
+/// near 0 by places and low bits together, unless that takes too long, and else by ranges.
+fn differences_of(
+    alloc: Global,
+    first: &Set,
+    second: &Set,
+    domain: &Set,
+    classes: &Set,
+) -> Result<Set, OutOfMemory>
+    ensures { IfOk result (HasDifferencesWithin first.now second.now domain.now) }
+{
+    domain.element_laws();
+    if is_narrow(domain) {
+        if let Some(near) = near_differences(alloc, first, second, domain, classes)? {
+            return Ok(near);
+        }
+    }
+    let differences = differences_around(alloc, first, second, domain)?;
+    Ok(differences)
+}
+
+/// What is wanted of two sets and is in the domain, by the places of their elements. Of what is in none of the classes
+/// there may be more.
 fn around_of(
     alloc: Global,
     wanted: Wanted,
     first: &Set,
     second: &Set,
     domain: &Set,
+    classes: &Set,
 ) -> Result<Set, OutOfMemory>
     ensures { IfOk result (Holds wanted first.now second.now domain.now) }
 {
@@ -33,7 +56,7 @@ fn around_of(
             Ok(sums)
         }
         Wanted::Differences => {
-            let differences = differences_around(alloc, first, second, domain)?;
+            let differences = differences_of(alloc, first, second, domain, classes)?;
             Ok(differences)
         }
     }
@@ -55,7 +78,7 @@ fn classes_of(alloc: Global, wanted: Wanted, first: &Set, second: &Set) -> Resul
     }
 }
 
-/// What is wanted of two sets and is in the domain, by ranges and by low bits of the whole sets.
+/// What is wanted of two sets and is in the domain, by places and by low bits of the whole sets.
 fn of_wholes(
     alloc: Global,
     wanted: Wanted,
@@ -65,8 +88,8 @@ fn of_wholes(
 ) -> Result<Set, OutOfMemory>
     ensures { IfOk result (Holds wanted first.now second.now domain.now) }
 {
-    let around = around_of(alloc, wanted, first, second, domain)?;
     let classes = classes_of(alloc, wanted, first, second)?;
+    let around = around_of(alloc, wanted, first, second, domain, &classes)?;
     let found = around.and(alloc, &classes)?;
     Ok(found)
 }
@@ -108,10 +131,6 @@ pub fn differences_within(
     domain.element_laws();
     if let Some(x) = second.only() {
         let differences = lowered(alloc, first, x)?;
-        return Ok(differences);
-    }
-    if is_narrow(domain) {
-        let differences = near_differences(alloc, first, second)?;
         return Ok(differences);
     }
     let differences = of_wholes(alloc, Wanted::Differences, first, second, domain)?;

@@ -1,9 +1,8 @@
-use Rattle.std.proofs.Common.{◌≡◌, ℕ, ◌+◌, ◌<◌, ◌∙◌, List, length, get_or, refl, ap, sym, subst, arith}
+use Rattle.std.proofs.Common.{◌≡◌, ℕ, ◌+◌, ◌<◌, ◌∙◌, List, length, get_or, refl, sym, subst, arith}
 use Rattle.fd_prob.specs.declared.problem.Case.{Case}
-use Rattle.fd_solve.specs.Equivalent.{IsEquivalent}
 use Rattle.fd_solve.specs.Marks.{marked_case, whole_of}
 use Rattle.fd_prob.specs.Fitting.{IsCase}
-use Rattle.fd_solve.specs.Search.{IsLesser, IsMadeOf, LeastOrNone}
+use Rattle.case_search.specs.Search.{IsLesser, IsMadeOf, LeastOrNone}
 use Rattle.fd_solve.proofs.Equivalence.{equivalent_at, equivalent_count, least_marked}
 use Rattle.fd_solve.proofs.Marking.{entry_at, many_marked, marked_at, marked_op}
 use Rattle.fd_solve.proofs.OneOperation.{IsMadeBefore, all_before, no_more_case, one_more_case}

@@ -1,5 +1,5 @@
 use Rattle.fd_solve.specs.Marks.{whole_of}
-use Rattle.fd_solve.specs.Search.{LeastOrNone}
+use Rattle.case_search.specs.Search.{LeastOrNone}
 use Rattle.fd_solve.proofs.OneOperation.{IsMadeBefore}
 use Rattle.fd_solve.proofs.cases.solve_cases.Given as goal
 

@@ -1,4 +1,4 @@
-use Rattle.std.proofs.Common.{ℕ, List, ◌<◌, ◌≤◌, ◌∙◌, sym, subst}
+use Rattle.std.proofs.Common.{ℕ, ◌<◌, ◌≤◌, ◌∙◌, sym, subst}
 use Rattle.fd_solve.specs.Equivalent.{AreEquivalent}
 use Rattle.fd_solve.proofs.Equivalence.{all_itself}
 use Rattle.fd_prob.specs.Spaces.{space}

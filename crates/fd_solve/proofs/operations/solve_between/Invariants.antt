@@ -1,5 +1,5 @@
 use Rattle.fd_solve.specs.Marks.{whole_of}
-use Rattle.fd_solve.specs.Search.{NoneBetween}
+use Rattle.fd_solve.specs.Operations.{NoneBetween}
 use Rattle.fd_solve.proofs.operations.solve_between.Given as goal
 
 abbrev pub invariant-loop-op : goal.invariant-loop-op

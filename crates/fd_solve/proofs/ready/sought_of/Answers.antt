@@ -1,5 +1,4 @@
-use Rattle.std.proofs.Common.{List, sym, subst}
-use Rattle.fd_prob.specs.declared.problem.Case.{Case}
+use Rattle.std.proofs.Common.{sym, subst}
 use Rattle.fd_solve.specs.Equivalent.{AreEquivalent}
 use Rattle.fd_solve.proofs.Equivalence.{all_itself}
 use Rattle.fd_solve.proofs.ready.sought_of.Goals as goal

@@ -1,4 +1,4 @@
-use Rattle.std.proofs.Common.{ℕ, ◌+◌, List, ◌++◌, ◌∷◌, [], sym, subst, arith, ◌∙◌, drop}
+use Rattle.std.proofs.Common.{◌+◌, List, ◌++◌, sym, subst, arith, drop}
 use Rattle.fd_prob.specs.declared.problem.Case.{Case}
 use Rattle.fd_solve.specs.Equivalent.{AreEquivalent}
 use Rattle.fd_solve.proofs.Equivalence.{all_made, one_more}

@@ -1,5 +1,4 @@
-use Rattle.std.proofs.Common.{◌≡◌, ◌+◌, ◌∙◌, length, length-append, ◌∷◌, [], ap, sym, subst, arith}
-use Rattle.fd_solve.specs.Equivalent.{AreMarked}
+use Rattle.std.proofs.Common.{length, length-append, ◌∷◌, [], ap, arith}
 use Rattle.fd_solve.proofs.Equivalence.{one_more_marked}
 use Rattle.fd_solve.proofs.sought.narrow_cases_more.Goals as goal
 

@@ -1,6 +1,6 @@
 use Rattle.std.proofs.Common.{◌≡◌, ◌<◌, ℕ, get_or, length}
 use Rattle.fd_prob.specs.declared.problem.Case.{Case}
-use Rattle.fd_solve.specs.Equivalent.{IsEquivalent}
+use Rattle.case_search.specs.Equivalent.{IsEquivalent}
 use Rattle.fd_solve.specs.Marks.{marked_case}
 use Rattle.fd_solve.proofs.sought.narrow_cases_more.Given as goal
 

@@ -1,5 +1,4 @@
-use Rattle.std.proofs.Common.{◌<◌, ◌^◌}
-use Rattle.set_sums.proofs.Members.{element, only_in}
+use Rattle.set_sums.proofs.Members.{only_in}
 use Rattle.set_sums.proofs.Spans.{differences_by_shift}
 use Rattle.set_sums.proofs.Wanted.{differences_wanted}
 use Rattle.set_sums.proofs.sums.differences_within.Goals as goal
@@ -7,8 +6,5 @@ use Rattle.set_sums.proofs.sums.differences_within.Goals as goal
 pub returns-in-Some : goal.returns-in-Some
 returns-in-Some c = differences_by_shift c.args.first.now c.args.second.now c.args.domain.now c.in_ok-differences.differences c.in-Some.x c.element_laws.ensures.words (only_in c.args.second.now c.in-Some.x c.in-Some.ensures) c.in_ok-differences.ensures
 
-pub returns-then-is_narrow : goal.returns-then-is_narrow
-returns-then-is_narrow c v w d h k = c.in_ok-differences-2.ensures v w (element (λ n. n < 2 ^ 32) c.args.domain.now v c.element_laws.ensures.words d) (c.is_narrow.ensures c.if-is_narrow.true v d) h k
-
 pub returns : goal.returns
-returns c = differences_wanted c.args.first.now c.args.second.now c.args.domain.now c.in_ok-differences-3.differences c.element_laws.ensures.words c.in_ok-differences-3.ensures
+returns c = differences_wanted c.args.first.now c.args.second.now c.args.domain.now c.in_ok-differences-2.differences c.element_laws.ensures.words c.in_ok-differences-2.ensures

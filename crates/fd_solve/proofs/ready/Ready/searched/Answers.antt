@@ -1,6 +1,6 @@
-use Rattle.std.proofs.Common.{length, refl}
+use Rattle.std.proofs.Common.{refl}
 use Rattle.fd_solve.specs.Marks.{base_of}
-use Rattle.fd_solve.proofs.FirstMarks.{ready_settled, ready_wider, whole_base}
+use Rattle.fd_solve.proofs.FirstMarks.{whole_base}
 use Rattle.fd_solve.proofs.ready.Ready.searched.Goals as goal
 
 pub settle-requires : goal.settle-requires

@@ -1,0 +1,15 @@
+pub mod Ranks
+pub mod Orders
+pub mod Putting
+pub mod Inside
+mod Cuts
+mod Mentions
+mod Searching
+mod Freedom
+mod Leaving
+mod EqualSlots
+mod JoinedTargets
+mod Strengthening
+mod Joining
+mod Made
+mod Equivalence

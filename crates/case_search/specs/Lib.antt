@@ -1,0 +1,7 @@
+pub mod Search
+pub mod Free
+pub mod Easier
+pub mod Classes
+pub mod Stronger
+pub mod Targets
+pub mod Equivalent

@@ -1,8 +1,0 @@
-use Rattle.std.proofs.Common.{◌≡◌, true}
-use Rattle.std.specs.List.{AllWithin}
-use Rattle.fd_narrow.specs.Mentions.{mentions}
-use Rattle.fd_solve.specs.Free.{IsSettled}
-use Rattle.fd_solve.proofs.free.is_free.Given as goal
-
-abbrev pub invariant-loop-rel : goal.invariant-loop-rel
-invariant-loop-rel l = AllWithin (λ r. mentions r l.slot ≡ true → IsSettled l.doms l.slot r) l.rels 0 l.rel-index

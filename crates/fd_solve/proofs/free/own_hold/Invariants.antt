@@ -1,6 +1,0 @@
-use Rattle.std.proofs.Common.{◌≡◌, drop}
-use Rattle.fd_solve.specs.Free.{own_hold}
-use Rattle.fd_solve.proofs.free.own_hold.Given as goal
-
-abbrev pub invariant-loop-rel : goal.invariant-loop-rel
-invariant-loop-rel l = own_hold l.op l.x l.slot (drop l.rel-index l.rels) ≡ own_hold l.op l.x l.slot l.rels

@@ -1,5 +1,0 @@
-use Rattle.fd_solve.proofs.Equivalence.{followed}
-use Rattle.fd_solve.proofs.sought.narrow_case.Goals as goal
-
-pub returns : goal.returns
-returns c = followed c.args.case.now c.in_ok-joined.joined c.in_ok-narrow.narrow c.in_ok-joined.ensures (followed c.in_ok-joined.joined c.in_ok-strong.strong c.in_ok-narrow.narrow c.in_ok-strong.ensures c.in_ok-narrow.ensures)

@@ -1,5 +1,0 @@
-use Rattle.fd_solve.proofs.Equivalence.{alike_equivalent, itself}
-use Rattle.fd_solve.proofs.sought.with_more.Goals as goal
-
-pub returns-then-can_be_stronger : goal.returns-then-can_be_stronger
-returns-then-can_be_stronger c = alike_equivalent c.args.case c.in_ok-stronger.stronger c.requires c.in_ok-stronger.ensures.alike
