@@ -1,61 +1,19 @@
--- The last number that passes a test, and sets of one element.
-use Rattle.std.proofs.Common.{◌≡◌, ◌≢◌, ◌↔◌, IsNone, ℕ, zero, suc, ◌+◌, ◌-◌, ◌^◌, ◌<◌, ◌≤◌, ◌||◌, Bool, true, false, max, List, [], ◌∷◌, length, get_or, take, Option, Some, None, bit_and, inl, inr, refl, sym, ap, ◌∙◌, subst, arith}
+-- The last number of a list of pieces, and sets of one element.
+use Rattle.std.proofs.Common.{◌≡◌, ◌≢◌, ◌↔◌, IsNone, ℕ, zero, suc, ◌+◌, ◌-◌, ◌^◌, ◌<◌, ◌||◌, Bool, true, false, max, List, [], ◌∷◌, length, get_or, take, Option, Some, None, inl, inr, refl, sym, ap, ◌∙◌, subst, arith}
 use Rattle.std.specs.List.{slice_get}
 use Rattle.std.specs.List.Sorted.{IsStrictlyIncreasing}
-use Rattle.std.proofs.lemmas.Bool.{cases_lt, eqb-true, eq-eqb, false≢true, false_from_ne_true}
+use Rattle.std.proofs.lemmas.Bool.{cases_lt}
 use Rattle.std.proofs.lemmas.Option.{same_Some}
 use Rattle.std.proofs.lemmas.List.Folds.{list_any_more}
-use Rattle.std.proofs.lemmas.Nat.{and-not, and_assoc, and_comm}
-use Rattle.std.specs.Int.Bits.{and_self}
-use Rattle.dom_set.specs.declared.piece.Piece.{Piece}
-use Rattle.dom_set.specs.declared.run.Run.{Run}
-use Rattle.dom_set.specs.declared.pattern.Pattern.{Pattern}
+use Rattle.set_pieces.specs.declared.piece.Piece.{Piece}
 use Rattle.dom_set.specs.Elements.{elements_of}
-use Rattle.dom_set.specs.Counting.{one, total}
-use Rattle.dom_set.specs.Patterns.{matches}
-use Rattle.dom_set.specs.Pieces.{in_piece, holds}
-use Rattle.dom_set.specs.Runs.{in_run}
-use Rattle.dom_set.specs.Ends.{greater, IsFirstFrom, IsLast}
-use Rattle.dom_set.proofs.Low.{same_tests}
+use Rattle.set_pieces.specs.Counting.{one, total}
+use Rattle.set_pieces.specs.Pieces.{in_piece, holds}
+use Rattle.set_pieces.specs.Ends.{greater, IsFirstFrom, IsLast}
 use Rattle.dom_set.proofs.Members.{length-members, slice_get-members}
-use Rattle.dom_set.proofs.Pieces.{test_from, passes}
 use Rattle.dom_set.proofs.Sets.{ascending, elements_is, first_of_all, held_word}
-use Rattle.dom_set.proofs.Totals.{total_next, total_stays, total_zero}
-
--- ---- patterns
-
-mirrored_bits : (m b : ℕ) → m < 2 ^ 32 → b < 2 ^ 32 → bit_and b m ≡ b → bit_and m (2 ^ 32 - 1 - b) + b ≡ m
-mirrored_bits m b lm lb within = omega (arith, and-not 32 b m lb lm, and_comm (2 ^ 32 - 1 - b) m, within)
-
-pub mirrored_within : (m b : ℕ) → bit_and (bit_and m (2 ^ 32 - 1 - b)) m ≡ bit_and m (2 ^ 32 - 1 - b)
-mirrored_within m b = ap (λ (n : ℕ). bit_and n m) (and_comm m (2 ^ 32 - 1 - b)) ∙ and_assoc m (2 ^ 32 - 1 - b) m ∙ ap (bit_and (2 ^ 32 - 1 - b)) (and_self m) ∙ and_comm (2 ^ 32 - 1 - b) m
-
-pub mirror_matches : (p q : Pattern) (x : ℕ) → p.mask < 2 ^ 32 → p.bits < 2 ^ 32 → q.mask ≡ p.mask → q.bits ≡ bit_and p.mask (2 ^ 32 - 1 - p.bits) → x < 2 ^ 32 → matches q (2 ^ 32 - 1 - x) ≡ matches p x
-unfolding matches
-mirror_matches p q x lm lb mask bits lx =
-    let own : bit_and (2 ^ 32 - 1 - x) p.mask + bit_and x p.mask ≡ p.mask = and-not 32 x p.mask lx lm in
-    let other : q.bits + p.bits ≡ p.mask = omega (arith, bits, mirrored_bits p.mask p.bits lm lb p.within) in
-    let masked : bit_and (2 ^ 32 - 1 - x) q.mask ≡ bit_and (2 ^ 32 - 1 - x) p.mask = ap (bit_and (2 ^ 32 - 1 - x)) mask in
-    same_tests _ _
-    (λ h. let is = eqb-true _ _ h in eq-eqb _ _ (omega (arith, own, other, masked, is)))
-    (λ h. let is = eqb-true _ _ h in eq-eqb _ _ (omega (arith, own, other, masked, is)))
-
--- ---- runs
-
-pub last_held : (p : Run) (v : ℕ) → p.low ≤ v → (matches p.pattern v ≡ true) × (v ≤ p.high) × ((x : ℕ) → v < x → x ≤ p.high → matches p.pattern x ≡ false) → (in_run p v ≡ true) × ((x : ℕ) → v < x → in_run p x ≡ false)
-unfolding in_run
-last_held p v from is = (
-  test_from (matches p.pattern) p.low p.high v (record { above = from; below = is.1; matched = is.0 }),
-  λ x past. false_from_ne_true _ (λ h.
-      let t = passes (matches p.pattern) p.low p.high x h in
-      false≢true (sym (is.2 x past t.below) ∙ t.matched)),
-)
-
-pub none_held : (p : Run) → ((x : ℕ) → p.low ≤ x → x ≤ p.high → matches p.pattern x ≡ false) → (x : ℕ) → in_run p x ≡ false
-unfolding in_run
-none_held p none x = false_from_ne_true _ (λ h.
-    let t = passes (matches p.pattern) p.low p.high x h in
-    false≢true (sym (none x t.above t.below) ∙ t.matched))
+use Rattle.set_pieces.proofs.Totals.{total_next, total_stays, total_zero}
+use Rattle.set_pieces.proofs.Lasts.{last_same}
 
 -- ---- lists of pieces
 
@@ -83,10 +41,6 @@ last_of_both t u (Some v) (Some y) is other = elim (cases_lt v y) [
       let P : ℕ → Type 0 = λ n. ((t n || u n) ≡ true) × ((x : ℕ) → n < x → (t x || u x) ≡ false) in
       subst P (sym e) (held_left (t v) (u v) is.0, λ x past. none_or (t x) (u x) (is.1 x past) (other.1 x (omega (arith, from, past))))
 ]
-
-pub last_same : (t u : ℕ → Bool) (o : Option ℕ) → ((x : ℕ) → t x ≡ u x) → IsLast t o → IsLast u o
-last_same t u None same none = λ x. sym (same x) ∙ none x
-last_same t u (Some v) same is = (sym (same v) ∙ is.0, λ x past. sym (same x) ∙ is.1 x past)
 
 pub last_more : (ps : List Piece) (i : ℕ) (p : Piece) (a b : Option ℕ) → i < length ps → p ≡ get_or ps i p → IsLast (holds (take i ps)) a → IsLast (in_piece p) b → IsLast (holds (take (i + 1) ps)) (greater a b)
 last_more ps i p a b lt is before here = last_same (λ x. holds (take i ps) x || in_piece p x) (holds (take (i + 1) ps)) (greater a b)

@@ -5,14 +5,14 @@ use Rattle.std.proofs.lemmas.Nat.{and_mask}
 use Rattle.std.proofs.lemmas.List.{take_rest, drop_more}
 use Rattle.std.proofs.lemmas.List.Folds.{list_any_more}
 use Rattle.dom_set.specs.Elements.{is_within}
-use Rattle.dom_set.specs.declared.pattern.Pattern.{Pattern}
-use Rattle.dom_set.specs.declared.piece.Piece.{Piece}
-use Rattle.dom_set.specs.Counting.{one}
-use Rattle.dom_set.specs.Patterns.{matches}
-use Rattle.dom_set.specs.Pieces.{in_piece, holds}
-use Rattle.dom_set.proofs.Without.{in_ends}
-use Rattle.dom_set.proofs.Low.{same_tests, gap}
-use Rattle.dom_set.proofs.Pieces.{test, passes, test_from}
+use Rattle.set_pieces.specs.declared.pattern.Pattern.{Pattern}
+use Rattle.set_pieces.specs.declared.piece.Piece.{Piece}
+use Rattle.set_pieces.specs.Counting.{one}
+use Rattle.set_pieces.specs.Patterns.{matches}
+use Rattle.set_pieces.specs.Pieces.{in_piece, holds}
+use Rattle.set_pieces.proofs.Without.{in_ends}
+use Rattle.set_pieces.proofs.Low.{same_tests, gap}
+use Rattle.set_pieces.proofs.Pieces.{test, passes, test_from}
 
 -- the pattern of the multiples of a power of two
 pub multiple_is : (shift : ℕ) (p : Pattern) (x : ℕ) → p.mask ≡ 2 ^ shift - 1 → p.bits ≡ 0 → matches p x ≡ eqb (x % 2 ^ shift) 0

@@ -1,12 +1,12 @@
 -- Powers of two.
-use Rattle.std.proofs.Common.{◌≡◌, ℕ, zero, suc, ◌+◌, ◌/◌, ◌%◌, ◌^◌, ◌<◌, ◌≤◌, inl, inr, sym, ap, ◌∙◌, arith}
+use Rattle.std.proofs.Common.{◌≡◌, ℕ, zero, suc, ◌+◌, ◌/◌, ◌%◌, ◌^◌, ◌<◌, inl, inr, sym, ap, ◌∙◌, arith}
 use Rattle.std.specs.Prelude.{count_ones, IsTrue}
 use Rattle.std.specs.Int.{w32, trailing_zeros, bit_at, is_power_of_two, IsPowerOfTwo}
 use Rattle.std.proofs.lemmas.Bool.{cases_eq, cases_lt, eqb-true}
 use Rattle.std.proofs.lemmas.Nat.{pow_pos, pow_below, ones-le, zero_from_ones}
 use Rattle.std.proofs.lemmas.Nat.Bits.{bit_at-trailing_zeros, bit_at-pow_other}
 use lib.Count.{ones_step}
-use Rattle.dom_set.proofs.Low.{pow_twice}
+use Rattle.set_pieces.proofs.Low.{pow_twice}
 
 -- a number with one bit set is a power of two
 pub power_from_ones : (w n : ℕ) → n < 2 ^ w → count_ones n ≡ 1 → (k : ℕ) × (k < w) × (n ≡ 2 ^ k)
@@ -50,16 +50,3 @@ exponent_below n k is lt = elim (cases_lt k 32) [
 
 pub power_from_test : (n : ℕ) → n < 2 ^ 32 → IsTrue (is_power_of_two n) → IsPowerOfTwo n
 power_from_test n lt h = let k = power_from_ones 32 n lt (eqb-true (count_ones n) 1 h) in (k.0, k.2)
-
-power_up : (i j : ℕ) → i ≤ j → 2 ^ i ≤ 2 ^ j
-power_up i j le = elim (cases_lt i j) [
-  | inl below ↦ omega (arith, pow_below i j below)
-  | inr from ↦ (let same : i ≡ j = omega (arith, le, from) in omega (arith, ap (λ (m : ℕ). 2 ^ m) same))
-]
-
--- a power of two whose half is below 2 ^ 32 is at most that
-pub power_within : (k n : ℕ) → n ≡ 2 ^ k → n / 2 < 2 ^ 32 → n ≤ 2 ^ 32
-power_within k n is half = elim (cases_lt 32 k) [
-  | inl above ↦ absurd (omega (arith, is, half, power_up 33 k (omega (arith, above))))
-  | inr within ↦ omega (arith, is, power_up k 32 within)
-]

@@ -1,17 +1,17 @@
 -- Lists of pieces that hold the same numbers.
 use Rattle.std.specs.Option.{option_eq}
-use Rattle.dom_set.specs.declared.pattern.Pattern.{Pattern}
+use Rattle.set_pieces.specs.declared.pattern.Pattern.{Pattern}
 use Rattle.std.proofs.Common.{Option, Some, None, ◌≡◌, ℕ, ◌+◌, ◌*◌, ◌^◌, ◌<◌, ◌≤◌, inl, inr, Bool, true, leb, List, [], ◌∷◌, refl, sym, ap, ◌∙◌, arith}
 use Rattle.std.specs.Cmp.Lexicographic.{pointwise}
 use Rattle.std.proofs.lemmas.Bool.{cases_lt, and_parts, false≢true}
-use Rattle.dom_set.specs.declared.piece.Piece.{Piece}
+use Rattle.set_pieces.specs.declared.piece.Piece.{Piece}
 use Rattle.dom_set.specs.Elements.{elements_of, is_in}
-use Rattle.dom_set.specs.Counting.{one, total}
-use Rattle.dom_set.specs.Patterns.{matches, is_matched}
-use Rattle.dom_set.specs.Runs.{in_run}
-use Rattle.dom_set.specs.Pieces.{in_piece, holds, times, IsApart}
-use Rattle.dom_set.proofs.Totals.{total_same, total_equal}
-use Rattle.dom_set.proofs.Times.{holds_is, times_is}
+use Rattle.set_pieces.specs.Counting.{one, total}
+use Rattle.set_pieces.specs.Patterns.{matches, is_matched}
+use Rattle.set_pieces.specs.Runs.{in_run}
+use Rattle.set_pieces.specs.Pieces.{in_piece, holds, times, IsApart}
+use Rattle.set_pieces.proofs.Totals.{total_same, total_equal}
+use Rattle.set_pieces.proofs.Times.{holds_is, times_is}
 use Rattle.dom_set.proofs.Sets.{elements_same, is_in-elements}
 
 pub same_fields : (p q : Piece) (x : ℕ) → p.run.low ≡ q.run.low → p.run.high ≡ q.run.high → p.run.pattern.mask ≡ q.run.pattern.mask → p.run.pattern.bits ≡ q.run.pattern.bits → is_matched p.hole x ≡ is_matched q.hole x → in_piece p x ≡ in_piece q x

@@ -9,15 +9,15 @@ use Rattle.std.specs.Int.{w32, cast_signed}
 use Rattle.std.proofs.lemmas.Int.{to_z_pos}
 use Rattle.std.proofs.lemmas.Bool.Decides.{nat_tests}
 use Rattle.std.proofs.lemmas.Map.Keys.{sorted_from_strictly_increasing}
-use Rattle.dom_set.specs.declared.piece.Piece.{Piece}
+use Rattle.set_pieces.specs.declared.piece.Piece.{Piece}
 use Rattle.dom_set.specs.Elements.{elements_of, is_in, first_cyclic, is_signed_lt}
-use Rattle.dom_set.specs.Counting.{one, total}
-use Rattle.dom_set.specs.Pieces.{holds, times, IsApart}
-use Rattle.dom_set.specs.Ends.{HasPage, IsFirstFrom}
-use Rattle.dom_set.proofs.Totals.{total_same}
+use Rattle.set_pieces.specs.Counting.{one, total}
+use Rattle.set_pieces.specs.Pieces.{holds, times, IsApart}
+use Rattle.set_pieces.specs.Ends.{HasPage, IsFirstFrom}
+use Rattle.set_pieces.proofs.Totals.{total_same}
 use Rattle.dom_set.proofs.Members.{members, members_same, filter_both, is_in-members, is_in-Contains, Contains-is_in, length-members, slice_get-members, first_is_found, find_none, find_first, members_ascend, members_below}
 use Rattle.dom_set.proofs.Ascending.{same_members}
-use Rattle.dom_set.proofs.Times.{holds_is, holds_once, times_is, times_past}
+use Rattle.set_pieces.proofs.Times.{holds_is, holds_once, times_is, times_past}
 
 pub elements_is : (t : ℕ → Bool) → elements_of t ≡ members t (2 ^ 32)
 unfolding elements_of

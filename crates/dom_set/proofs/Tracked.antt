@@ -2,17 +2,17 @@
 use Rattle.std.proofs.Common.{◌≡◌, ℕ, ◌+◌, ◌<◌, ◌≤◌, ◌⊎◌, inl, inr, Option, Some, ◌%◌, ◌^◌, Bool, true, false, ◌&&◌, ◌||◌, not, eqb, leb, List, [], ◌∷◌, ◌++◌, length, get_or, take, refl, sym, ap, ◌∙◌, arith}
 use Rattle.std.proofs.lemmas.Bool.{le-leb, eq-eqb, and_from, and_parts, or_left, or_right, or_cases}
 use Rattle.std.proofs.lemmas.List.Folds.{list_any-append, list_any_more}
-use Rattle.dom_set.specs.declared.pattern.Pattern.{Pattern}
-use Rattle.dom_set.specs.declared.run.Run.{Run}
-use Rattle.dom_set.specs.declared.piece.Piece.{Piece}
+use Rattle.set_pieces.specs.declared.pattern.Pattern.{Pattern}
+use Rattle.set_pieces.specs.declared.run.Run.{Run}
+use Rattle.set_pieces.specs.declared.piece.Piece.{Piece}
 use Rattle.dom_set.specs.declared.track.Track.{Track}
-use Rattle.dom_set.specs.Counting.{one}
-use Rattle.dom_set.specs.Patterns.{matches, matches_below, is_matched}
-use Rattle.dom_set.specs.Runs.{in_run, is_in_run}
-use Rattle.dom_set.specs.Pieces.{in_piece, holds}
+use Rattle.set_pieces.specs.Counting.{one}
+use Rattle.set_pieces.specs.Patterns.{matches, matches_below, is_matched}
+use Rattle.set_pieces.specs.Runs.{in_run, is_in_run}
+use Rattle.set_pieces.specs.Pieces.{in_piece, holds}
 use Rattle.dom_set.specs.Tracks.{is_on, is_on_one, AreKept}
-use Rattle.dom_set.proofs.Pieces.{passes}
-use Rattle.dom_set.proofs.Unmatched.{not_true}
+use Rattle.set_pieces.proofs.Pieces.{passes}
+use Rattle.set_pieces.proofs.Unmatched.{not_true}
 
 pub run_matched : (p : Run) (x : ℕ) → in_run p x ≡ true → matches p.pattern x ≡ true
 unfolding in_run

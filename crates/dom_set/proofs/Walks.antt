@@ -5,12 +5,12 @@ use Rattle.std.proofs.lemmas.List.{get_or_default}
 use Rattle.std.proofs.lemmas.List.Recursion.{is_sum_by}
 use Rattle.std.proofs.lemmas.List.Sorted.{sum_by-IsPermutation}
 use Rattle.std.specs.List.Sorted.{IsPermutation}
-use Rattle.dom_set.specs.declared.piece.Piece.{Piece}
-use Rattle.dom_set.specs.Counting.{one}
-use Rattle.dom_set.specs.Pieces.{in_piece, holds, times, Ascends, AreAlive}
+use Rattle.set_pieces.specs.declared.piece.Piece.{Piece}
+use Rattle.set_pieces.specs.Counting.{one}
+use Rattle.set_pieces.specs.Pieces.{in_piece, holds, times, Ascends, AreAlive}
 use Rattle.dom_set.proofs.Merging.{below_first, up_to_last}
-use Rattle.dom_set.proofs.Without.{in_ends}
-use Rattle.dom_set.proofs.Times.{holds_is, rest_is, times_rest, times_done}
+use Rattle.set_pieces.proofs.Without.{in_ends}
+use Rattle.set_pieces.proofs.Times.{holds_is, rest_is, times_rest, times_done}
 
 pub from_first : (p : Piece) (x : ℕ) → in_piece p x ≡ true → p.run.low ≤ x
 from_first p x h = (in_ends p x h).0

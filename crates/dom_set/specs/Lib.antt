@@ -1,8 +1,5 @@
 pub mod Elements
 pub mod Laws
-pub mod Counting
-pub mod Patterns
-pub mod Ends
-pub mod Runs
-pub mod Pieces
 pub mod Tracks
+pub use Rattle.set_pieces.specs.Counting
+pub use Rattle.set_pieces.specs.Ends

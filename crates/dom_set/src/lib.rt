@@ -1,6 +1,5 @@
-//! Exact finite sets of 32-bit numbers. A `Set` is kept as pieces, and no number is in two of them. A piece is a run but
-//! for its hole: a run is a range of numbers of which those count that have given bits under a mask, and a hole is a
-//! second pattern of bits, whose numbers do not count. No call's time grows with the number of elements, but that of
+//! Exact finite sets of 32-bit numbers. A `Set` is kept as a list of pieces, which are `set_pieces`', and no number is in
+//! two of them. No call's time grows with the number of elements, but that of
 //! `shift` where it splits a piece. `from_ranges` keeps at most one piece for each pair, with the mask 2^k - 1 for the
 //! multiples of 2^k, `below` and `with_odd` one for each piece, `signed_below` two. `from_patterns` makes one piece of each
 //! pattern, whose ends tell the highest bits of the mask down to the highest one that it lacks, and joins the pieces of
@@ -33,20 +32,15 @@
 //! power of two apart around a set's numbers: one or two for each piece, and as many for each bit of a hole.
 #![tactic(auto)]
 
-mod error;
-mod holes;
+mod combined;
 mod laws;
 mod lists;
 mod pairs;
-mod pattern;
-mod piece;
-mod run;
 mod set;
-mod steps;
 mod track;
 mod tracks;
 
-pub use error::OutOfMemory;
 pub use laws::set_laws;
 pub use set::Set;
+pub use set_pieces::OutOfMemory;
 pub use track::Track;

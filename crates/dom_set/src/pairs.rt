@@ -3,14 +3,10 @@ ghost use Rattle.std.specs.Prelude.{◌≡◌, ℕ, ◌+◌, ◌^◌, ◌<◌, �
 ghost use Rattle.std.specs.List.Sorted.{IsNonDecreasingBy};
 ghost use Rattle.std.specs.Int.{IsPowerOfTwo};
 ghost use Rattle.dom_set.specs.Elements.{is_within};
-ghost use Rattle.dom_set.specs.Counting.{one};
-ghost use Rattle.dom_set.specs.Pieces.{in_piece, is_held, times, holds, IsApart, IsMultiples};
+ghost use Rattle.set_pieces.specs.Counting.{one};
+ghost use Rattle.set_pieces.specs.Pieces.{in_piece, is_held, times, holds, IsApart, IsMultiples};
 
-use crate::error::OutOfMemory;
-use crate::pattern::Pattern;
-use crate::piece::Piece;
-use crate::run::Run;
-use crate::steps::{low_bits, step};
+use set_pieces::{OutOfMemory, Pattern, Piece, Run, low_bits, step};
 use std::alloc::Global;
 
 /// The exponent of a power of two.

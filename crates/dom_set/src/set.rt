@@ -2,16 +2,14 @@
 ghost use Rattle.std.specs.Prelude.{◌≡◌, ℕ, ◌+◌, ◌-◌, ◌^◌, ◌%◌, ◌<◌, ◌≤◌, ◌↔◌, ◌==◌, ◌&&◌, ◌||◌, true, [], length, filter, not, nat_lt, nat_le, Some, slice_get, ◌≢◌, ◌∷◌, MatchOption, IfOk, IfSome, IsTrue, IsNone, bit_and, All, Contains};
 ghost use Rattle.std.specs.List.Sorted.{IsStrictlyIncreasing};
 ghost use Rattle.std.specs.Int.{IsPowerOfTwo};
-ghost use Rattle.dom_set.specs.Ends.{HasPage};
-ghost use Rattle.dom_set.specs.Ends.{AreEnds};
+ghost use Rattle.set_pieces.specs.Ends.{HasPage};
+ghost use Rattle.set_pieces.specs.Ends.{AreEnds};
 ghost use Rattle.dom_set.specs.Tracks.{is_on_one};
 ghost use Rattle.dom_set.specs.Elements.{elements_of, is_in, is_within, is_matching, is_signed_lt, first_cyclic};
 
-use crate::error::OutOfMemory;
-use crate::piece::Piece;
-use crate::steps::END;
 use crate::track::Track;
-use crate::{lists, pairs, tracks};
+use crate::{combined, lists, pairs, tracks};
+use set_pieces::{END, OutOfMemory, Piece};
 use std::alloc::Global;
 use std::marker::Model;
 
@@ -27,7 +25,7 @@ impl Model for Set {
     ghost Value = { List ℕ };
 
     ghost use Rattle.dom_set.specs.Elements.{elements_of};
-    ghost use Rattle.dom_set.specs.Pieces.{holds, IsApart};
+    ghost use Rattle.set_pieces.specs.Pieces.{holds, IsApart};
 
     ghost view = { λ s. elements_of (holds s.pieces.items) };
 
@@ -68,7 +66,7 @@ impl Set {
     pub fn from_patterns(alloc: Global, patterns: &[(u32, u32)]) -> Result<Set, OutOfMemory>
         ensures { IfOk result (λ s. s ≡ elements_of (is_matching patterns.now)) }
     {
-        let pieces = lists::matching(alloc, patterns)?;
+        let pieces = combined::matching(alloc, patterns)?;
         Ok(Set { pieces })
     }
 
@@ -212,7 +210,7 @@ impl Set {
     pub fn and(&self, alloc: Global, other: &Set) -> Result<Set, OutOfMemory>
         ensures { IfOk result (λ s. s ≡ filter (is_in other.now) self.now) }
     {
-        let pieces = lists::common(alloc, &self.pieces, &other.pieces)?;
+        let pieces = combined::common(alloc, &self.pieces, &other.pieces)?;
         Ok(Set { pieces })
     }
 
@@ -220,7 +218,7 @@ impl Set {
     pub fn minus(&self, alloc: Global, other: &Set) -> Result<Set, OutOfMemory>
         ensures { IfOk result (λ s. s ≡ filter (λ x. not (is_in other.now x)) self.now) }
     {
-        let pieces = lists::minus(alloc, &self.pieces, &other.pieces)?;
+        let pieces = combined::minus(alloc, &self.pieces, &other.pieces)?;
         Ok(Set { pieces })
     }
 
@@ -228,7 +226,7 @@ impl Set {
     pub fn or(&self, alloc: Global, other: &Set) -> Result<Set, OutOfMemory>
         ensures { IfOk result (λ s. s ≡ elements_of (λ x. is_in self.now x || is_in other.now x)) }
     {
-        let pieces = lists::either(alloc, &self.pieces, &other.pieces)?;
+        let pieces = combined::either(alloc, &self.pieces, &other.pieces)?;
         Ok(Set { pieces })
     }
 
@@ -286,7 +284,7 @@ impl PartialEq for Set {
         ensures value { result ≡ pointwise nat_eq self.now other.now }
         ensures same { IsTrue result ↔ (self.now ≡ other.now) }
     {
-        lists::are_same(&self.pieces, &other.pieces)
+        combined::are_same(&self.pieces, &other.pieces)
     }
 }
 

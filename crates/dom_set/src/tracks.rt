@@ -1,16 +1,13 @@
 // Tracks around the numbers of pieces.
 ghost use Rattle.std.specs.Prelude.{◌≡◌, ℕ, ◌%◌, ◌^◌, ◌<◌, ◌≤◌, true, false, OnOk, IfOk};
-ghost use Rattle.dom_set.specs.Ends.{AreEnds};
-ghost use Rattle.dom_set.specs.Patterns.{matches};
-ghost use Rattle.dom_set.specs.Pieces.{holds, in_piece};
-ghost use Rattle.dom_set.specs.Runs.{in_run, is_in_run};
+ghost use Rattle.set_pieces.specs.Ends.{AreEnds};
+ghost use Rattle.set_pieces.specs.Patterns.{matches};
+ghost use Rattle.set_pieces.specs.Pieces.{holds, in_piece};
+ghost use Rattle.set_pieces.specs.Runs.{in_run, is_in_run};
 ghost use Rattle.dom_set.specs.Tracks.{is_on, is_on_one, AreKept};
 
-use crate::error::OutOfMemory;
-use crate::pattern::Pattern;
-use crate::piece::Piece;
-use crate::run::Run;
 use crate::track::Track;
+use set_pieces::{OutOfMemory, Pattern, Piece, Run};
 use std::alloc::Global;
 
 /// So many low bits are the same for all numbers that match the pattern.

@@ -1,5 +1,6 @@
 -- Cases that the same assignments fit, one by one and with what marked biases add to them.
 use Rattle.std.proofs.Common.{◌≡◌, ℕ, zero, suc, ◌+◌, ◌<◌, ◌≤◌, Bool, ◌&&◌, List, [], ◌∷◌, ◌++◌, Option, length, drop, get_or, All, inl, inr, refl, sym, ap, ◌∙◌, subst, arith}
+use Rattle.std.specs.Prelude.{slice_set}
 use Rattle.std.proofs.Math.Seq.{get_or-append_seam}
 use Rattle.std.proofs.lemmas.Bool.{cases_lt}
 use Rattle.std.proofs.lemmas.List.{append_assoc, append-nil, get_or_append_left}
@@ -42,6 +43,14 @@ module _ (marks : List Bool) (es : List Extra) (place : ℕ) (c d : Case) (whole
     op = marked_op marks es place d ∙ is.op ∙ sym (marked_op marks es place c);
     same = same_marked;
   }
+
+-- a case stands for itself
+pub itself : (c d : Case) → IsCase c → d ≡ c → IsEquivalent c d
+itself c d whole is = subst (IsEquivalent c) (sym is) (record { whole = whole; op = refl; same = λ x. refl })
+
+-- and what stands for one that stands for a case, for the case
+after : (c d e : Case) → IsEquivalent c d → IsEquivalent d e → IsEquivalent c e
+after c d e one two = record { whole = two.whole; op = two.op ∙ one.op; same = λ x. two.same x ∙ one.same x }
 
 -- case by case
 pub all_itself : (cases : List Case) → All IsCase cases → AreEquivalent cases cases
@@ -112,3 +121,10 @@ still_stand marks es p cases made problem entries are new =
     let one : IsEquivalent (marked_case marks es n own) (marked_case marks es n (get_or cases n own)) = marked_equivalent marks es n own (get_or cases n own) (problem n c below) (equivalent_each p.cases cases are n c own below) in
     let two : IsEquivalent (marked_case marks es n (get_or cases n own)) (get_or made n d) = new.each n own d (omega (arith, below, count)) in
     subst (λ (e : Case). IsEquivalent e (get_or made n d)) (sym here) (record { whole = two.whole; op = two.op ∙ one.op; same = λ x. two.same x ∙ one.same x }))
+
+-- one is replaced by what stands for it
+pub replaced : (cases made : List Case) (n : ℕ) (e d : Case) → n < length made → e ≡ get_or made n e → IsEquivalent e d → AreEquivalent cases made → AreEquivalent cases (slice_set made n d)
+replaced cases [] n e d less here is are = absurd (omega (arith, less))
+replaced [] (m ∷ made) n e d less here is are = absurd are
+replaced (c ∷ cases) (m ∷ made) zero e d less here is are = (after c m d are.0 (subst (λ (k : Case). IsEquivalent k d) here is), are.1)
+replaced (c ∷ cases) (m ∷ made) (suc n) e d less here is are = (are.0, replaced cases made n e d (omega (arith, less)) here is are.1)

@@ -7,37 +7,59 @@ ghost use Rattle.fd_prob.specs.Order.{pivot_of};
 ghost use Rattle.fd_prob.specs.Spaces.{space};
 ghost use Rattle.fd_solve.specs.declared.answers.Solved.TheVariants.{Found, NoneFits, Spent};
 ghost use Rattle.fd_solve.specs.Answers.{IsAnswer, IsLeast, NothingFits};
-ghost use Rattle.fd_solve.specs.Equivalent.{AreEquivalent};
+ghost use Rattle.fd_solve.specs.Equivalent.{StandFor};
 ghost use Rattle.fd_solve.specs.Marks.{IsSound, whole_of};
-ghost use Rattle.fd_solve.specs.Operations.{IsLeastFrom, NoneBetween};
+ghost use Rattle.fd_solve.specs.Operations.{IsLeastFrom, IsMadeOfAny, NoneBetween};
+ghost use Rattle.case_search.specs.Search.{LeastOrNone};
 
 use crate::Solved;
 use crate::cases::solve_cases;
 use crate::marked::{Marked, pivots_with};
 use crate::pivots::operation_pivot;
-use crate::sought::Sought;
+use crate::sought::{Narrow, settle, sought_of};
 use dom_set::OutOfMemory;
 use fd_prob::{Assignment, Problem, fitting_laws, space};
 use std::alloc::Global;
+
+/// The least assignment that has the operation and is of one of the cases, with what the marked biases add to them. Of the
+/// cases that stand for the problem's those that are searched are narrowed, and stay so.
+fn solve_operation(
+    alloc: Global,
+    marked: &Marked,
+    narrow: &mut Option<Narrow>,
+    op: u8,
+    pivots: &[u32; 14],
+) -> Result<Option<Assignment>, OutOfMemory>
+    requires sound { IsSound marked.now }
+    requires narrow { StandFor marked.now.problem.now.cases narrow.old }
+    ensures least { IfOk result (LeastOrNone pivots.now (IsMadeOfAny op (whole_of marked.now).cases)) }
+    ensures narrow { OnOk result (StandFor marked.now.problem.now.cases narrow.new) }
+{
+    settle(narrow, alloc, marked.problem, op)?;
+    let sought = sought_of(narrow, marked.problem);
+    let least = solve_cases(alloc, marked, &sought, op, pivots)?;
+    Ok(least)
+}
 
 /// The first operation of these numbers with which anything fits, and the least assignment of it.
 fn solve_between(
     alloc: Global,
     marked: &Marked,
-    sought: &Sought,
+    narrow: &mut Option<Narrow>,
     pivot: u8,
     from: u8,
     to: u8,
 ) -> Result<Option<Assignment>, OutOfMemory>
     requires sound { IsSound marked.now }
-    requires cases { AreEquivalent marked.now.problem.now.cases sought.now.cases.now }
+    requires narrow { StandFor marked.now.problem.now.cases narrow.old }
     requires pivot { (op : ℕ) → pivot ≡ pivot_of (whole_of marked.now) op slots.Op }
-    ensures { IfOk result (λ o. MatchOption o (NoneBetween (whole_of marked.now) from to) (IsLeastFrom (whole_of marked.now) from)) }
+    ensures least { IfOk result (λ o. MatchOption o (NoneBetween (whole_of marked.now) from to) (IsLeastFrom (whole_of marked.now) from)) }
+    ensures narrow { OnOk result (StandFor marked.now.problem.now.cases narrow.new) }
 {
     fitting_laws();
     for op in from..to {
         if let Some(pivots) = pivots_with(marked, op, pivot) {
-            if let Some(x) = solve_cases(alloc, marked, sought, op, &pivots)? {
+            if let Some(x) = solve_operation(alloc, marked, narrow, op, &pivots)? {
                 return Ok(Some(x));
             }
         }
@@ -49,31 +71,37 @@ fn solve_between(
 fn least(
     alloc: Global,
     marked: &Marked,
-    sought: &Sought,
+    narrow: &mut Option<Narrow>,
     pivot: u8,
 ) -> Result<Option<Assignment>, OutOfMemory>
     requires sound { IsSound marked.now }
-    requires cases { AreEquivalent marked.now.problem.now.cases sought.now.cases.now }
+    requires narrow { StandFor marked.now.problem.now.cases narrow.old }
     requires pivot { (op : ℕ) → pivot ≡ pivot_of (whole_of marked.now) op slots.Op }
-    ensures { IfOk result (λ o. MatchOption o (NothingFits (whole_of marked.now)) (IsLeast (whole_of marked.now))) }
+    ensures least { IfOk result (λ o. MatchOption o (NothingFits (whole_of marked.now)) (IsLeast (whole_of marked.now))) }
+    ensures narrow { OnOk result (StandFor marked.now.problem.now.cases narrow.new) }
 {
     fitting_laws();
-    if let Some(x) = solve_between(alloc, marked, sought, pivot, pivot, 58)? {
+    if let Some(x) = solve_between(alloc, marked, narrow, pivot, pivot, 58)? {
         return Ok(Some(x));
     }
-    let lower = solve_between(alloc, marked, sought, pivot, 0, pivot)?;
+    let lower = solve_between(alloc, marked, narrow, pivot, 0, pivot)?;
     Ok(lower)
 }
 
 /// The answer of the problem with its marked biases under each budget that its space is within, by a search of the cases that
 /// stand for the problem's.
-pub fn searched(alloc: Global, marked: &Marked, sought: &Sought) -> Result<Solved, OutOfMemory>
+pub fn searched(
+    alloc: Global,
+    marked: &Marked,
+    narrow: &mut Option<Narrow>,
+) -> Result<Solved, OutOfMemory>
     requires sound { IsSound marked.now }
-    requires cases { AreEquivalent marked.now.problem.now.cases sought.now.cases.now }
-    ensures { IfOk result (λ solved. (nodes : ℕ) → space (whole_of marked.now) ≤ nodes → IsAnswer (whole_of marked.now) nodes solved) }
+    requires narrow { StandFor marked.now.problem.now.cases narrow.old }
+    ensures solved { IfOk result (λ solved. (nodes : ℕ) → space (whole_of marked.now) ≤ nodes → IsAnswer (whole_of marked.now) nodes solved) }
+    ensures narrow { OnOk result (StandFor marked.now.problem.now.cases narrow.new) }
 {
     let pivot = operation_pivot(alloc, marked.firsts)?;
-    match least(alloc, marked, sought, pivot)? {
+    match least(alloc, marked, narrow, pivot)? {
         Some(x) => Ok(Solved::Found(x)),
         None => Ok(Solved::NoneFits),
     }
@@ -87,11 +115,7 @@ pub fn answer_of(alloc: Global, marked: &Marked, nodes: u64) -> Result<Solved, O
     if nodes < space(marked.firsts) {
         return Ok(Solved::Spent);
     }
-    let sought = Sought {
-        cases: marked.problem.cases.as_slice(),
-        are_narrow: false,
-    };
-    let solved = searched(alloc, marked, &sought)?;
+    let solved = searched(alloc, marked, &mut None)?;
     Ok(solved)
 }
 

@@ -11,9 +11,9 @@ ghost use Rattle.fd_solve.specs.Ready.{IsReady};
 use crate::answers::Solved;
 use crate::marked::{Marked, base_of, with_marked};
 use crate::operations::searched;
-use crate::sought::{Sought, narrow_cases, narrow_cases_more};
+use crate::sought::Narrow;
 use dom_set::OutOfMemory;
-use fd_prob::{Case, Extra, Items, Problem};
+use fd_prob::{Extra, Problem};
 use std::alloc::Global;
 
 /// A problem with the first ones of its marked biases. It is brought up to further marks only where a search needs them, so
@@ -24,8 +24,8 @@ pub struct Ready {
     problem: Option<Problem>,
     /// How many marks it is brought up to.
     from: usize,
-    /// Cases that stand for its own, with narrowed domains. None where they weren't made, as before a second search.
-    narrow: Option<Items<Case>>,
+    /// Cases that stand for its own, which searches narrow. None where they weren't made, as before a second search.
+    narrow: Option<Narrow>,
     /// Whether it was searched before.
     was_searched: bool,
 }
@@ -37,32 +37,14 @@ fn are_unmarked(marks: &[bool]) -> bool
     marks.iter().all(|mark| !*mark)
 }
 
-/// The narrow cases where there are some, and else the problem's own.
-fn sought_of<'a>(narrow: &'a Option<Items<Case>>, p: &'a Problem) -> Sought<'a>
-    requires problem { IsProblem p.now }
-    requires narrow { StandFor p.now.cases narrow.now }
-    ensures { AreEquivalent p.now.cases result.cases.now }
-{
-    match narrow {
-        Some(cases) => Sought {
-            cases: cases.as_slice(),
-            are_narrow: true,
-        },
-        None => Sought {
-            cases: p.cases.as_slice(),
-            are_narrow: false,
-        },
-    }
-}
-
 /// The narrow cases with what marked biases add to them, where there are some.
 fn brought(
     alloc: Global,
-    narrow: &Option<Items<Case>>,
+    narrow: &Option<Narrow>,
     p: &Problem,
     biases: &[Extra],
     marks: &[bool],
-) -> Result<Option<Items<Case>>, OutOfMemory>
+) -> Result<Option<Narrow>, OutOfMemory>
     requires problem { IsProblem p.now }
     requires entries { All (λ e. length e.cases ≡ length p.now.cases) biases.now }
     requires room { length marks.now ≤ length biases.now }
@@ -71,7 +53,7 @@ fn brought(
 {
     match narrow {
         Some(cases) => {
-            let made = narrow_cases_more(alloc, cases.as_slice(), biases, marks)?;
+            let made = cases.with_marked(alloc, biases, marks)?;
             Ok(Some(made))
         }
         None => Ok(None),
@@ -113,8 +95,7 @@ impl Ready {
         Ok(())
     }
 
-    /// Makes cases with narrowed domains before a second search: the first one may end at an early case, and all are
-    /// narrowed here.
+    /// Makes cases that searches narrow, before a second one: the first may be the only one.
     fn settle(&mut self, alloc: Global, marked: &Marked) -> Result<(), OutOfMemory>
         requires problem { IsProblem (base_of self.old.problem marked.now.problem.now) }
         ensures problem { self.new.problem ≡ self.old.problem }
@@ -123,7 +104,7 @@ impl Ready {
     {
         if self.was_searched && self.narrow.is_none() {
             let base = base_of(&self.problem, marked.problem);
-            let made = narrow_cases(alloc, base.cases.as_slice())?;
+            let made = Narrow::of(alloc, base.cases.as_slice())?;
             self.narrow = Some(made);
         }
         self.was_searched = true;
@@ -132,10 +113,13 @@ impl Ready {
 
     /// The answer of the problem with its marked biases under each budget that its space is within, by a search of the
     /// problem that is here, with the marks that are left.
-    fn search_rest(&self, alloc: Global, marked: &Marked) -> Result<Solved, OutOfMemory>
+    fn search_rest(&mut self, alloc: Global, marked: &Marked) -> Result<Solved, OutOfMemory>
         requires sound { IsSound marked.now }
-        requires ready { IsReady marked.now.problem.now marked.now.biases.now marked.now.marks.now (length marked.now.marks.now) self.now }
-        ensures { IfOk result (λ solved. (nodes : ℕ) → space (whole_of marked.now) ≤ nodes → IsAnswer (whole_of marked.now) nodes solved) }
+        requires ready { IsReady marked.now.problem.now marked.now.biases.now marked.now.marks.now (length marked.now.marks.now) self.old }
+        ensures solved { IfOk result (λ solved. (nodes : ℕ) → space (whole_of marked.now) ≤ nodes → IsAnswer (whole_of marked.now) nodes solved) }
+        ensures problem { self.new.problem ≡ self.old.problem }
+        ensures from { self.new.from ≡ self.old.from }
+        ensures narrow { OnOk result (StandFor (base_of self.old.problem marked.now.problem.now).cases self.new.narrow) }
     {
         let rest = Marked {
             problem: base_of(&self.problem, marked.problem),
@@ -143,8 +127,7 @@ impl Ready {
             marks: &marked.marks[self.from..],
             firsts: marked.firsts,
         };
-        let sought = sought_of(&self.narrow, rest.problem);
-        let solved = searched(alloc, &rest, &sought)?;
+        let solved = searched(alloc, &rest, &mut self.narrow)?;
         Ok(solved)
     }
 
@@ -163,6 +146,7 @@ impl Ready {
     {
         self.bring(alloc, marked, to)?;
         self.settle(alloc, marked)?;
-        self.search_rest(alloc, marked)
+        let solved = self.search_rest(alloc, marked)?;
+        Ok(solved)
     }
 }

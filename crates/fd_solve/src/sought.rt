@@ -1,16 +1,16 @@
 // Cases that stand for those of a problem in a search.
-ghost use Rattle.std.specs.Prelude.{◌≡◌, ◌<◌, ◌≤◌, All, IfOk, length};
-ghost use Rattle.fd_prob.specs.Fitting.{IsCase};
-ghost use Rattle.case_search.specs.Equivalent.{IsEquivalent};
-ghost use Rattle.fd_solve.specs.Equivalent.{AreEquivalent, AreMarked};
-ghost use Rattle.fd_solve.specs.Marks.{marked_case};
+ghost use Rattle.std.specs.Prelude.{◌≡◌, ◌<◌, ◌≤◌, All, IfOk, List, OnOk, length, slice_index_or, slice_set};
+ghost use Rattle.fd_prob.specs.declared.problem.Case.{Case};
+ghost use Rattle.fd_prob.specs.Fitting.{IsCase, IsProblem};
+ghost use Rattle.fd_solve.specs.Equivalent.{AreEquivalent, AreMarked, StandFor};
 
 use crate::marked::marked_case;
-use case_search::{narrow_again, narrow_case};
+use case_search::narrow_again;
 use dom_set::OutOfMemory;
 use fd_narrow::Losses;
-use fd_prob::{Case, Extra, Items};
+use fd_prob::{Case, Extra, Problem};
 use std::alloc::Global;
+use std::marker::Model;
 
 /// The cases that are searched in place of a problem's.
 #[derive(Clone, Copy)]
@@ -20,16 +20,30 @@ pub struct Sought<'a> {
     pub are_narrow: bool,
 }
 
-/// Cases that stand for these, with narrowed domains.
-pub fn narrow_cases(alloc: Global, cases: &[Case]) -> Result<Items<Case>, OutOfMemory>
-    requires { All IsCase cases.now }
-    ensures { IfOk result (AreEquivalent cases.now) }
-{
-    let mut made = Vec::new(alloc);
-    for case in cases {
-        made.push(narrow_case(alloc, case)?)?;
-    }
-    Ok(Items::from_vec(made))
+/// What the domains of a case were narrowed by.
+#[derive(Clone, Copy)]
+struct Narrowing {
+    /// How many of its relations, the first ones.
+    known: usize,
+    /// The variables that lost values since.
+    losses: Losses,
+}
+
+/// Cases that stand for those of a problem. Each is narrowed where a search comes to it, and stays so.
+#[derive(Drop)]
+pub struct Narrow {
+    cases: Vec<Case>,
+    // One for each case, by its place.
+    narrowings: Vec<Narrowing>,
+}
+
+impl Model for Narrow {
+    ghost use Rattle.std.specs.Prelude.{List};
+    ghost use Rattle.fd_prob.specs.declared.problem.Case.{Case};
+
+    ghost Value = { List Case };
+
+    ghost view = { λ s. s.cases.items };
 }
 
 /// The variables that lose values by the operation of a case and by marked biases.
@@ -46,39 +60,221 @@ pub fn losses_by(biases: &[Extra], marks: &[bool]) -> Losses {
     losses
 }
 
-/// A case that stands for this narrow one with what marked biases add to it, with narrowed domains.
-fn narrow_more(
-    alloc: Global,
-    case: &Case,
-    place: usize,
-    biases: &[Extra],
-    marks: &[bool],
-) -> Result<Case, OutOfMemory>
-    requires case { IsCase case.now }
-    requires entries { All (λ e. place < length e.cases) biases.now }
-    requires marks { length marks.now ≤ length biases.now }
-    ensures { IfOk result (IsEquivalent (marked_case marks.now biases.now place case.now)) }
-{
-    let known = case.rels.as_slice().len();
-    let made = marked_case(alloc, case, place, biases, marks)?;
-    narrow_again(alloc, made, known, &losses_by(biases, marks))
+/// The variables of both.
+fn either(losses: &Losses, more: &Losses) -> Losses {
+    let mut all = *losses;
+    for place in 0..14 {
+        all[place] = losses[place] || more[place];
+    }
+    all
 }
 
-/// Cases that stand for these narrow ones with what marked biases add to them, with narrowed domains.
-pub fn narrow_cases_more(
+/// A variable of a case has no value, so that nothing fits it.
+fn has_no_value(case: &Case) -> bool {
+    case.doms.as_slice().iter().any(|domain| domain.is_empty())
+}
+
+impl Narrowing {
+    /// That of a case that was not narrowed yet.
+    fn none() -> Narrowing {
+        Narrowing {
+            known: 0,
+            losses: [true; 14],
+        }
+    }
+
+    /// That of a case that was narrowed just now.
+    fn whole(case: &Case) -> Narrowing {
+        Narrowing {
+            known: case.rels.as_slice().len(),
+            losses: [false; 14],
+        }
+    }
+
+    /// The same, where more variables lost values.
+    fn with(&self, more: &Losses) -> Narrowing {
+        Narrowing {
+            known: self.known,
+            losses: either(&self.losses, more),
+        }
+    }
+
+    /// Whether values may be lost where the case is narrowed now.
+    fn is_pending(&self, case: &Case) -> bool {
+        if has_no_value(case) {
+            return false;
+        }
+        self.known < case.rels.as_slice().len() || self.losses.iter().any(|lost| *lost)
+    }
+}
+
+impl Narrow {
+    /// Cases that stand for these, which are not narrowed yet.
+    pub fn of(alloc: Global, cases: &[Case]) -> Result<Narrow, OutOfMemory>
+        requires { All IsCase cases.now }
+        ensures { IfOk result (AreEquivalent cases.now) }
+    {
+        let mut made = Vec::new(alloc);
+        let mut narrowings = Vec::new(alloc);
+        for case in cases {
+            made.push(case.copy(alloc)?)?;
+            narrowings.push(Narrowing::none())?;
+        }
+        Ok(Narrow {
+            cases: made,
+            narrowings,
+        })
+    }
+
+    /// The cases.
+    pub fn cases(&self) -> &[Case]
+        ensures { result.now ≡ self.now }
+    {
+        &self.cases
+    }
+
+    /// By what the case at a place was narrowed.
+    fn narrowing(&self, place: usize) -> Narrowing {
+        match self.narrowings.get(place) {
+            Some(narrowing) => *narrowing,
+            None => Narrowing::none(),
+        }
+    }
+
+    /// Cases that stand for these with what marked biases add to them.
+    pub fn with_marked(
+        &self,
+        alloc: Global,
+        biases: &[Extra],
+        marks: &[bool],
+    ) -> Result<Narrow, OutOfMemory>
+        requires cases { All IsCase self.now }
+        requires entries { All (λ e. length e.cases ≡ length self.now) biases.now }
+        requires marks { length marks.now ≤ length biases.now }
+        ensures { IfOk result (AreMarked marks.now biases.now self.now) }
+    {
+        let losses = losses_by(biases, marks);
+        let cases = marked_cases(alloc, &self.cases, biases, marks)?;
+        let mut narrowings = Vec::new(alloc);
+        for narrowing in &self.narrowings {
+            narrowings.push(narrowing.with(&losses))?;
+        }
+        Ok(Narrow { cases, narrowings })
+    }
+
+    /// How many cases there are.
+    fn count(&self) -> usize
+        ensures { result ≡ length self.now }
+    {
+        self.cases.len()
+    }
+
+    /// The case at a place.
+    fn case_at(&self, place: usize) -> &Case
+        requires { place < length self.now }
+        ensures { result.now ≡ slice_index_or self.now place result.now }
+    {
+        &self.cases[place]
+    }
+
+    /// Notes by what the case at a place was narrowed.
+    fn note(&mut self, place: usize, narrowing: Narrowing)
+        ensures { self.new ≡ self.old }
+    {
+        if place < self.narrowings.len() {
+            self.narrowings[place] = narrowing;
+        }
+    }
+
+    /// Puts a case in the place of another one.
+    fn put(&mut self, place: usize, case: Case)
+        requires { place < length self.old }
+        ensures { self.new ≡ slice_set self.old place case }
+    {
+        self.cases[place] = case;
+    }
+
+    /// Narrows the case at a place, if it may lose values by that.
+    fn settle_at(&mut self, alloc: Global, place: usize) -> Result<(), OutOfMemory>
+        requires cases { All IsCase self.old }
+        requires place { place < length self.old }
+        ensures { OnOk result ((cases : List Case) → AreEquivalent cases self.old → AreEquivalent cases self.new) }
+    {
+        let narrowing = self.narrowing(place);
+        let case = self.case_at(place);
+        if !narrowing.is_pending(case) {
+            return Ok(());
+        }
+        let same = case.copy(alloc)?;
+        let made = narrow_again(alloc, same, narrowing.known, &narrowing.losses)?;
+        self.note(place, Narrowing::whole(&made));
+        self.put(place, made);
+        Ok(())
+    }
+
+    /// Narrows the cases of an operation.
+    pub fn settle(&mut self, alloc: Global, op: u8) -> Result<(), OutOfMemory>
+        requires { All IsCase self.old }
+        ensures { OnOk result ((cases : List Case) → AreEquivalent cases self.old → AreEquivalent cases self.new) }
+    {
+        for place in 0..self.count() {
+            if self.case_at(place).op == op {
+                self.settle_at(alloc, place)?;
+            }
+        }
+        Ok(())
+    }
+}
+
+/// The cases with what marked biases add to them.
+fn marked_cases(
     alloc: Global,
     cases: &[Case],
     biases: &[Extra],
     marks: &[bool],
-) -> Result<Items<Case>, OutOfMemory>
+) -> Result<Vec<Case>, OutOfMemory>
     requires cases { All IsCase cases.now }
     requires entries { All (λ e. length e.cases ≡ length cases.now) biases.now }
     requires marks { length marks.now ≤ length biases.now }
-    ensures { IfOk result (AreMarked marks.now biases.now cases.now) }
+    ensures { IfOk result (λ made. AreMarked marks.now biases.now cases.now made.items) }
 {
     let mut made = Vec::new(alloc);
     for (place, case) in cases.iter().enumerate() {
-        made.push(narrow_more(alloc, case, place, biases, marks)?)?;
+        made.push(marked_case(alloc, case, place, biases, marks)?)?;
     }
-    Ok(Items::from_vec(made))
+    Ok(made)
+}
+
+/// Narrows the cases of an operation that stand for those of a problem, where there are some.
+pub fn settle(
+    narrow: &mut Option<Narrow>,
+    alloc: Global,
+    p: &Problem,
+    op: u8,
+) -> Result<(), OutOfMemory>
+    requires narrow { StandFor p.now.cases narrow.old }
+    ensures { OnOk result (StandFor p.now.cases narrow.new) }
+{
+    match narrow {
+        Some(cases) => cases.settle(alloc, op),
+        None => Ok(()),
+    }
+}
+
+/// The narrow cases where there are some, and else the problem's own.
+pub fn sought_of<'a>(narrow: &'a Option<Narrow>, p: &'a Problem) -> Sought<'a>
+    requires problem { IsProblem p.now }
+    requires narrow { StandFor p.now.cases narrow.now }
+    ensures { AreEquivalent p.now.cases result.cases.now }
+{
+    match narrow {
+        Some(narrow) => Sought {
+            cases: narrow.cases(),
+            are_narrow: true,
+        },
+        None => Sought {
+            cases: p.cases.as_slice(),
+            are_narrow: false,
+        },
+    }
 }

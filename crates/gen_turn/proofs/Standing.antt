@@ -12,9 +12,9 @@ use Rattle.part_machine.specs.Whole.{Whole, hart_of, records_of}
 use Rattle.part_state.specs.Meaning.{IsTest}
 use Rattle.leaf_link.specs.Cases.{is_some_word}
 use Rattle.leaf_link.specs.Turns.{in_frames}
-use Rattle.leaf_pose.specs.declared.stand.Name.{Name}
-use Rattle.leaf_pose.specs.declared.stand.Stand.{Stand}
-use Rattle.leaf_pose.specs.Stands.{IsStandOf, set_named, value_named}
+use Rattle.leaf_stand.specs.declared.stand.Name.{Name}
+use Rattle.leaf_stand.specs.declared.stand.Stand.{Stand}
+use Rattle.leaf_stand.specs.Stands.{IsStandOf, set_named, value_named}
 use Rattle.turn_laws.specs.Given.{Setting, turn_at}
 use Rattle.leaf_turn.specs.Grounds.{IsSettingOf, IsUntranslated, declared_set, is_free_fetch}
 use Rattle.leaf_turn.proofs.Grounding.{stand_tells}

@@ -1,11 +1,8 @@
 -- What a bias adds to a problem is the bias.
-use Rattle.std.proofs.Common.{◌≡◌, ℕ, suc, ◌+◌, ◌<◌, ◌^◌, ◌⊎◌, Bool, true, false, ◌&&◌, ◌||◌, ◌==◌, List, [], ◌∷◌, ◌++◌, Option, Some, None, refl, sym, ap, ◌∙◌, eqb-true, subst, inl, inr, arith, get_or, length, drop, ◌↔◌}
-use Rattle.std.specs.Prelude.{if◌then◌else◌}
+use Rattle.std.proofs.Common.{◌≡◌, ℕ, suc, ◌<◌, ◌^◌, ◌⊎◌, Bool, true, false, ◌||◌, List, [], ◌∷◌, Option, None, refl, sym, ap, ◌∙◌, eqb-true, subst, inl, inr, get_or, length, ◌↔◌}
 use Rattle.std.specs.List.{list_all}
-use Rattle.std.proofs.Math.Seq.{drop-cons}
 use Rattle.std.proofs.lemmas.Bool.{and_parts}
 use Rattle.std.proofs.lemmas.List.Folds.{list_all-append}
-use Rattle.dom_set.specs.Elements.{is_in}
 use Rattle.rv_isa.specs.declared.operation.Op.{Op}
 use Rattle.rv_script.specs.Folds.{Entry}
 use Rattle.rv_script.specs.Lists.{HasItem}
@@ -21,100 +18,31 @@ use Rattle.fd_prob.specs.declared.problem.Problem.{Problem}
 use Rattle.fd_prob.specs.declared.relation.Rel.{Rel}
 use Rattle.fd_prob.specs.declared.slot.Slot.{Slot}
 use Rattle.fd_prob.specs.declared.slot.Slot.TheVariants as slots
-use Rattle.fd_prob.specs.declared.slot.TheConstants.{SLOTS}
 use Rattle.fd_prob.specs.Fitting.{fits_case}
 use Rattle.fd_prob.specs.Order.{IsAssignment}
 use Rattle.fd_prob.specs.Relations.{holds, value_of}
 use Rattle.rv_isa.proofs.Numbers.{read}
 use Rattle.rv_isa.specs.Numbers.{op_numbered, op_number}
-use Rattle.fd_prob.specs.Slots.{slot_number}
 use Rattle.leaf_link.specs.Turns.{Turn}
 use Rattle.leaf_link.specs.Cases.{Shape as AShape, Way as AWay, all_judged, all_tests, atoms_hold, is_judged, shape_of, target_at, unless, uses}
 use Rattle.leaf_link.specs.Answers.{values_in}
 use Rattle.leaf_link.specs.AllWays.{WaysAreBuilt, ways_of}
 use Rattle.leaf_link.specs.KindLaws.{IsPosed}
 use Rattle.leaf_link.specs.Problems.{FitsPosed, bias_cut, bias_stays}
-use Rattle.leaf_link.specs.Extras.{ArePlain, AreAdded, BiasesInCases, MeetsInCase, PassesExtra, met_by, passes_cuts}
-use Rattle.leaf_pose.specs.declared.shape.Shape.{Shape}
-use Rattle.leaf_pose.specs.declared.stand.Stand.{Stand}
-use Rattle.leaf_pose.specs.declared.way.Aim.TheVariants.{Anywhere}
-use Rattle.leaf_pose.specs.Extras.{AddsBias, AddsCut, AreCuts, cut_of, cuts_of, stays_at, stays_of, var_of}
-use Rattle.leaf_pose.specs.Posed.{AreShaped, HasFitted, IsShaped, is_posed_at, stand_ways}
-use Rattle.leaf_pose.specs.Relations.{AddsTargets, IsTargetSet, are_between, atom_rels, speak_of, speaks_of, target_rel, target_test}
-use Rattle.leaf_pose.specs.Sets.{IsSetOf}
-use Rattle.leaf_pose.specs.Stands.{IsStandOf, outcome_at, shape_at, turn_of}
-use Rattle.leaf_pose.proofs.Rows.{built_address}
-use Rattle.leaf_pose.proofs.Single.{and_true, atoms_same, both_same, number_of, targets_same, word_at}
-use Rattle.leaf_pose.proofs.Targets.{silent}
-use Rattle.leaf_pose.proofs.Turning.{AreSameWays, IsSameWay, all_same, atoms_agree, case_there, posed_agrees, ways_same}
-
--- CUTS
-cut_var : (t : Turn) (bias : List Atom) (slot : Slot) (var : Var) (v : ℕ) → Some var ≡ var_of slot → bias_cut t bias slot v ≡ all_tests t bias var v
-cut_var t bias slots.Op var v h = let e : var ≡ vars.Op = cc in sym (ap (λ (u : Var). all_tests t bias u v) e)
-cut_var t bias slots.Rs1 var v h = let e : var ≡ vars.Rs1 = cc in sym (ap (λ (u : Var). all_tests t bias u v) e)
-cut_var t bias slots.Rs2 var v h = let e : var ≡ vars.Rs2 = cc in sym (ap (λ (u : Var). all_tests t bias u v) e)
-cut_var t bias slots.Imm var v h = let e : var ≡ vars.Imm = cc in sym (ap (λ (u : Var). all_tests t bias u v) e)
-cut_var t bias slots.Rd var v h = let e : var ≡ vars.Rd = cc in sym (ap (λ (u : Var). all_tests t bias u v) e)
-cut_var t bias slots.Csr var v h = let e : var ≡ vars.Csr = cc in sym (ap (λ (u : Var). all_tests t bias u v) e)
-cut_var t bias slots.Ea var v h = let e : var ≡ vars.Ea = cc in sym (ap (λ (u : Var). all_tests t bias u v) e)
-cut_var t bias slots.A var v h = let e : var ≡ vars.A = cc in sym (ap (λ (u : Var). all_tests t bias u v) e)
-cut_var t bias slots.B var v h = let e : var ≡ vars.B = cc in sym (ap (λ (u : Var). all_tests t bias u v) e)
-cut_var t bias slots.FirstPte var v h = absurd (cc h)
-cut_var t bias slots.SecondPte var v h = absurd (cc h)
-cut_var t bias slots.DataWord var v h = absurd (cc h)
-cut_var t bias slots.OldCsr var v h = absurd (cc h)
-cut_var t bias slots.Vector var v h = absurd (cc h)
-
-no_address : (slot : Slot) (var : Var) → Some var ≡ var_of slot → same_var vars.Pa var ≡ false
-no_address slots.Op var h = let e : var ≡ vars.Op = cc in ap (λ (u : Var). same_var vars.Pa u) e
-no_address slots.Rs1 var h = let e : var ≡ vars.Rs1 = cc in ap (λ (u : Var). same_var vars.Pa u) e
-no_address slots.Rs2 var h = let e : var ≡ vars.Rs2 = cc in ap (λ (u : Var). same_var vars.Pa u) e
-no_address slots.Imm var h = let e : var ≡ vars.Imm = cc in ap (λ (u : Var). same_var vars.Pa u) e
-no_address slots.Rd var h = let e : var ≡ vars.Rd = cc in ap (λ (u : Var). same_var vars.Pa u) e
-no_address slots.Csr var h = let e : var ≡ vars.Csr = cc in ap (λ (u : Var). same_var vars.Pa u) e
-no_address slots.Ea var h = let e : var ≡ vars.Ea = cc in ap (λ (u : Var). same_var vars.Pa u) e
-no_address slots.A var h = let e : var ≡ vars.A = cc in ap (λ (u : Var). same_var vars.Pa u) e
-no_address slots.B var h = let e : var ≡ vars.B = cc in ap (λ (u : Var). same_var vars.Pa u) e
-no_address slots.FirstPte var h = absurd (cc h)
-no_address slots.SecondPte var h = absurd (cc h)
-no_address slots.DataWord var h = absurd (cc h)
-no_address slots.OldCsr var h = absurd (cc h)
-no_address slots.Vector var h = absurd (cc h)
-
-if_true : (b a : Bool) → a ≡ true → (if b then a else true) ≡ true
-if_true true a h = h
-if_true false a h = refl
-
-pub unsaid_cut : (s : Stand) (bias : List Atom) (slot : Slot) (var : Var) (old : List (Slot × List ℕ)) → Some var ≡ var_of slot → speak_of bias var ≡ false → AddsCut s bias slot old old
-unsaid_cut s bias slot var old h n r v small =
-    let e : cut_of s bias slot r v ≡ true = if_true (slot_number slot == slot_number r) (bias_cut (turn_of s) bias slot v) (cut_var (turn_of s) bias slot var v h ∙ silent (turn_of s) bias var v n (no_address slot var h)) in
-    sym (ap (λ (b : Bool). passes_cuts old r v && b) e ∙ and_true (passes_cuts old r v))
-
-and_assoc : (a b d : Bool) → ((a && b) && d) ≡ (a && (b && d))
-and_assoc true b d = refl
-and_assoc false b d = refl
-
-passes_both : (xs ys : List (Slot × List ℕ)) (r : Slot) (v : ℕ) → passes_cuts (xs ++ ys) r v ≡ (passes_cuts xs r v && passes_cuts ys r v)
-passes_both [] ys r v = refl
-passes_both (x ∷ xs) ys r v =
-    ap (λ (b : Bool). (if slot_number x.0 == slot_number r then is_in x.1 v else true) && b) (passes_both xs ys r v)
-    ∙ sym (and_assoc (if slot_number x.0 == slot_number r then is_in x.1 v else true) (passes_cuts xs r v) (passes_cuts ys r v))
-
-pub said_cut : (s : Stand) (bias : List Atom) (slot : Slot) (var : Var) (old new : List (Slot × List ℕ)) (set : List ℕ) → Some var ≡ var_of slot → IsSetOf (all_tests (turn_of s) bias var) set → new ≡ old ++ (slot, set) ∷ []
-    → AddsCut s bias slot old new
-said_cut s bias slot var old new set h is e r v small =
-    ap (λ (l : List (Slot × List ℕ)). passes_cuts l r v) e ∙ passes_both old ((slot, set) ∷ []) r v
-    ∙ ap (λ (b : Bool). passes_cuts old r v && b) (and_true _ ∙ ap (λ (b : Bool). if slot_number slot == slot_number r then b else true) (is v small ∙ sym (cut_var (turn_of s) bias slot var v h)))
-
-pub next_cut : (s : Stand) (bias : List Atom) (i : ℕ) (d : Slot) (old new : List (Slot × List ℕ)) → i < length SLOTS → AddsCut s bias (get_or SLOTS i d) old new
-    → ((r : Slot) (v : ℕ) → v < 2 ^ 32 → (passes_cuts old r v && cuts_of s bias (drop i SLOTS) r v) ≡ cuts_of s bias SLOTS r v)
-    → (r : Slot) (v : ℕ) → v < 2 ^ 32 → (passes_cuts new r v && cuts_of s bias (drop (i + 1) SLOTS) r v) ≡ cuts_of s bias SLOTS r v
-next_cut s bias i d old new lt step inv r v small =
-    let n : i + 1 ≡ suc i = omega arith in
-    let e : drop i SLOTS ≡ get_or SLOTS i d ∷ drop (i + 1) SLOTS = drop-cons SLOTS i d lt ∙ ap (λ (m : ℕ). get_or SLOTS i d ∷ drop m SLOTS) (sym n) in
-    ap (λ (b : Bool). b && cuts_of s bias (drop (i + 1) SLOTS) r v) (step r v small)
-    ∙ and_assoc (passes_cuts old r v) (cut_of s bias (get_or SLOTS i d) r v) (cuts_of s bias (drop (i + 1) SLOTS) r v)
-    ∙ ap (λ (l : List Slot). passes_cuts old r v && cuts_of s bias l r v) (sym e) ∙ inv r v small
+use Rattle.leaf_link.specs.Extras.{ArePlain, AreAdded, BiasesInCases, MeetsInCase, PassesExtra, met_by}
+use Rattle.leaf_stand.specs.declared.shape.Shape.{Shape}
+use Rattle.leaf_stand.specs.declared.stand.Stand.{Stand}
+use Rattle.leaf_stand.specs.declared.way.Aim.TheVariants.{Anywhere}
+use Rattle.leaf_pose.specs.Extras.{AddsBias, stays_at, stays_of}
+use Rattle.leaf_stand.specs.Cuts.{AreCuts}
+use Rattle.leaf_pose.specs.Posed.{AreShaped, HasFitted, IsShaped}
+use Rattle.leaf_stand.specs.Posed.{is_posed_at, stand_ways}
+use Rattle.leaf_stand.specs.Relations.{AddsTargets, IsTargetSet, are_between, atom_rels, speak_of, speaks_of, target_rel, target_test}
+use Rattle.leaf_stand.specs.Stands.{IsStandOf, outcome_at, shape_at, turn_of}
+use Rattle.leaf_stand.proofs.Rows.{built_address}
+use Rattle.leaf_stand.proofs.Single.{atoms_same, both_same, number_of, targets_same, word_at}
+use Rattle.leaf_stand.proofs.Silent.{silent}
+use Rattle.leaf_stand.proofs.Turning.{AreSameWays, IsSameWay, all_same, atoms_agree, case_there, posed_agrees, ways_same}
 
 -- RELATIONS
 -- variables with one number are one

@@ -1,38 +1,26 @@
 -- First cases of operations.
-use Rattle.std.proofs.Common.{◌≡◌, ℕ, ◌+◌, ◌<◌, ◌≤◌, ◌^◌, Bool, true, false, ◌==◌, eqb-true, List, [], ◌∷◌, ◌++◌, Some, None, refl, sym, ap, ◌∙◌, subst, arith, All, drop, get_or, length, suc, append_assoc, find, inl, inr}
-use Rattle.std.specs.List.Sorted.{IsStrictlyIncreasing}
+use Rattle.std.proofs.Common.{◌≡◌, ℕ, ◌+◌, ◌<◌, ◌≤◌, Bool, true, false, ◌==◌, eqb-true, List, [], ◌∷◌, ◌++◌, Some, None, refl, sym, ap, ◌∙◌, subst, arith, All, drop, get_or, length, suc, append_assoc, find, inl, inr}
 use Rattle.std.specs.Prelude.{cond}
 use Rattle.std.proofs.Math.Seq.{drop-cons}
 use Rattle.std.proofs.lemmas.Bool.{cases_Bool, eq-eqb}
 use Rattle.std.proofs.lemmas.List.{append-nil, drop_all}
 use Rattle.std.proofs.lemmas.List.Elements.{All-head, All-tail}
-use Rattle.dom_set.specs.Elements.{is_in}
-use Rattle.dom_set.proofs.Sets.{own_elements}
 use Rattle.rv_isa.specs.declared.operation.Op.{Op}
 use Rattle.rv_script.specs.Lists.{HasItem}
 use Rattle.tpl_ast.specs.declared.template.Atom.{Atom}
 use Rattle.fd_prob.specs.declared.problem.Case.{Case as ACase}
-use Rattle.fd_prob.specs.declared.relation.Quad.{Quad}
-use Rattle.fd_prob.specs.declared.relation.Rel.{Rel}
-use Rattle.fd_prob.specs.declared.relation.Rel.TheVariants.{Rows}
 use Rattle.fd_prob.specs.Fitting.{IsCase}
 use Rattle.rv_isa.specs.Numbers.{op_number}
-use Rattle.leaf_link.specs.Firsts.{IsDomain}
-use Rattle.leaf_pose.specs.declared.shape.Shape.{Shape}
+use Rattle.leaf_stand.specs.declared.shape.Shape.{Shape}
 use Rattle.leaf_pose.specs.declared.shaped.Shaped.{Shaped}
-use Rattle.leaf_pose.specs.declared.stand.Stand.{Stand}
-use Rattle.leaf_pose.specs.Posed.{IsAllowedCase, allows}
-use Rattle.leaf_pose.specs.Firsts.{AddsFirsts, AreFirstCases, HasFirst, IsFirstCase, IsNothing}
-use Rattle.leaf_pose.specs.Sets.{IsSetOf}
+use Rattle.leaf_stand.specs.declared.stand.Stand.{Stand}
+use Rattle.leaf_pose.specs.Posed.{IsAllowedCase}
+use Rattle.leaf_stand.specs.Posed.{allows}
+use Rattle.leaf_pose.specs.Firsts.{AddsFirsts, AreFirstCases, HasFirst, IsNothing}
+use Rattle.leaf_stand.specs.FirstCases.{IsFirstCase}
 use Rattle.leaf_link.proofs.Numbers.{same_op}
-use Rattle.leaf_pose.proofs.Steps.{allowed_case, none_fits, none_yet, nothing_added, nothing_fits, one_added, then_adds}
-
--- DOMAINS
-pub word_domain : (xs : List ℕ) (test : ℕ → Bool) → IsStrictlyIncreasing xs → All (λ x. x < 2 ^ 32) xs → IsSetOf test xs → IsDomain xs test
-word_domain xs test up words is = record { members = is_in xs; is_set = own_elements xs up words; same = is }
-
-pub no_row : (rels old : List Rel) (rows : List Quad) → rels ≡ old ++ Rows rows ∷ [] → old ≡ [] → rows ≡ [] → rels ≡ Rows [] ∷ []
-no_row rels old rows e n m = e ∙ ap (λ (l : List Rel). l ++ Rows rows ∷ []) n ∙ ap (λ (r : List Quad). Rows r ∷ []) m
+use Rattle.leaf_pose.proofs.Steps.{allowed_case, none_fits, nothing_added, nothing_fits, one_added, then_adds}
+use Rattle.leaf_stand.proofs.Fits.{none_yet}
 
 -- ONE OPERATION
 pub no_first : (s : Stand) (leaf : List Atom) (op : Op) (old : Shaped) → allows s leaf op ≡ false → AddsFirsts s leaf (op ∷ []) old old

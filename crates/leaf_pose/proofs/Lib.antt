@@ -1,14 +1,7 @@
-pub mod Sets
-pub mod Rows
-pub mod Lists
 pub mod Targets
-pub mod Single
 pub mod Shapes
 pub mod Steps
-pub mod Branching
 pub mod Leading
-pub mod Turning
 pub mod Whole
 pub mod Adding
 pub mod Settled
-pub mod Compared

@@ -36,17 +36,19 @@ use Rattle.leaf_link.specs.Fetches.{fetch_script}
 use Rattle.leaf_link.specs.FetchRows.{AreFetchRows, FetchRow, FetchWalks, entry_values, fetch_case, fetch_case_to, fetch_cases, fetch_keeps, fetch_log}
 use Rattle.leaf_link.specs.FaultRows.{fault_case, fault_case_to, fault_cases}
 use Rattle.leaf_link.specs.FetchAnswers.{IsFetchFirst, IsFetchProblem, fetch_domain, is_fetched_slot}
-use Rattle.leaf_pose.specs.declared.shape.End.{End}
-use Rattle.leaf_pose.specs.declared.shape.End.TheVariants.{Retires, Traps}
-use Rattle.leaf_pose.specs.declared.stand.Stand.{Stand}
-use Rattle.leaf_pose.specs.Fetches.{AreFetchPivots, IsFetchFirstCase, IsSettled, PosesFault, PosesFetch, fetch_first_at, settled_at, settled_case}
-use Rattle.leaf_pose.specs.Posed.{FitsSame}
-use Rattle.leaf_pose.specs.Sets.{AreDomains, IsSetOf}
-use Rattle.leaf_pose.specs.Stands.{turn_of}
+use Rattle.leaf_stand.specs.declared.shape.End.{End}
+use Rattle.leaf_stand.specs.declared.shape.End.TheVariants.{Retires, Traps}
+use Rattle.leaf_stand.specs.declared.stand.Stand.{Stand}
+use Rattle.leaf_pose.specs.Fetches.{AreFetchPivots, IsSettled, PosesFault, PosesFetch, settled_at, settled_case}
+use Rattle.leaf_stand.specs.FirstCases.{IsFetchFirstCase, fetch_first_at}
+use Rattle.leaf_stand.specs.Posed.{FitsSame}
+use Rattle.leaf_stand.specs.Sets.{AreDomains, IsSetOf}
+use Rattle.leaf_stand.specs.Stands.{turn_of}
 use Rattle.leaf_pose.proofs.Leading.{found_here}
-use Rattle.leaf_pose.proofs.Lists.{each_domain}
-use Rattle.leaf_pose.proofs.Single.{domain_in_case, fits_from, number_of, within_of, word_at}
-use Rattle.leaf_pose.proofs.Steps.{both_lists, none_fits, nothing_fits}
+use Rattle.leaf_stand.proofs.Lists.{each_domain}
+use Rattle.leaf_stand.proofs.Single.{domain_in_case, fits_from, number_of, within_of, word_at}
+use Rattle.leaf_stand.proofs.Fits.{both_lists}
+use Rattle.leaf_pose.proofs.Steps.{none_fits, nothing_fits}
 
 pub fetch_pivots_are : (draws : List ℕ) → AreFetchPivots draws (0 ∷ 0 ∷ 0 ∷ 0 ∷ 0 ∷ 0 ∷ 0 ∷ 0 ∷ 0 ∷ get_or draws 0 0 ∷ get_or draws 1 0 ∷ 0 ∷ 0 ∷ get_or draws 15 0 ∷ [])
 fetch_pivots_are draws slots.FirstPte h = refl

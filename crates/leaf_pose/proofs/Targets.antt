@@ -1,28 +1,24 @@
 -- Targets, and what is asked of them.
 use Rattle.std.proofs.Common.{◌≡◌, ℕ, ◌%◌, Bool, true, false, ◌&&◌, ◌||◌, List, [], ◌∷◌, ◌++◌, Some, None, refl, sym, ap, ◌∙◌, arith}
-use Rattle.std.specs.Prelude.{not, bit_and, if◌then◌else◌}
+use Rattle.std.specs.Prelude.{not, bit_and}
 use Rattle.std.proofs.lemmas.Bool.Decides.{nat_tests}
 use Rattle.std.proofs.lemmas.Nat.{and_mask}
 use Rattle.std.proofs.lemmas.Bool.{and_from}
 use Rattle.std.proofs.lemmas.List.{append-nil}
-use Rattle.tpl_ast.specs.Leaves.{same_var}
 use Rattle.tpl_ast.specs.declared.template.Atom.{Atom}
-use Rattle.tpl_ast.specs.declared.template.Atom.TheVariants as atoms
-use Rattle.tpl_ast.specs.declared.template.Var.{Var}
 use Rattle.tpl_ast.specs.declared.template.Var.TheVariants as vars
-use Rattle.tpl_admit.specs.Truth.{is_shared}
 use Rattle.fd_prob.specs.declared.relation.Rel.{Rel}
 use Rattle.fd_prob.specs.declared.relation.Rel.TheVariants as rels
-use Rattle.leaf_link.specs.Turns.{Turn}
-use Rattle.leaf_link.specs.Cases.{all_tests, is_value_named, tests, unless}
+use Rattle.leaf_link.specs.Cases.{all_tests, unless}
 use Rattle.dom_set.specs.Elements.{elements_of, is_in, is_matching}
-use Rattle.leaf_pose.specs.declared.way.Aim.{Aim}
-use Rattle.leaf_pose.specs.declared.way.Aim.TheVariants.{Anywhere, Aligned, Misaligned}
-use Rattle.leaf_pose.specs.declared.stand.Stand.{Stand}
-use Rattle.leaf_pose.specs.Relations.{AddsTargets, is_aimed, is_anywhere, speak_of, speaks_of}
-use Rattle.leaf_pose.specs.Sets.{IsSetOf}
-use Rattle.leaf_pose.specs.Stands.{turn_of}
-use Rattle.leaf_pose.proofs.Sets.{elements_are}
+use Rattle.leaf_stand.specs.declared.way.Aim.{Aim}
+use Rattle.leaf_stand.specs.declared.way.Aim.TheVariants.{Anywhere, Aligned, Misaligned}
+use Rattle.leaf_stand.specs.declared.stand.Stand.{Stand}
+use Rattle.leaf_stand.specs.Relations.{AddsTargets, is_aimed, is_anywhere, speak_of}
+use Rattle.leaf_stand.specs.Sets.{IsSetOf}
+use Rattle.leaf_stand.specs.Stands.{turn_of}
+use Rattle.leaf_stand.proofs.Sets.{elements_are}
+use Rattle.leaf_stand.proofs.Silent.{neither, silent}
 
 twos_and_odd : (v : ℕ) → is_matching ((1, 1) ∷ (3, 2) ∷ []) v ≡ is_aimed Misaligned v
 twos_and_odd v =
@@ -34,25 +30,6 @@ pub misaligned_set : (set : List ℕ) → set ≡ elements_of (is_matching ((1, 
 misaligned_set set e v small = elements_are (is_matching ((1, 1) ∷ (3, 2) ∷ [])) set e v small ∙ twos_and_odd v
 
 -- WHAT IS ASKED OF TARGETS
-silent_atom : (t : Turn) (atom : Atom) (u : Var) (v : ℕ) → speaks_of atom u ≡ false → same_var vars.Pa u ≡ false → tests t atom u v ≡ true
-silent_atom t (atoms.In w set) u v h n = ap (λ (b : Bool). if b then is_in set v else true) h
-silent_atom t (atoms.NotIn w set) u v h n = ap (λ (b : Bool). if b then not (is_in set v) else true) h
-silent_atom t (atoms.Is w name) u v h n = ap (λ (b : Bool). if b then is_value_named (t.names name) (t.sets name) v else true) h
-silent_atom t (atoms.Same w y) u v h n = refl
-silent_atom t (atoms.Differ w y) u v h n = refl
-silent_atom t atoms.Taken u v h n = refl
-silent_atom t atoms.NotTaken u v h n = refl
-silent_atom t atoms.Shared u v h n = ap (λ (b : Bool). if b then is_shared t.others (Some v) else true) n
-
-neither : (a b : Bool) → (a || b) ≡ false → (a ≡ false) × (b ≡ false)
-neither true b h = absurd (cc h)
-neither false b h = (refl, h)
-
--- atoms that are not about a variable let through all its values
-pub silent : (t : Turn) (leaf : List Atom) (u : Var) (v : ℕ) → speak_of leaf u ≡ false → same_var vars.Pa u ≡ false → all_tests t leaf u v ≡ true
-silent t [] u v h n = refl
-silent t (atom ∷ leaf) u v h n = let b = neither (speaks_of atom u) (speak_of leaf u) h in and_from _ _ (silent_atom t atom u v b.0 n) (silent t leaf u v b.1 n)
-
 pub unused_target : (s : Stand) (leaf : List Atom) (used : Bool) (aim : Aim) (old : List Rel) → used ≡ false → AddsTargets s leaf used aim old old
 unused_target s leaf used aim old h = record {
   set = None;

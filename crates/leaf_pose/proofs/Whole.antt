@@ -32,21 +32,24 @@ use Rattle.leaf_link.specs.Turns.{Turn, is_first_form, is_second_form}
 use Rattle.leaf_link.specs.Values.{has_address}
 use Rattle.leaf_link.specs.Cases.{all_tests, in_format, in_read, in_word, or_no}
 use Rattle.leaf_link.specs.Firsts.{IsDomain, IsFirst, IsFirstOf, first_domain, has_old, has_walk, in_first_format, in_first_word, is_allowed, is_modelled, is_return}
-use Rattle.leaf_pose.specs.declared.shape.Shape.{Shape}
+use Rattle.leaf_stand.specs.declared.shape.Shape.{Shape}
 use Rattle.leaf_pose.specs.declared.shaped.Shaped.{Shaped}
-use Rattle.leaf_pose.specs.declared.stand.Stand.{Stand}
-use Rattle.leaf_pose.specs.Firsts.{AddsFirsts, AreFirstCases, IsFirstCase, first_at}
-use Rattle.leaf_pose.specs.Kinds.{kind_of}
-use Rattle.leaf_pose.specs.Posed.{Adds, AreShaped, FitsSame, IsAllowedCase, all_cases, allows, are_posable, is_other, is_posable, is_read_as, reads_as}
+use Rattle.leaf_stand.specs.declared.stand.Stand.{Stand}
+use Rattle.leaf_pose.specs.Firsts.{AddsFirsts, AreFirstCases}
+use Rattle.leaf_stand.specs.FirstCases.{IsFirstCase}
+use Rattle.leaf_stand.specs.FirstCases.{first_at}
+use Rattle.leaf_stand.specs.Kinds.{kind_of}
+use Rattle.leaf_pose.specs.Posed.{Adds, AreShaped, IsAllowedCase}
+use Rattle.leaf_stand.specs.Posed.{FitsSame, all_cases, allows, are_posable, is_other, is_posable, is_read_as, reads_as}
 use Rattle.leaf_pose.specs.Problems.{ArePivots, PosesLeaf}
-use Rattle.leaf_pose.specs.Stands.{IsStandOf, turn_of}
+use Rattle.leaf_stand.specs.Stands.{IsStandOf, turn_of}
 use Rattle.leaf_pose.proofs.Leading.{FindsFirst, first_found, none_found}
-use Rattle.leaf_pose.proofs.Lists.{each_domain}
-use Rattle.leaf_pose.proofs.Rows.{built_address, built_csr, built_return}
+use Rattle.leaf_stand.proofs.Lists.{each_domain}
+use Rattle.leaf_stand.proofs.Rows.{built_address, built_csr, built_return}
 use Rattle.leaf_pose.proofs.Shapes.{nothing}
-use Rattle.leaf_pose.proofs.Single.{both_same, domain_in_case}
-use Rattle.leaf_pose.proofs.Steps.{none_yet}
-use Rattle.leaf_pose.proofs.Turning.{all_same, built_if, every_turn}
+use Rattle.leaf_stand.proofs.Single.{both_same, domain_in_case}
+use Rattle.leaf_stand.proofs.Fits.{none_yet}
+use Rattle.leaf_stand.proofs.Turning.{all_same, built_if, every_turn}
 
 -- DRAWS
 pub pivots_are : (draws : List ℕ) → ArePivots draws (get_or draws 2 0 ∷ get_or draws 3 0 ∷ get_or draws 4 0 ∷ get_or draws 5 0 ∷ get_or draws 6 0 ∷ get_or draws 7 0 ∷ get_or draws 8 0 ∷ get_or draws 9 0 ∷ get_or draws 10 0 ∷ get_or draws 11 0 ∷ get_or draws 12 0 ∷ get_or draws 13 0 ∷ get_or draws 14 0 ∷ get_or draws 15 0 ∷ [])

@@ -1,32 +1,27 @@
 -- The problems of fetches that start no page table entry.
-use Rattle.std.specs.Prelude.{◌≡◌, ℕ, Bool, true, nat_eq, List, [], ◌∷◌, slice_index}
-use Rattle.dom_set.specs.Elements.{is_in}
+use Rattle.std.specs.Prelude.{◌≡◌, ℕ, Bool, true, nat_eq, List, slice_index}
 use Rattle.rv_csr.specs.declared.cause.Cause.{Cause}
 use Rattle.rv_csr.specs.Causes.{number_of}
 use Rattle.rv_csr.specs.Table.{register_at}
 use Rattle.rv_script.specs.declared.place.Place.TheVariants.{Csr}
 use Rattle.rv_script.specs.Script.{Script.Done}
 use Rattle.sv_walk.specs.Translation.{Reached, At, Fails}
-use Rattle.fd_prob.specs.declared.problem.Case.{Case as ACase}
 use Rattle.fd_prob.specs.declared.problem.Problem.{Problem}
-use Rattle.fd_prob.specs.declared.relation.Rel.TheVariants.{Rows}
 use Rattle.fd_prob.specs.declared.slot.Slot.{Slot}
 use Rattle.fd_prob.specs.declared.slot.Slot.TheVariants as slots
-use Rattle.fd_prob.specs.declared.slot.TheConstants.{SLOTS}
 use Rattle.fd_prob.specs.Slots.{slot_number}
 use Rattle.leaf_link.specs.Turns.{Turn, is_first_form, is_second_form}
 use Rattle.leaf_link.specs.Cases.{Case}
-use Rattle.leaf_link.specs.Firsts.{IsDomain}
 use Rattle.leaf_link.specs.Kinds.{always}
 use Rattle.leaf_link.specs.Answers.{IsProblemOf}
 use Rattle.leaf_link.specs.Fetches.{fetch_script}
 use Rattle.leaf_link.specs.FetchRows.{AreFetchRows, FetchRow, fetch_cases}
 use Rattle.leaf_link.specs.FaultRows.{fault_cases}
 use Rattle.leaf_link.specs.FetchAnswers.{IsFetchProblem, fetch_draw, fetch_space, is_fetched_slot}
-use Rattle.leaf_pose.specs.declared.shape.End.{End}
-use Rattle.leaf_pose.specs.declared.stand.Stand.{Stand}
-use Rattle.leaf_pose.specs.Sets.{AreEach, IsSetOf}
-use Rattle.leaf_pose.specs.Stands.{also_at, csr_held}
+use Rattle.leaf_stand.specs.declared.shape.End.{End}
+use Rattle.leaf_stand.specs.declared.stand.Stand.{Stand}
+use Rattle.leaf_stand.specs.Sets.{IsSetOf}
+use Rattle.leaf_stand.specs.Stands.{also_at, csr_held}
 
 -- the translation of the pc asks for nothing, and ends so; the stand tells what the trap of a fetch rests on
 pub record IsSettled (s : Stand) (t : Turn) (end : Reached) (first second : List ℕ) : Type 0 where
@@ -46,19 +41,6 @@ settled_at t end _ v = nat_eq v 0
 
 abbrev pub settled_case : Turn → End → Case
 settled_case t end = record { op = 0; doms = settled_at t end; holds = always }
-
--- what the domain of a variable has to be in the first case
-abbrev pub fetch_first_at : Stand → List ℕ → List ℕ → Slot → ℕ → Bool
-fetch_first_at s first second slots.FirstPte v = is_in first v
-fetch_first_at s first second slots.SecondPte v = is_in second v
-fetch_first_at s first second slots.Vector v = is_in s.vectors.now v
-fetch_first_at s first second _ v = nat_eq v 0
-
--- the first case of a fetch, which nothing fits
-pub record IsFetchFirstCase (s : Stand) (first second : List ℕ) (c : ACase) : Type 0 where
-  pub number : c.op ≡ 0
-  pub domains : AreEach (λ slot set. IsDomain set (fetch_first_at s first second slot)) SLOTS c.doms
-  pub rels : c.rels ≡ Rows [] ∷ []
 
 -- of the draws of a turn those for the two entries and for the vector
 abbrev pub AreFetchPivots : List ℕ → List ℕ → Type 0

@@ -1,11 +1,5 @@
-pub mod Sets
-pub mod Stands
-pub mod Relations
-pub mod Kinds
 pub mod Posed
-pub mod Ways
 pub mod Firsts
 pub mod Problems
 pub mod Extras
 pub mod Fetches
-pub mod Laws

@@ -8,8 +8,8 @@ use Rattle.fd_prob.specs.declared.slot.Slot.{Slot}
 use Rattle.fd_prob.specs.Slots.{slot_number}
 use Rattle.leaf_link.specs.Turns.{Turn}
 use Rattle.leaf_link.specs.Firsts.{IsPosedProblem, leaf_draw}
-use Rattle.leaf_pose.specs.declared.stand.Stand.{Stand}
-use Rattle.leaf_pose.specs.Stands.{IsStandOf}
+use Rattle.leaf_stand.specs.declared.stand.Stand.{Stand}
+use Rattle.leaf_stand.specs.Stands.{IsStandOf}
 
 -- the problem is that of the leaf at every turn that the stand tells
 abbrev pub PosesLeaf : Stand → List Atom → List ℕ → Problem → Type 0

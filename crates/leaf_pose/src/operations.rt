@@ -1,192 +1,52 @@
 // The cases of operations.
 
 ghost use Rattle.std.specs.Prelude.{◌≡◌, true, OnOk};
-ghost use Rattle.std.specs.List.{list_all};
-ghost use Rattle.rv_csr.specs.declared.status.Flag.TheVariants.{Tvm};
-ghost use Rattle.rv_hart.specs.Privileged.{is_withheld};
 ghost use Rattle.rv_isa.specs.declared.operation.TheConstants.{OPS};
-ghost use Rattle.leaf_pose.specs.Posed.{Adds, all_cases, are_posable, is_posable, stand_cases, stand_ways};
-ghost use Rattle.leaf_pose.specs.Relations.{are_between};
-ghost use Rattle.leaf_pose.specs.Stands.{turn_of};
-ghost use Rattle.leaf_pose.specs.Ways.{ways_by};
+ghost use Rattle.leaf_pose.specs.Posed.{Adds};
+ghost use Rattle.leaf_stand.specs.Posed.{all_cases, are_posable, is_posable, stand_cases, stand_ways};
+ghost use Rattle.leaf_stand.specs.Relations.{are_between};
 
-use crate::kind::{Kind, kind_of};
-use crate::shape::End;
+use crate::cases::push_ways;
 use crate::shaped::Shaped;
-use crate::stand::Stand;
-use crate::way::{Aim, Way};
 use dom_set::OutOfMemory;
-use rv_csr::{Cause, Priv};
+use leaf_stand::{Stand, kind_of};
 use rv_isa::{OPS, Op};
 use std::alloc::Global;
 use tpl_ast::Atom;
 
-static RETIRES: [Way; 1] = [Way {
-    end: End::Retires,
-    taken: None,
-    aim: Aim::Anywhere,
-}];
-
-/// A branch that is taken retires at a multiple of 4, and traps at what is none.
-static BRANCHES: [Way; 3] = [
-    Way {
-        end: End::Retires,
-        taken: Some(true),
-        aim: Aim::Aligned,
-    },
-    Way {
-        end: End::Retires,
-        taken: Some(false),
-        aim: Aim::Anywhere,
-    },
-    Way {
-        end: End::Traps(Cause::FetchMisaligned),
-        taken: Some(true),
-        aim: Aim::Misaligned,
-    },
-];
-
-static JUMPS: [Way; 2] = [
-    Way {
-        end: End::Retires,
-        taken: None,
-        aim: Aim::Aligned,
-    },
-    Way {
-        end: End::Traps(Cause::FetchMisaligned),
-        taken: None,
-        aim: Aim::Misaligned,
-    },
-];
-
-static CALLS_FROM_U: [Way; 1] = [Way {
-    end: End::Traps(Cause::CallFromU),
-    taken: None,
-    aim: Aim::Anywhere,
-}];
-
-static CALLS_FROM_S: [Way; 1] = [Way {
-    end: End::Traps(Cause::CallFromS),
-    taken: None,
-    aim: Aim::Anywhere,
-}];
-
-static CALLS_FROM_M: [Way; 1] = [Way {
-    end: End::Traps(Cause::CallFromM),
-    taken: None,
-    aim: Aim::Anywhere,
-}];
-
-static BREAKS: [Way; 1] = [Way {
-    end: End::Traps(Cause::Breakpoint),
-    taken: None,
-    aim: Aim::Anywhere,
-}];
-
-static REFUSALS: [Way; 1] = [Way {
-    end: End::Traps(Cause::Illegal),
-    taken: None,
-    aim: Aim::Anywhere,
-}];
-
-impl Stand<'_> {
-    /// Whether SFENCE.VMA is illegal (Privileged, 3.1.6.5).
-    fn withholds_fences(&self) -> bool
-        ensures { result ≡ is_withheld Tvm (turn_of self.now).fixed }
-    {
-        match self.privilege {
-            Priv::U => true,
-            Priv::S => self.csrs.tvm(),
-            Priv::M => false,
-        }
+/// Appends the cases of an operation, where the atoms and a known word allow it.
+fn push_operation(
+    alloc: Global,
+    stand: &Stand,
+    shaped: &mut Shaped,
+    leaf: &[Atom],
+    op: Op,
+) -> Result<(), OutOfMemory>
+    requires between { are_between leaf.now ≡ true }
+    requires posable { is_posable stand.now leaf.now op ≡ true }
+    ensures { OnOk result (Adds stand.now leaf.now shaped.old shaped.new (stand_cases stand.now leaf.now op (stand_ways stand.now op))) }
+{
+    if !stand.allows(leaf, op) {
+        return Ok(());
     }
+    let ways = stand.ways_by(kind_of(op));
+    push_ways(alloc, stand, shaped, leaf, op, ways)?;
+    Ok(())
+}
 
-    /// The ways of a kind of operations.
-    fn ways_by(&self, kind: Kind) -> &'static [Way]
-        ensures { result.now ≡ ways_by self.now kind }
-    {
-        match kind {
-            Kind::Plain => &RETIRES,
-            Kind::Branch => &BRANCHES,
-            Kind::Jump => &JUMPS,
-            Kind::JumpRegister => &JUMPS,
-            Kind::Call => match self.privilege {
-                Priv::U => &CALLS_FROM_U,
-                Priv::S => &CALLS_FROM_S,
-                Priv::M => &CALLS_FROM_M,
-            },
-            Kind::Break => &BREAKS,
-            Kind::Illegal => &REFUSALS,
-            Kind::AddressFence => {
-                if self.withholds_fences() {
-                    &REFUSALS
-                } else {
-                    &RETIRES
-                }
-            }
-            Kind::Other => &[],
-        }
+/// Appends the cases of all operations.
+pub fn push_operations(
+    alloc: Global,
+    stand: &Stand,
+    shaped: &mut Shaped,
+    leaf: &[Atom],
+) -> Result<(), OutOfMemory>
+    requires between { are_between leaf.now ≡ true }
+    requires posable { are_posable stand.now leaf.now ≡ true }
+    ensures { OnOk result (Adds stand.now leaf.now shaped.old shaped.new (all_cases stand.now leaf.now OPS)) }
+{
+    for op in OPS {
+        push_operation(alloc, stand, shaped, leaf, op)?;
     }
-
-    /// Appends the cases of an operation, where the atoms and a known word allow it.
-    fn push_operation(
-        &self,
-        alloc: Global,
-        shaped: &mut Shaped,
-        leaf: &[Atom],
-        op: Op,
-    ) -> Result<(), OutOfMemory>
-        requires between { are_between leaf.now ≡ true }
-        requires posable { is_posable self.now leaf.now op ≡ true }
-        ensures { OnOk result (Adds self.now leaf.now shaped.old shaped.new (stand_cases self.now leaf.now op (stand_ways self.now op))) }
-    {
-        if !self.allows(leaf, op) {
-            return Ok(());
-        }
-        let ways = self.ways_by(kind_of(op));
-        self.push_ways(alloc, shaped, leaf, op, ways)?;
-        Ok(())
-    }
-
-    /// Appends the cases of all operations.
-    pub fn push_operations(
-        &self,
-        alloc: Global,
-        shaped: &mut Shaped,
-        leaf: &[Atom],
-    ) -> Result<(), OutOfMemory>
-        requires between { are_between leaf.now ≡ true }
-        requires posable { are_posable self.now leaf.now ≡ true }
-        ensures { OnOk result (Adds self.now leaf.now shaped.old shaped.new (all_cases self.now leaf.now OPS)) }
-    {
-        for op in OPS {
-            self.push_operation(alloc, shaped, leaf, op)?;
-        }
-        Ok(())
-    }
-
-    /// Whether an operation is built, or not allowed by the atoms and a known word.
-    fn is_posable(&self, leaf: &[Atom], op: Op) -> bool
-        ensures { result ≡ is_posable self.now leaf.now op }
-    {
-        !matches!(kind_of(op), Kind::Other) || !self.allows(leaf, op)
-    }
-
-    fn each_is_posable(&self, leaf: &[Atom], ops: &[Op]) -> bool
-        ensures { result ≡ list_all (is_posable self.now leaf.now) ops.now }
-    {
-        for op in ops {
-            if !self.is_posable(leaf, *op) {
-                return false;
-            }
-        }
-        true
-    }
-
-    /// Whether the atoms and a known word allow no operations but those that are built.
-    pub fn are_posable(&self, leaf: &[Atom]) -> bool
-        ensures { result ≡ are_posable self.now leaf.now }
-    {
-        self.each_is_posable(leaf, &OPS)
-    }
+    Ok(())
 }

@@ -2,15 +2,17 @@
 
 ghost use Rattle.std.specs.Prelude.{◌≡◌, true, length, IfOk};
 ghost use Rattle.fd_prob.specs.Fitting.{IsProblem};
-ghost use Rattle.leaf_pose.specs.Posed.{AreShaped, are_posable};
+ghost use Rattle.leaf_pose.specs.Posed.{AreShaped};
+ghost use Rattle.leaf_stand.specs.Posed.{are_posable};
 ghost use Rattle.leaf_pose.specs.Problems.{ArePivots, PosesLeaf};
-ghost use Rattle.leaf_pose.specs.Relations.{are_between};
+ghost use Rattle.leaf_stand.specs.Relations.{are_between};
 
-use crate::shape::Shape;
+use crate::firsts::push_firsts;
+use crate::operations::push_operations;
 use crate::shaped::Shaped;
-use crate::stand::Stand;
 use dom_set::OutOfMemory;
 use fd_prob::{Items, Problem};
+use leaf_stand::{Shape, Stand};
 use std::alloc::Global;
 use tpl_ast::Atom;
 
@@ -49,8 +51,8 @@ pub fn problem_of(
         cases: Items::new(alloc),
         shapes: Items::new(alloc),
     };
-    stand.push_firsts(alloc, &mut shaped, leaf)?;
-    stand.push_operations(alloc, &mut shaped, leaf)?;
+    push_firsts(alloc, stand, &mut shaped, leaf)?;
+    push_operations(alloc, stand, &mut shaped, leaf)?;
     Ok(Posed {
         problem: Problem {
             cases: shaped.cases,

@@ -2,9 +2,9 @@
 
 ghost use Rattle.std.specs.Prelude.{◌≡◌, ◌∷◌, ◌++◌, [], OnOk};
 
-use crate::shape::Shape;
 use dom_set::OutOfMemory;
 use fd_prob::{Case, Items};
+use leaf_stand::Shape;
 
 /// Cases, and of each which operation it is of and how its steps end.
 #[derive(Drop)]

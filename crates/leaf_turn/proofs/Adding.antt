@@ -9,8 +9,8 @@ use Rattle.fd_prob.specs.declared.problem.Problem.{Problem}
 use Rattle.leaf_link.specs.Turns.{Turn}
 use Rattle.leaf_link.specs.Extras.{ArePlain, IsExtraOf}
 use Rattle.leaf_link.specs.KindLaws.{IsPosed}
-use Rattle.leaf_pose.specs.declared.stand.Stand.{Stand}
-use Rattle.leaf_pose.specs.Stands.{IsStandOf}
+use Rattle.leaf_stand.specs.declared.stand.Stand.{Stand}
+use Rattle.leaf_stand.specs.Stands.{IsStandOf}
 use Rattle.leaf_turn.specs.Asking.{AreExtrasOf}
 
 pub item_at : {A : Type 0} (xs : List A) (i : ℕ) (x : A) → i < length xs → x ≡ slice_index_or xs i x → drop i xs ≡ x ∷ drop (i + 1) xs

@@ -12,10 +12,10 @@ use Rattle.tpl_ast.specs.declared.template.Wish.{Wish}
 use Rattle.tpl_admit.specs.Admitting.{fixes_outcome}
 use Rattle.leaf_link.specs.Turns.{Turn}
 use Rattle.leaf_link.specs.Cases.{all_tests, tests}
-use Rattle.leaf_pose.specs.declared.stand.Stand.{Stand}
-use Rattle.leaf_pose.specs.Kinds.{kind_of}
-use Rattle.leaf_pose.specs.Posed.{allows, is_other, is_posable, reads_as}
-use Rattle.leaf_pose.specs.Stands.{turn_of}
+use Rattle.leaf_stand.specs.declared.stand.Stand.{Stand}
+use Rattle.leaf_stand.specs.Kinds.{kind_of}
+use Rattle.leaf_stand.specs.Posed.{allows, is_other, is_posable, reads_as}
+use Rattle.leaf_stand.specs.Stands.{turn_of}
 use Rattle.leaf_turn.specs.Built.{BuiltLeavesArePosable, is_built, let_op, lets_op}
 use Rattle.leaf_turn.specs.Wishes.{mandatory_of, retires, unbiased}
 

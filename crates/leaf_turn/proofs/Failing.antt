@@ -38,9 +38,9 @@ use Rattle.leaf_link.specs.Kinds.{vector_at}
 use Rattle.leaf_link.specs.Placing.{IsInstruction, StaysOrTraps, value_at}
 use Rattle.leaf_link.specs.Turns.{Turn, may_start}
 use Rattle.leaf_link.specs.Values.{Values}
-use Rattle.leaf_pose.specs.declared.stand.Stand.{Stand}
+use Rattle.leaf_stand.specs.declared.stand.Stand.{Stand}
 use Rattle.leaf_pose.specs.Fetches.{PosesFault}
-use Rattle.leaf_pose.specs.Stands.{IsStandOf}
+use Rattle.leaf_stand.specs.Stands.{IsStandOf}
 use Rattle.turn_laws.specs.Given.{turn_at}
 use Rattle.turn_laws.specs.Played.{FaultsArePlayed}
 use Rattle.leaf_turn.specs.Answers.{new_at}

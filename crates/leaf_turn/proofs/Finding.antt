@@ -19,10 +19,10 @@ use Rattle.leaf_link.specs.Cases.{all_tests, code_at, in_read}
 use Rattle.leaf_link.specs.Domains.{CandidatesAreInDomains}
 use Rattle.leaf_link.specs.Firsts.{in_first_word}
 use Rattle.leaf_link.specs.Placing.{asks_little}
-use Rattle.leaf_pose.specs.Kinds.{kind_of}
-use Rattle.leaf_pose.specs.Posed.{allows, is_other, is_posable, is_read_as, reads_as}
-use Rattle.leaf_pose.specs.Stands.{turn_of}
-use Rattle.leaf_pose.proofs.Turning.{all_same}
+use Rattle.leaf_stand.specs.Kinds.{kind_of}
+use Rattle.leaf_stand.specs.Posed.{allows, is_other, is_posable, is_read_as, reads_as}
+use Rattle.leaf_stand.specs.Stands.{turn_of}
+use Rattle.leaf_stand.proofs.Turning.{all_same}
 use Rattle.leaf_pose.proofs.Whole.{every_op}
 use Rattle.turn_laws.specs.Given.{turn_at}
 use Rattle.leaf_turn.specs.Finding.{AnswersAreFound}

@@ -13,8 +13,8 @@ use Rattle.std.proofs.lemmas.List.{get_or_past}
 use Rattle.std.proofs.lemmas.Option.{slice_get_past}
 use Rattle.tpl_ast.specs.declared.template.Template.{Template}
 use Rattle.part_machine.specs.Whole.{Whole}
-use Rattle.leaf_pose.specs.declared.stand.Name.{Name}
-use Rattle.leaf_pose.specs.Stands.{set_named, value_named}
+use Rattle.leaf_stand.specs.declared.stand.Name.{Name}
+use Rattle.leaf_stand.specs.Stands.{set_named, value_named}
 use Rattle.rv_mem.specs.Seen.{is_there, known_word}
 use Rattle.rv_script.specs.declared.access.Role.TheVariants.{Fetch}
 use Rattle.rv_script.specs.Bytes.{covers}
@@ -28,8 +28,8 @@ use Rattle.part_machine.specs.Whole.{Bare, hart_of, records_of}
 use Rattle.part_state.specs.Meaning.{IsTest}
 use Rattle.leaf_link.specs.Turns.{Turn, in_frames}
 use Rattle.leaf_link.specs.Cases.{is_some_word}
-use Rattle.leaf_pose.specs.declared.stand.Stand.{Stand}
-use Rattle.leaf_pose.specs.Stands.{IsStandOf, csr_held, held}
+use Rattle.leaf_stand.specs.declared.stand.Stand.{Stand}
+use Rattle.leaf_stand.specs.Stands.{IsStandOf, csr_held, held}
 use Rattle.turn_laws.specs.Given.{Setting, turn_at}
 use Rattle.leaf_turn.specs.Grounds.{AreNamesOf, IsSettingOf, IsUntranslated, declared_set, is_free_fetch}
 use Rattle.leaf_turn.proofs.Freedom.{same_freedom}

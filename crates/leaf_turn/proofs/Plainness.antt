@@ -8,8 +8,8 @@ use Rattle.tpl_ast.specs.declared.template.Wish.{Wish}
 use Rattle.tpl_ast.specs.Leaves.{IsPlain, atoms_of}
 use Rattle.tpl_admit.specs.Admitting.{fixes_outcome}
 use Rattle.leaf_link.specs.Extras.{AllPlain}
-use Rattle.leaf_pose.specs.Laws.{LeavesAreBetween}
-use Rattle.leaf_pose.specs.Relations.{are_between}
+use Rattle.leaf_stand.specs.Laws.{LeavesAreBetween}
+use Rattle.leaf_stand.specs.Relations.{are_between}
 use Rattle.leaf_turn.specs.Wishes.{biases_of, mandatory_of, retires, unbiased}
 
 plain_unbiased : (ws : List Wish) → AllByRecursion IsPlain (atoms_of ws) → AllByRecursion IsPlain (unbiased ws)

@@ -19,7 +19,7 @@ use Rattle.foot_map.specs.Races.{IsFootprint}
 use Rattle.tpl_admit.specs.Races.{footprints_of}
 use Rattle.leaf_link.specs.Answers.{values_in}
 use Rattle.leaf_link.specs.Firsts.{IsTurnAnswer}
-use Rattle.leaf_pose.specs.Posed.{are_posable}
+use Rattle.leaf_stand.specs.Posed.{are_posable}
 use Rattle.turn_laws.specs.Ahead.{AreVectors}
 use Rattle.leaf_turn.specs.Answers.{IsFound}
 use Rattle.leaf_turn.specs.Finding.{AnswersAreFound}
@@ -29,8 +29,8 @@ use Rattle.leaf_link.specs.Values.{fixed_value}
 use Rattle.leaf_link.specs.Ways.{AreWords, IsFetched}
 use Rattle.leaf_link.specs.Extras.{AllPlain, AreJudged, ArePlain, IsTurnLeafAnswer, Taken, kept_with}
 use Rattle.leaf_link.specs.KindLaws.{IsPosed}
-use Rattle.leaf_pose.specs.declared.stand.Stand.{Stand}
-use Rattle.leaf_pose.specs.Stands.{IsStandOf}
+use Rattle.leaf_stand.specs.declared.stand.Stand.{Stand}
+use Rattle.leaf_stand.specs.Stands.{IsStandOf}
 use Rattle.turn_laws.specs.Given.{Setting, known_at, turn_at}
 use Rattle.leaf_turn.specs.Grounds.{IsUntranslated}
 use Rattle.leaf_turn.specs.Wishes.{biases_of, mandatory_of}

@@ -7,9 +7,9 @@ use Rattle.fd_prob.specs.declared.problem.Problem.{Problem}
 use Rattle.leaf_link.specs.Turns.{Turn}
 use Rattle.leaf_link.specs.Extras.{AllPlain, ArePosedExtras}
 use Rattle.leaf_link.specs.KindLaws.{IsPosed}
-use Rattle.leaf_pose.specs.declared.shape.Shape.{Shape}
-use Rattle.leaf_pose.specs.declared.stand.Stand.{Stand}
-use Rattle.leaf_pose.specs.Stands.{IsStandOf}
+use Rattle.leaf_stand.specs.declared.shape.Shape.{Shape}
+use Rattle.leaf_stand.specs.declared.stand.Stand.{Stand}
+use Rattle.leaf_stand.specs.Stands.{IsStandOf}
 
 -- at every turn that the stand tells, the Extras are the biases over the problem
 abbrev pub AreExtrasOf : Stand → List Atom → List (List Atom) → Problem → List Extra → Type 0

@@ -10,9 +10,9 @@ use Rattle.tpl_ast.specs.declared.template.Atom.TheVariants as atoms
 use Rattle.tpl_ast.specs.declared.template.Var.TheVariants as vars
 use Rattle.tpl_ast.specs.declared.template.Wish.{Wish}
 use Rattle.tpl_ast.specs.Leaves.{same_var}
-use Rattle.leaf_pose.specs.declared.stand.Stand.{Stand}
-use Rattle.leaf_pose.specs.Kinds.{kind_of}
-use Rattle.leaf_pose.specs.Posed.{are_posable, is_other}
+use Rattle.leaf_stand.specs.declared.stand.Stand.{Stand}
+use Rattle.leaf_stand.specs.Kinds.{kind_of}
+use Rattle.leaf_stand.specs.Posed.{are_posable, is_other}
 use Rattle.leaf_turn.specs.Wishes.{mandatory_of}
 
 -- an atom lets the operation be one with this number; only sets are looked at

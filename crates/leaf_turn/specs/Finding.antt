@@ -14,9 +14,9 @@ use Rattle.leaf_link.specs.FetchAnswers.{IsFaultAnswer}
 use Rattle.leaf_link.specs.Firsts.{IsTurnAnswer}
 use Rattle.leaf_link.specs.KindLaws.{IsPosed}
 use Rattle.leaf_link.specs.Values.{Values}
-use Rattle.leaf_pose.specs.declared.stand.Stand.{Stand}
-use Rattle.leaf_pose.specs.Posed.{are_posable}
-use Rattle.leaf_pose.specs.Stands.{IsStandOf}
+use Rattle.leaf_stand.specs.declared.stand.Stand.{Stand}
+use Rattle.leaf_stand.specs.Posed.{are_posable}
+use Rattle.leaf_stand.specs.Stands.{IsStandOf}
 use Rattle.turn_laws.specs.Ahead.{AreVectors}
 use Rattle.turn_laws.specs.Given.{Setting, turn_at}
 use Rattle.leaf_turn.specs.Answers.{IsFound, IsPlayable}

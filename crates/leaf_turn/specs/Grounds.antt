@@ -9,8 +9,8 @@ use Rattle.foot_map.specs.Races.{breaks}
 use Rattle.tpl_ast.specs.declared.template.NameDecl.{NameDecl}
 use Rattle.tpl_ast.specs.declared.template.Template.{Template}
 use Rattle.part_machine.specs.Whole.{Whole, hart_of}
-use Rattle.leaf_pose.specs.declared.stand.Name.{Name}
-use Rattle.leaf_pose.specs.Stands.{set_named, value_named}
+use Rattle.leaf_stand.specs.declared.stand.Name.{Name}
+use Rattle.leaf_stand.specs.Stands.{set_named, value_named}
 use Rattle.turn_laws.specs.Given.{Setting}
 
 -- the set of a declared name

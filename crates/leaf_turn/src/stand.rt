@@ -10,7 +10,7 @@ ghost use Rattle.part_machine.specs.Whole.{records_of};
 ghost use Rattle.part_state.specs.State.{here};
 ghost use Rattle.leaf_link.specs.Turns.{in_frames};
 ghost use Rattle.leaf_link.specs.Cases.{is_some_word};
-ghost use Rattle.leaf_pose.specs.Stands.{IsStandOf};
+ghost use Rattle.leaf_stand.specs.Stands.{IsStandOf};
 ghost use Rattle.turn_laws.specs.Given.{Setting, turn_at};
 ghost use Rattle.leaf_turn.specs.Grounds.{AreNamesOf, IsSettingOf, IsUntranslated, is_free_fetch};
 

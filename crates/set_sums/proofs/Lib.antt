@@ -4,4 +4,5 @@ pub mod Quarters
 pub mod Wanted
 pub mod Grids
 pub mod Marking
-pub mod Remembered
+pub mod Turning
+pub mod Leaving

@@ -1,5 +1,5 @@
 -- Sums of steps that are near.
-use Rattle.std.proofs.Common.{◌≡◌, ℕ, ◌+◌, ◌-◌, ◌%◌, ◌^◌, ◌<◌, ◌≤◌, ◌==◌, ◌&&◌, ◌||◌, ◌++◌, ◌∷◌, [], inl, inr, Bool, true, false, List, All, Option, Some, None, IfSome, IsTrue, nat_le, nat_eq, min, length, take, get_or, slice_get, refl, sym, ap, ◌∙◌, subst, eqb-true, eq-eqb, arith}
+use Rattle.std.proofs.Common.{◌≡◌, ℕ, ◌+◌, ◌-◌, ◌%◌, ◌^◌, ◌<◌, ◌≤◌, ◌==◌, ◌&&◌, ◌||◌, ◌++◌, ◌∷◌, [], inl, inr, Bool, true, false, not, List, All, Option, Some, None, IfSome, IsTrue, nat_le, nat_eq, min, length, take, get_or, slice_get, refl, sym, ap, ◌∙◌, subst, eqb-true, eq-eqb, arith}
 use Rattle.std.specs.List.{find, position_or_len}
 use Rattle.std.specs.List.Sorted.{IsStrictlyIncreasing}
 use Rattle.std.specs.Option.{option_or}
@@ -14,7 +14,7 @@ use Rattle.dom_set.specs.declared.track.Track.{Track}
 use Rattle.dom_set.specs.Elements.{first_cyclic, is_in, is_within}
 use Rattle.dom_set.specs.Tracks.{is_on, is_on_one}
 use Rattle.set_sums.specs.declared.steps.Steps.{Steps}
-use Rattle.set_sums.specs.Near.{AreBackward, AreForward, AreInRanges, AreStillMarked, AreWholes, HasNearDifferences, HasNearOn, HaveEach, HaveMoved, HaveNear, HaveSteps, HaveSumsFrom, IsAgainst, IsAlong, IsNarrow, IsNext, IsWhole, is_at, is_at_one}
+use Rattle.set_sums.specs.Near.{AreBackward, AreForward, AreInRanges, AreStillMarked, HasNearDifferences, HasNearGap, HasNearOn, HaveEach, HaveMoved, HaveNear, HaveSteps, HaveSumsFrom, IsAgainst, IsAlong, IsAroundSteps, IsNarrow, IsNext, MayFillGap, is_at, is_at_one, is_marked}
 use Rattle.set_sums.specs.Spans.{IsOfRanges}
 use Rattle.set_sums.proofs.Grids.{added, fewer, lowered, mirrored, nearest}
 use Rattle.set_sums.proofs.Members.{element}
@@ -36,16 +36,33 @@ parts_at s n h =
 
 -- the numbers from the first one up, so far apart, that are below an end
 abbrev pub HaveEachBelow : List ℕ → ℕ → ℕ → ℕ → Type 0
-HaveEachBelow marks first end k = (x : ℕ) → first ≤ x → x < end → x % 2 ^ k ≡ first % 2 ^ k → IsTrue (has marks x)
+HaveEachBelow marks first end k = (x : ℕ) → first ≤ x → x < end → x % 2 ^ k ≡ first % 2 ^ k → IsTrue (is_marked marks x)
 
-pub each_more : (old new : List ℕ) (first number next k : ℕ) → ((x : ℕ) → has new x ≡ (has old x || nat_eq x number)) → next ≡ number + 2 ^ k → number % 2 ^ k ≡ first % 2 ^ k → HaveEachBelow old first number k → HaveEachBelow new first next k
+marked_still : (a b : Bool) → IsTrue (not a) → IsTrue (not (a && not b))
+marked_still true b h = absurd (cc h)
+marked_still false b h = refl
+
+marked_here : (a b : Bool) → IsTrue b → IsTrue (not (a && not b))
+marked_here true true h = refl
+marked_here true false h = absurd (cc h)
+marked_here false b h = refl
+
+-- what was marked is, where one number more is
+pub one_kept : (old new : List ℕ) (number x : ℕ) → has new x ≡ (has old x && not (nat_eq x number)) → IsTrue (is_marked old x) → IsTrue (is_marked new x)
+one_kept old new number x is h = subst (λ (b : Bool). IsTrue (not b)) (sym is) (marked_still (has old x) (nat_eq x number) h)
+
+-- and so is that number
+pub one_marked : (old new : List ℕ) (number x : ℕ) → has new x ≡ (has old x && not (nat_eq x number)) → x ≡ number → IsTrue (is_marked new x)
+one_marked old new number x is same = subst (λ (b : Bool). IsTrue (not b)) (sym is) (marked_here (has old x) (nat_eq x number) (eq-eqb x number same))
+
+pub each_more : (old new : List ℕ) (first number next k : ℕ) → ((x : ℕ) → has new x ≡ (has old x && not (nat_eq x number))) → next ≡ number + 2 ^ k → number % 2 ^ k ≡ first % 2 ^ k → HaveEachBelow old first number k → HaveEachBelow new first next k
 each_more old new first number next k set next_is same before x above below alike = elim (cases_lt x number) [
-  | inl less ↦ subst IsTrue (sym (set x)) (or_left (has old x) (nat_eq x number) (before x above less alike))
-  | inr more ↦ subst IsTrue (sym (set x)) (or_right (has old x) (nat_eq x number) (eq-eqb x number (nearest k number x (same ∙ sym alike) more (omega (arith, below, next_is)))))
+  | inl less ↦ one_kept old new number x (set x) (before x above less alike)
+  | inr more ↦ one_marked old new number x (set x) (nearest k number x (same ∙ sym alike) more (omega (arith, below, next_is)))
 ]
 
-pub each_kept : (first old new : List ℕ) (number : ℕ) → ((x : ℕ) → has new x ≡ (has old x || nat_eq x number)) → AreStillMarked first old → AreStillMarked first new
-each_kept first old new number set before x small h = subst IsTrue (sym (set x)) (or_left (has old x) (nat_eq x number) (before x small h))
+pub each_kept : (first old new : List ℕ) (number : ℕ) → ((x : ℕ) → has new x ≡ (has old x && not (nat_eq x number))) → AreStillMarked first old → AreStillMarked first new
+each_kept first old new number set before x small h = one_kept old new number x (set x) (before x small h)
 
 -- ---- from the base on
 
@@ -66,7 +83,7 @@ moved marks s distance base steps m x h is small =
 
 -- those with a number of the coarser that is below an end
 abbrev pub HaveSumsBelow : List ℕ → Steps → Steps → ℕ → ℕ → Type 0
-HaveSumsBelow marks fine coarse base end = (m n x : ℕ) → IsTrue (is_at fine m) → IsTrue (is_at coarse n) → n < end → m + n ≡ base + x → x < 4096 → IsTrue (has marks x)
+HaveSumsBelow marks fine coarse base end = (m n x : ℕ) → IsTrue (is_at fine m) → IsTrue (is_at coarse n) → n < end → m + n ≡ base + x → x < 4096 → IsTrue (is_marked marks x)
 
 pub below_more : (old new : List ℕ) (fine coarse : Steps) (base number next : ℕ) → next ≡ number + 2 ^ coarse.shift → number % 2 ^ coarse.shift ≡ coarse.low % 2 ^ coarse.shift → AreStillMarked old new → HaveMoved new fine number base → HaveSumsBelow old fine coarse base number → HaveSumsBelow new fine coarse base next
 below_more old new fine coarse base number next next_is same kept moves before m n x h k lt is small = elim (cases_lt n number) [
@@ -160,11 +177,11 @@ near_sum v w small word = omega (arith, small, word)
 near_word : (v : ℕ) → v < 2 ^ 32 → (2 ^ 32 - 2048 + (v + 2048) % 2 ^ 32) % 2 ^ 32 ≡ v
 near_word v small = omega (arith, small)
 
-pub near_on : (made marks : List ℕ) (tracks others : List Track) (all turned : List Steps) (ranges : List (ℕ × ℕ)) → AreForward tracks all → AreBackward others turned → HaveNear marks all turned → AreInRanges marks 4096 ranges → IsOfRanges ranges made → HasNearOn tracks others made
-near_on made marks tracks others all turned ranges ahead back sums within is v w small near word h k =
+pub near_on : (made gaps marks : List ℕ) (tracks others : List Track) (all turned : List Steps) (ranges : List (ℕ × ℕ)) → AreForward tracks all → AreBackward others turned → HaveNear gaps all turned → ((x : ℕ) → x < 4096 → IsTrue (is_marked gaps x) → IsTrue (has marks x)) → AreInRanges marks 4096 ranges → IsOfRanges ranges made → HasNearOn tracks others made
+near_on made gaps marks tracks others all turned ranges ahead back sums told within is v w small near word h k =
     let sum : ((v + w) % 2 ^ 32 + (2 ^ 32 + 2048 - w)) % 2 ^ 32 ≡ (v + 2048) % 2 ^ 32 = near_sum v w small word in
-    let marked : IsTrue (has marks ((v + 2048) % 2 ^ 32)) = subst (λ (n : ℕ). IsTrue (has marks n)) sum (sums ((v + w) % 2 ^ 32) (2 ^ 32 + 2048 - w) (ahead ((v + w) % 2 ^ 32) k) (back w h) (omega (arith, sum, near))) in
-    is.all v small (subst (λ (n : ℕ). IsTrue (is_within ranges n)) (near_word v small) (within ((v + 2048) % 2 ^ 32) near marked))
+    let marked : IsTrue (is_marked gaps ((v + 2048) % 2 ^ 32)) = subst (λ (n : ℕ). IsTrue (is_marked gaps n)) sum (sums ((v + w) % 2 ^ 32) (2 ^ 32 + 2048 - w) (ahead ((v + w) % 2 ^ 32) k) (back w h) (omega (arith, sum, near))) in
+    is.all v small (subst (λ (n : ℕ). IsTrue (is_within ranges n)) (near_word v small) (within ((v + 2048) % 2 ^ 32) near (told ((v + 2048) % 2 ^ 32) near marked)))
 
 pub by_tracks : (first second made : List ℕ) (tracks others : List Track) → All (λ w. w < 2 ^ 32) second → ((x : ℕ) → IsTrue (is_in first x) → IsTrue (is_on_one tracks x)) → ((x : ℕ) → IsTrue (is_in second x) → IsTrue (is_on_one others x)) → HasNearOn tracks others made → HasNearDifferences first second made
 by_tracks first second made tracks others words one two on v w small near h k = on v w small near (element (λ n. n < 2 ^ 32) second w words h) (two w h) (one ((v + w) % 2 ^ 32) k)
@@ -173,24 +190,11 @@ pub all_by_tracks : (near : Option (List ℕ)) (first second : List ℕ) (tracks
 all_by_tracks None first second tracks others words one two h = h
 all_by_tracks (Some made) first second tracks others words one two on = by_tracks first second made tracks others words one two on
 
--- ---- ranges as tracks
+-- ---- gaps between
 
-pub whole_at : (low top high x : ℕ) → top ≤ high → IsTrue (nat_le low x && nat_le x top) → IsTrue ((nat_le low x && nat_le x high) && (x % 2 ^ 0 == low % 2 ^ 0))
-whole_at low top high x below h =
-    let ends = and_parts (nat_le low x) (nat_le x top) h in
-    and_from (nat_le low x && nat_le x high) (x % 2 ^ 0 == low % 2 ^ 0)
-    (and_from (nat_le low x) (nat_le x high) ends.0 (le-leb x high (omega (arith, below, leb-true x top ends.1))))
-    (eq-eqb (x % 2 ^ 0) (low % 2 ^ 0) (omega arith))
-
-on_more : (all new : List Track) (t : Track) (x : ℕ) → new ≡ all ++ t ∷ [] → IsTrue (is_on_one all x || is_on t x) → IsTrue (is_on_one new x)
-on_more all new t x new_is h = subst (λ (d : List Track). IsTrue (is_on_one d x)) (sym new_is) (subst IsTrue (sym (list_any-append (λ (u : Track). is_on u x) all (t ∷ []) ∙ ap (λ (b : Bool). is_on_one all x || b) (alone (is_on t x)))) h) where
-  alone : (b : Bool) → (b || false) ≡ b
-  alone true = refl
-  alone false = refl
-
-pub wholes_more : (spans : List (ℕ × ℕ)) (all new : List Track) (i : ℕ) (t : Track) → i < length spans → new ≡ all ++ t ∷ [] → IsWhole (get_or spans i (0, 0)) t → AreWholes (take i spans) all → AreWholes (take (i + 1) spans) new
-wholes_more spans all new i t below new_is one before x h =
-    elim (either (is_within (take i spans) x) (nat_le (get_or spans i (0, 0)).0 x && nat_le x (get_or spans i (0, 0)).1) (subst IsTrue (list_any_more (λ (r : ℕ × ℕ). nat_le r.0 x && nat_le x r.1) spans i (0, 0) below) h)) [
-      | inl old ↦ on_more all new t x new_is (or_left (is_on_one all x) (is_on t x) (before x old))
-      | inr here ↦ on_more all new t x new_is (or_right (is_on_one all x) (is_on t x) (one x here))
-    ]
+-- where no sum between the hulls is a gap, each near sum is marked
+pub filled : (marks : List ℕ) (firsts others : List Steps) (low high least most from : ℕ) (answer : Bool) → IsAroundSteps firsts (low, high) → IsAroundSteps others (least, most) → from ≤ low + least → HasNearGap marks from (high + most) answer → MayFillGap marks firsts others answer
+filled marks firsts others low high least most from answer one two begin gap none m n h k near =
+    let a = one m h in
+    let b = two n k in
+    gap (m + n) (omega (arith, a.0, b.0, begin)) (omega (arith, a.1, b.1)) near none

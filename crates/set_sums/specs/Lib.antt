@@ -2,4 +2,5 @@ pub mod Near
 pub mod Remainders
 pub mod Spans
 pub mod Wanted
-pub mod Classes
+pub mod Turned
+pub mod Rests

@@ -1,24 +1,25 @@
 // Numbers below 4,096 that are marked.
-ghost use Rattle.std.specs.Prelude.{◌≡◌, ℕ, ◌+◌, ◌%◌, ◌^◌, ◌<◌, ◌||◌, nat_eq, IsTrue};
+ghost use Rattle.std.specs.Prelude.{◌≡◌, ℕ, ◌+◌, ◌*◌, ◌/◌, ◌%◌, ◌^◌, ◌<◌, ◌≤◌, ◌&&◌, ◌||◌, not, nat_eq, IfNone, IfSome, IsTrue};
 ghost use Rattle.lane_bits.specs.Pages.{has};
-ghost use Rattle.set_sums.specs.Classes.{IsClassMarked};
-ghost use Rattle.set_sums.specs.Near.{AreAllMarked};
+ghost use Rattle.set_sums.specs.Near.{AreAllMarked, AreStillMarked, HasGap, HaveAll, HaveEach, is_marked};
+ghost use Rattle.set_sums.specs.Turned.{HasRowGap, IsFirstTurned, NoneTurned, place_of};
 
 use crate::ranges::Span;
 use crate::steps::{NEAR, REACH, step};
 use lane_bits::PageBits;
 use std::marker::Model;
 
-/// Classes by up to so many low bits are remembered.
-const BITS: u32 = 12;
+/// Numbers that leave the same remainder by 2^shift stand in rows of those that leave one by 64, where the shift is below
+/// this.
+const ROWS: u32 = 6;
 
-/// Marked numbers below 4,096. Of classes of remainders of which all are marked it remembers which these are, so that
-/// they are not marked again.
+/// Numbers below 4,096 of which some are marked. Those that are not are kept twice: in their order, and by what they leave
+/// when they are divided by 64, so that those a power of two apart are found without a look at the others.
 #[derive(Drop)]
 pub struct Marks {
-    bits: PageBits,
-    // 2^shift + rest, where all numbers that leave the rest when they are divided by 2^shift are marked.
-    classes: PageBits,
+    gaps: PageBits,
+    // The same, each at 64 times what it leaves plus its quotient.
+    turned: PageBits,
 }
 
 impl Model for Marks {
@@ -26,104 +27,223 @@ impl Model for Marks {
 
     ghost Value = { List ℕ };
 
-    ghost use Rattle.set_sums.specs.Classes.{AreClassesMarked};
+    ghost use Rattle.set_sums.specs.Turned.{AreTurned};
 
-    ghost view = { λ m. m.bits };
+    ghost view = { λ m. m.gaps };
 
-    ghost invariant = { λ m. AreClassesMarked m.bits m.classes };
+    ghost invariant = { λ m. AreTurned m.gaps m.turned };
 }
 
-/// The place of the class of the number.
-fn class_of(shift: u32, number: u64) -> u16
-    requires { shift < 12 }
-    ensures place { result ≡ 2 ^ shift + number % 2 ^ shift }
+/// Where the number stands among those by what they leave.
+fn place_of(number: u64) -> u16
+    requires { number < 4096 }
+    ensures place { result ≡ place_of number }
     ensures within { result < 4096 }
 {
-    let step = step(shift);
-    (step + (number & (step - 1))) as u16
-}
-
-/// Takes out the words of a range, each plus the reach, or all numbers where not all of these are below 4,096.
-fn clear(bits: &mut PageBits, range: Span) {
-    let low = u64::from(range.0.wrapping_add(REACH as u32));
-    let high = u64::from(range.1.wrapping_add(REACH as u32));
-    if low > high || high >= NEAR {
-        *bits = PageBits::new();
-        return;
-    }
-    for number in low..high + 1 {
-        bits.clear(number as u16);
-    }
+    ((number % 64) * 64 + number / 64) as u16
 }
 
 impl Marks {
-    /// The numbers are marked that are no word of the ranges plus the reach, since these are not looked for.
-    pub fn but_for(ranges: &[Span]) -> Marks {
-        let mut bits = PageBits::multiples_of(1);
-        for range in ranges {
-            clear(&mut bits, *range);
-        }
-        Marks {
-            bits,
-            classes: PageBits::new(),
-        }
-    }
-
     /// Every number is marked.
     pub fn all() -> Marks
         ensures { AreAllMarked result }
     {
         Marks {
-            bits: PageBits::multiples_of(1),
-            classes: PageBits::new(),
+            gaps: PageBits::new(),
+            turned: PageBits::new(),
         }
+    }
+
+    /// No number is marked.
+    fn none() -> Marks {
+        Marks {
+            gaps: PageBits::multiples_of(1),
+            turned: PageBits::multiples_of(1),
+        }
+    }
+
+    /// Takes the number's mark away.
+    fn unmark(&mut self, number: u64)
+        requires { number < 4096 }
+    {
+        self.gaps.set(number as u16);
+        self.turned.set(place_of(number));
+    }
+
+    /// Takes away the marks of the words of a range, each plus the reach, or all where not all of these are below 4,096.
+    fn unmark_range(&mut self, range: Span) {
+        let low = u64::from(range.0.wrapping_add(REACH as u32));
+        let high = u64::from(range.1.wrapping_add(REACH as u32));
+        if low > high || high >= NEAR || high - low == NEAR - 1 {
+            *self = Marks::none();
+            return;
+        }
+        for number in low..high + 1 {
+            self.unmark(number);
+        }
+    }
+
+    /// The numbers are marked that are no word of the ranges plus the reach, since these are not looked for.
+    pub fn but_for(ranges: &[Span]) -> Marks {
+        let mut marks = Marks::all();
+        for range in ranges {
+            marks.unmark_range(*range);
+        }
+        marks
     }
 
     /// Marks the number.
-    pub fn set(&mut self, number: u16)
+    fn mark(&mut self, number: u64)
         requires { number < 4096 }
-        ensures { (x : ℕ) → has self.new x ≡ (has self.old x || nat_eq x number) }
+        ensures { (x : ℕ) → has self.new x ≡ (has self.old x && not (nat_eq x number)) }
     {
-        self.bits.set(number);
+        self.gaps.clear(number as u16);
+        self.turned.clear(place_of(number));
     }
 
-    /// Whether all numbers that leave the same rest when they are divided by 2^shift are known to be marked.
-    pub fn has_class(&self, shift: u32, number: u64) -> bool
-        requires { shift < 32 }
-        ensures { IsTrue result → IsClassMarked self.now shift number }
+    /// The first number from the given one up that is not marked.
+    fn first_gap(&self, from: u64) -> Option<u64>
+        requires { from ≤ 4096 }
+        ensures from { IfSome result (λ v. from ≤ v) }
+        ensures within { IfSome result (λ v. v < 4096) }
+        ensures first { IfSome result (λ v. (x : ℕ) → from ≤ x → x < v → IsTrue (is_marked self.now x)) }
+        ensures none { IfNone result ((x : ℕ) → from ≤ x → IsTrue (is_marked self.now x)) }
     {
-        if shift >= BITS {
-            return false;
+        match self.gaps.first_from(from as u16) {
+            Some(number) => Some(u64::from(number)),
+            None => None,
         }
-        self.classes.get(class_of(shift, number))
     }
 
-    /// Remembers that all these numbers are marked.
-    pub fn keep_class(&mut self, shift: u32, number: u64)
-        requires within { shift < 32 }
-        requires marked { IsClassMarked self.old shift number }
-        ensures { self.new ≡ self.old }
+    /// The first number that is not marked, from the place on, by what the numbers leave.
+    fn first_turned(&self, from: u16) -> Option<u64>
+        ensures some { IfSome result (IsFirstTurned self.now from) }
+        ensures none { IfNone result (NoneTurned self.now from) }
     {
-        if shift >= BITS {
+        match self.turned.first_from(from) {
+            Some(place) => Some(u64::from(place % 64) * 64 + u64::from(place / 64)),
+            None => None,
+        }
+    }
+
+    /// Marks the numbers from the first to the last one.
+    fn mark_range(&mut self, first: u64, last: u64)
+        requires { last < 4096 }
+        ensures marked { HaveAll self.new first last }
+        ensures kept { AreStillMarked self.old self.new }
+    {
+        if first == 0 && last == NEAR - 1 {
+            *self = Marks::all();
             return;
         }
-        self.classes.set(class_of(shift, number));
+        let mut from = first.min(NEAR);
+        while let Some(number) = self.first_gap(from) {
+            if number > last {
+                return;
+            }
+            self.mark(number);
+            from = number + 1;
+        }
     }
 
-    /// Whether every number is marked.
-    pub fn is_full(&self) -> bool
-        ensures { IsTrue result → AreAllMarked self.now }
+    /// Marks the numbers from the first to the last one that are a multiple of 64 from the first.
+    fn mark_row(&mut self, first: u64, last: u64)
+        requires ordered { first ≤ last }
+        requires end { last < 4096 }
+        ensures marked { HaveEach self.new first last 6 }
+        ensures kept { AreStillMarked self.old self.new }
     {
-        PageBits::multiples_of(1)
-            .and_not(&self.bits)
-            .first_from(0)
-            .is_none()
+        let mut from = place_of(first);
+        let end = from + ((last - first) / 64) as u16;
+        while let Some(number) = self.first_turned(from) {
+            let place = place_of(number);
+            if place > end {
+                return;
+            }
+            self.mark(number);
+            from = place + 1;
+        }
+    }
+
+    /// Marks the numbers from the first to the last one, 2^shift apart, one row after another.
+    fn mark_rows(&mut self, first: u64, last: u64, shift: u32)
+        requires end { last < 4096 }
+        requires within { shift ≤ 6 }
+        ensures marked { HaveEach self.new first last shift }
+        ensures kept { AreStillMarked self.old self.new }
+    {
+        let step = step(shift);
+        let end = last.min(first.saturating_add(63));
+        let mut number = first;
+        while number <= end {
+            self.mark_row(number, last);
+            number += step;
+        }
+    }
+
+    /// The same, one number after another.
+    fn mark_singly(&mut self, first: u64, last: u64, shift: u32)
+        requires end { last < 4096 }
+        requires within { shift < 32 }
+        ensures marked { HaveEach self.new first last shift }
+        ensures kept { AreStillMarked self.old self.new }
+    {
+        let step = step(shift);
+        let mut number = first;
+        while number <= last {
+            self.mark(number);
+            number += step;
+        }
+    }
+
+    /// Marks the numbers from the first to the last one, 2^shift apart.
+    pub fn mark_each(&mut self, first: u64, last: u64, shift: u32)
+        requires end { last < 4096 }
+        requires within { shift < 32 }
+        ensures marked { HaveEach self.new first last shift }
+        ensures kept { AreStillMarked self.old self.new }
+    {
+        if shift == 0 {
+            self.mark_range(first, last);
+        } else if shift < ROWS {
+            self.mark_rows(first, last, shift);
+        } else {
+            self.mark_singly(first, last, shift);
+        }
+    }
+
+    /// Whether a number from the first to the last one is not marked.
+    pub fn has_gap(&self, first: u64, last: u64) -> bool
+        ensures { HasGap self.now first last result }
+    {
+        match self.first_gap(first.min(NEAR)) {
+            Some(number) => number <= last,
+            None => false,
+        }
+    }
+
+    /// Whether a number from the first to the last one that leaves this when it is divided by 64 is not marked.
+    pub fn has_row_gap(&self, rest: u64, first: u64, last: u64) -> bool
+        requires rest { rest < 64 }
+        ensures { HasRowGap self.now rest first last result }
+    {
+        if first >= NEAR {
+            return false;
+        }
+        let begin = first + (rest + 64 - first % 64) % 64;
+        if begin >= NEAR {
+            return false;
+        }
+        match self.first_turned(place_of(begin)) {
+            Some(number) => number % 64 == rest && number <= last,
+            None => false,
+        }
     }
 
     /// The marked numbers.
     pub fn page(self) -> PageBits
-        ensures { result ≡ self }
+        ensures { (x : ℕ) → x < 4096 → IsTrue (is_marked self x) → IsTrue (has result x) }
     {
-        self.bits
+        PageBits::multiples_of(1).and_not(&self.gaps)
     }
 }

@@ -1,24 +1,20 @@
 // Differences of two sets that are near 0, by the places and the low bits of their elements together.
-ghost use Rattle.std.specs.Prelude.{◌≡◌, ℕ, ◌+◌, ◌-◌, ◌*◌, ◌%◌, ◌^◌, ◌<◌, ◌≤◌, false, IfOk, IfSome, IsTrue};
-ghost use Rattle.lane_bits.specs.Pages.{has};
-ghost use Rattle.set_sums.specs.Near.{AreAllMarked, AreBackward, AreForward, AreInRanges, AreStillMarked, AreWholes, HasNearDifferences, HasNearOn, HaveEach, HaveMoved, HaveNear, HaveNearOf, HaveNearWith, HaveSteps, HaveSumsFrom, IsAgainst, IsAlong, IsAroundSteps, IsNarrow, IsNearMet, IsNext, IsWhole, MayBeNear};
+ghost use Rattle.std.specs.Prelude.{◌≡◌, ℕ, ◌+◌, ◌-◌, ◌*◌, ◌%◌, ◌^◌, ◌<◌, ◌≤◌, IfOk, IfSome, IsTrue};
+ghost use Rattle.set_sums.specs.Near.{AreBackward, AreForward, AreInRanges, AreStillMarked, HasGapFrom, HasNearDifferences, HasNearGap, HasNearOn, HaveMoved, HaveNear, HaveNearOf, HaveNearWith, HaveSteps, HaveSumsFrom, IsAgainst, IsAlong, IsAroundSteps, IsNarrow, IsNext, MayFillGap};
 
 use crate::marks::Marks;
 use crate::ranges::{Span, WORDS, push_round, words_of};
+use crate::rests::{has_gap_leaving, rests_of, sums_of};
 use crate::steps::{NEAR, REACH, Steps, step};
 use dom_set::{OutOfMemory, Set, Track};
 use lane_bits::PageBits;
 use std::alloc::Global;
 
-/// How many pairs of ranges are looked at, at most, before every number is marked.
-const PLACES: u64 = 2_000_000;
+/// How many pairs of tracks are looked at, at most.
+const TRACKS: u64 = 4_000_000;
 
-/// How many pairs of tracks are looked at, at most. They are asked again and again, and where they tell nothing there
-/// is what places tell.
-const TRACKS: u64 = 200_000;
-
-/// So many marks count as one pair.
-const MARKS: u64 = 16;
+/// Steps that are so much coarser leave few numbers near.
+const COARSE: u32 = 6;
 
 /// How many steps are looked at one by one.
 const BLOCK: usize = 16;
@@ -85,49 +81,9 @@ fn next_on(low: u64, shift: u32, from: u64) -> u64
     }
 }
 
-/// Marks every number, and lets no more be looked at.
-fn mark_all(marks: &mut Marks, left: &mut u64)
-    ensures { AreAllMarked marks.new }
-{
-    *marks = Marks::all();
-    *left = 0;
-}
-
-/// Marks the numbers from the first to the last one, 2^shift apart.
-fn mark_each(marks: &mut Marks, first: u64, last: u64, shift: u32)
-    requires end { last < 4096 }
-    requires within { shift < 32 }
-    ensures marked { HaveEach marks.new first last shift }
-    ensures kept { AreStillMarked marks.old marks.new }
-{
-    let step = step(shift);
-    let mut number = first;
-    while number <= last {
-        marks.set(number as u16);
-        number += step;
-    }
-}
-
-/// The same, unless all numbers of their class are marked. Whether they are all of it is remembered.
-fn mark_class(marks: &mut Marks, left: &mut u64, first: u64, last: u64, shift: u32)
-    requires end { last < 4096 }
-    requires within { shift < 32 }
-    ensures marked { HaveEach marks.new first last shift }
-    ensures kept { AreStillMarked marks.old marks.new }
-{
-    if marks.has_class(shift, first) {
-        return;
-    }
-    mark_each(marks, first, last, shift);
-    *left = left.saturating_sub((last.saturating_sub(first) >> shift) / MARKS);
-    if first < step(shift) && next_on(first, shift, last + 1) >= NEAR {
-        marks.keep_class(shift, first);
-    }
-}
-
 /// Marks the numbers from the lowest to the highest one that are a multiple of 2^shift from the lowest, from the base
 /// on.
-fn mark_steps(marks: &mut Marks, left: &mut u64, low: u64, high: u64, shift: u32, base: u64)
+fn mark_steps(marks: &mut Marks, low: u64, high: u64, shift: u32, base: u64)
     requires within { shift < 32 }
     requires fits { base ≤ 2 ^ 33 }
     ensures marked { HaveSteps marks.new low high shift base }
@@ -137,18 +93,14 @@ fn mark_steps(marks: &mut Marks, left: &mut u64, low: u64, high: u64, shift: u32
     if end < base {
         return;
     }
-    if shift == 0 && low <= base && high >= base + NEAR - 1 {
-        mark_all(marks, left);
-        return;
-    }
     let first = next_on(low, shift, base);
     if first <= end {
-        mark_class(marks, left, first - base, end - base, shift);
+        marks.mark_each(first - base, end - base, shift);
     }
 }
 
 /// Marks the sums of a number and one of the steps.
-fn mark_moved(marks: &mut Marks, left: &mut u64, steps: Steps, distance: u64, base: u64)
+fn mark_moved(marks: &mut Marks, steps: Steps, distance: u64, base: u64)
     requires far { distance ≤ 2 ^ 33 }
     requires fits { base ≤ 2 ^ 33 }
     ensures marked { HaveMoved marks.new steps distance base }
@@ -156,7 +108,6 @@ fn mark_moved(marks: &mut Marks, left: &mut u64, steps: Steps, distance: u64, ba
 {
     mark_steps(
         marks,
-        left,
         steps.low + distance,
         steps.high + distance,
         steps.shift,
@@ -164,86 +115,87 @@ fn mark_moved(marks: &mut Marks, left: &mut u64, steps: Steps, distance: u64, ba
     );
 }
 
-/// Marks the sums of two steps, by one number of the coarser after another.
-fn mark_apart(marks: &mut Marks, left: &mut u64, fine: Steps, coarse: Steps, base: u64)
+/// Marks the sums of two steps, by one number of the other after another.
+fn mark_apart(marks: &mut Marks, whole: Steps, other: Steps, base: u64)
     requires { base ≤ 2 ^ 33 }
-    ensures marked { HaveSumsFrom marks.new fine coarse base }
+    ensures marked { HaveSumsFrom marks.new whole other base }
     ensures kept { AreStillMarked marks.old marks.new }
 {
-    let step = step(coarse.shift);
-    let last = coarse.high.min((base + NEAR - 1).saturating_sub(fine.low));
-    let mut number = next_on(coarse.low, coarse.shift, base.saturating_sub(fine.high));
+    let step = step(other.shift);
+    let last = other.high.min((base + NEAR - 1).saturating_sub(whole.low));
+    let mut number = next_on(other.low, other.shift, base.saturating_sub(whole.high));
     while number <= last {
-        mark_moved(marks, left, fine, number, base);
+        mark_moved(marks, whole, number, base);
         number += step;
     }
 }
 
-/// Marks the sums of two steps: all that are as far apart as the finer, where these leave no gap.
-fn mark_finer(marks: &mut Marks, left: &mut u64, fine: Steps, coarse: Steps, base: u64)
+/// Marks the sums of two steps: all that are as far apart as the finer, where these leave no gap, and else by one number
+/// after another of the one that has fewer near.
+fn mark_finer(marks: &mut Marks, fine: Steps, coarse: Steps, base: u64)
     requires finer { fine.shift ≤ coarse.shift }
     requires fits { base ≤ 2 ^ 33 }
     ensures marked { HaveSumsFrom marks.new fine coarse base }
     ensures kept { AreStillMarked marks.old marks.new }
 {
-    if (fine.high - fine.low) + step(fine.shift) < step(coarse.shift) {
-        mark_apart(marks, left, fine, coarse, base);
-        return;
+    if (fine.high - fine.low) + step(fine.shift) >= step(coarse.shift) {
+        mark_steps(
+            marks,
+            fine.low + coarse.low,
+            fine.high + coarse.high,
+            fine.shift,
+            base,
+        );
+    } else if coarse.shift < COARSE {
+        mark_apart(marks, coarse, fine, base);
+    } else {
+        mark_apart(marks, fine, coarse, base);
     }
-    mark_steps(
-        marks,
-        left,
-        fine.low + coarse.low,
-        fine.high + coarse.high,
-        fine.shift,
-        base,
-    );
 }
 
 /// Marks the sums of two steps from the base on.
-fn mark_sums(marks: &mut Marks, left: &mut u64, first: Steps, other: Steps, base: u64)
+fn mark_sums(marks: &mut Marks, first: Steps, other: Steps, base: u64)
     requires { base ≤ 2 ^ 33 }
     ensures marked { HaveSumsFrom marks.new first other base }
     ensures kept { AreStillMarked marks.old marks.new }
 {
-    if first.high + other.high < base || first.low + other.low > base + NEAR - 1 {
+    if !has_gap_from(marks, first.low + other.low, first.high + other.high, base) {
         return;
     }
     if first.shift <= other.shift {
-        mark_finer(marks, left, first, other, base);
+        mark_finer(marks, first, other, base);
     } else {
-        mark_finer(marks, left, other, first, base);
+        mark_finer(marks, other, first, base);
     }
 }
 
 /// Marks the sums of two steps, modulo 2^32.
-fn mark_pair(marks: &mut Marks, left: &mut u64, first: Steps, other: Steps)
+fn mark_pair(marks: &mut Marks, first: Steps, other: Steps)
     ensures marked { HaveNearOf marks.new first other }
     ensures kept { AreStillMarked marks.old marks.new }
 {
-    *left = left.saturating_sub(1);
-    mark_sums(marks, left, first, other, 0);
-    mark_sums(marks, left, first, other, WORDS);
-    mark_sums(marks, left, first, other, 2 * WORDS);
+    mark_sums(marks, first, other, 0);
+    mark_sums(marks, first, other, WORDS);
+    mark_sums(marks, first, other, 2 * WORDS);
 }
 
 /// Marks the sums of the first steps and each of the others.
-fn mark_with(marks: &mut Marks, left: &mut u64, first: Steps, others: &[Steps])
+fn mark_with(marks: &mut Marks, first: Steps, others: &[Steps])
     ensures marked { HaveNearWith marks.new first others.now }
     ensures kept { AreStillMarked marks.old marks.new }
 {
     for other in others {
-        mark_pair(marks, left, first, *other);
+        mark_pair(marks, first, *other);
     }
 }
 
 /// Marks the sums of each of the steps and each of the others.
-fn mark_block(marks: &mut Marks, left: &mut u64, firsts: &[Steps], others: &[Steps])
+fn mark_block(marks: &mut Marks, firsts: &[Steps], others: &[Steps])
     ensures marked { HaveNear marks.new firsts.now others.now }
     ensures kept { AreStillMarked marks.old marks.new }
 {
     for first in firsts {
-        mark_with(marks, left, *first, others);
+        mark_with(marks, *first, others);
     }
 }
 
@@ -261,37 +213,55 @@ fn hull(all: &[Steps]) -> (u64, u64)
     (low, high)
 }
 
-/// Whether a number from the lowest to the highest is near.
-fn is_near(low: u64, high: u64) -> bool
-    ensures { IsNearMet low high result }
+/// Whether a number from the lowest to the highest is near, from the base on, and is not marked.
+fn has_gap_from(marks: &Marks, low: u64, high: u64, base: u64) -> bool
+    ensures { HasGapFrom marks.now low high base result }
 {
-    low < NEAR || (low < WORDS + NEAR && high >= WORDS) || high >= 2 * WORDS
+    high >= base && marks.has_gap(low.saturating_sub(base), high - base)
 }
 
-/// Whether a sum may be near.
-fn may_be_near(firsts: &[Steps], others: &[Steps]) -> bool
-    ensures { MayBeNear firsts.now others.now result }
+/// Whether a number from the lowest to the highest is near and is not marked.
+fn has_near_gap(marks: &Marks, low: u64, high: u64) -> bool
+    requires { high ≤ 2 ^ 33 + 4096 }
+    ensures { HasNearGap marks.now low high result }
+{
+    has_gap_from(marks, low, high, 0)
+        || has_gap_from(marks, low, high, WORDS)
+        || has_gap_from(marks, low, high, 2 * WORDS)
+}
+
+/// Whether a sum may be near and not marked, by ranges around the steps and by what these leave when they are divided by 64.
+fn may_fill_gap(marks: &Marks, firsts: &[Steps], others: &[Steps]) -> bool
+    ensures { MayFillGap marks.now firsts.now others.now result }
 {
     let (low, high) = hull(firsts);
     let (least, most) = hull(others);
-    is_near(low.saturating_add(least), high + most)
+    let low = low.saturating_add(least);
+    let high = high + most;
+    if !has_near_gap(marks, low, high) {
+        return false;
+    }
+    let rests = sums_of(&rests_of(firsts), &rests_of(others));
+    has_gap_leaving(marks, &rests, low, high)
 }
 
 /// Marks the sums of each of the steps and each of the others, by halves of the longer list where these are not few, so
-/// that what is far from 0 is passed over as a whole.
+/// that what gives nothing that is near and not marked is passed over as a whole. Marks every number where no pairs are
+/// left to be looked at.
 fn mark_pairs(marks: &mut Marks, left: &mut u64, firsts: &[Steps], others: &[Steps])
     ensures marked { HaveNear marks.new firsts.now others.now }
     ensures kept { AreStillMarked marks.old marks.new }
 {
     if *left == 0 {
-        mark_all(marks, left);
+        *marks = Marks::all();
         return;
     }
-    if marks.is_full() || !may_be_near(firsts, others) {
+    if !may_fill_gap(marks, firsts, others) {
         return;
     }
     if firsts.len() <= BLOCK && others.len() <= BLOCK {
-        mark_block(marks, left, firsts, others);
+        *left = left.saturating_sub((firsts.len() * others.len()) as u64);
+        mark_block(marks, firsts, others);
         return;
     }
     if firsts.len() < others.len() {
@@ -374,30 +344,8 @@ pub fn is_narrow(domain: &Set) -> bool
     }
 }
 
-/// The numbers of a range.
-fn whole(span: Span) -> Track
-    ensures { IsWhole span result }
-{
-    Track {
-        low: span.0,
-        high: span.0.max(span.1),
-        shift: 0,
-    }
-}
-
-/// The numbers of ranges.
-fn wholes(alloc: Global, spans: &[Span]) -> Result<Vec<Track>, OutOfMemory>
-    ensures { IfOk result (λ tracks. AreWholes spans.now tracks.items) }
-{
-    let mut tracks = Vec::new(alloc);
-    for span in spans {
-        tracks.push(whole(*span))?;
-    }
-    Ok(tracks)
-}
-
-/// The near words that give a number of the first tracks when one of the others is added, those that are marked from
-/// the start, and perhaps some that are in none of the classes; nothing where it would take more pairs than are to be
+/// The near words that give a number of the first tracks when one of the others is added, those that are in none of the
+/// wanted ranges, and perhaps some that are in none of the classes; nothing where it would take more pairs than are to be
 /// looked at.
 fn near_on(
     alloc: Global,
@@ -405,14 +353,13 @@ fn near_on(
     others: &[Track],
     wanted: &[Span],
     classes: &Set,
-    most: u64,
 ) -> Result<Option<Set>, OutOfMemory>
     ensures { IfOk result (λ near. IfSome near (HasNearOn firsts.now others.now)) }
 {
     let firsts = forward(alloc, firsts)?;
     let others = backward(alloc, others)?;
     let mut marks = Marks::but_for(wanted);
-    let mut left = most;
+    let mut left = TRACKS;
     mark_pairs(&mut marks, &mut left, &firsts, &others);
     if left == 0 {
         return Ok(None);
@@ -422,46 +369,8 @@ fn near_on(
     Ok(Some(words))
 }
 
-/// The near words that give an element of the first set when one of the second is added, by the places of the elements
-/// alone.
-fn near_by_places(
-    alloc: Global,
-    first: &Set,
-    second: &Set,
-    wanted: &[Span],
-    classes: &Set,
-) -> Result<Option<Set>, OutOfMemory>
-    ensures { IfOk result (λ near. IfSome near (HasNearDifferences first.now second.now)) }
-{
-    second.element_laws();
-    let spans = first.spans(alloc)?;
-    let firsts = wholes(alloc, &spans)?;
-    let spans = second.spans(alloc)?;
-    let others = wholes(alloc, &spans)?;
-    let near = near_on(alloc, &firsts, &others, wanted, classes, PLACES)?;
-    Ok(near)
-}
-
-/// The same by places and low bits.
-fn near_by_tracks(
-    alloc: Global,
-    first: &Set,
-    second: &Set,
-    wanted: &[Span],
-    classes: &Set,
-) -> Result<Option<Set>, OutOfMemory>
-    ensures { IfOk result (λ near. IfSome near (HasNearDifferences first.now second.now)) }
-{
-    second.element_laws();
-    let firsts = first.tracks(alloc)?;
-    let others = second.tracks(alloc)?;
-    let near = near_on(alloc, &firsts, &others, wanted, classes, TRACKS)?;
-    Ok(near)
-}
-
 /// The near words that give an element of the first set when one of the second is added, and perhaps some that are in
-/// none of the classes or not in the domain; nothing where it would take too long to tell them. Places come first, so
-/// that low bits are looked at only for words that places leave.
+/// none of the classes or not in the domain; nothing where it would take too long to tell them.
 pub fn near_differences(
     alloc: Global,
     first: &Set,
@@ -471,18 +380,10 @@ pub fn near_differences(
 ) -> Result<Option<Set>, OutOfMemory>
     ensures { IfOk result (λ near. IfSome near (HasNearDifferences first.now second.now)) }
 {
+    second.element_laws();
     let wanted = domain.spans(alloc)?;
-    let Some(places) = near_by_places(alloc, first, second, &wanted, classes)? else {
-        let near = near_by_tracks(alloc, first, second, &wanted, classes)?;
-        return Ok(near);
-    };
-    let left = places.and(alloc, domain)?;
-    let wanted = left.spans(alloc)?;
-    match near_by_tracks(alloc, first, second, &wanted, classes)? {
-        Some(tracks) => {
-            let near = tracks.and(alloc, &places)?;
-            Ok(Some(near))
-        }
-        None => Ok(Some(places)),
-    }
+    let firsts = first.tracks(alloc)?;
+    let others = second.tracks(alloc)?;
+    let near = near_on(alloc, &firsts, &others, &wanted, classes)?;
+    Ok(near)
 }

@@ -18,7 +18,7 @@ pub enum Wanted {
 }
 
 /// The words of the domain that give an element of the first set when one of the second is added: where the domain is
-/// near 0 by places and low bits together, unless that takes too long, and else by ranges.
+/// near 0 by places and low bits together, unless there are too many pairs for that, and else by ranges.
 fn differences_of(
     alloc: Global,
     first: &Set,

@@ -1,5 +1,5 @@
 use Rattle.std.proofs.Common.{arith}
-use Rattle.dom_set.proofs.Times.{total_rest, total_done, total_fits}
+use Rattle.set_pieces.proofs.Times.{total_rest, total_done, total_fits}
 use Rattle.dom_set.proofs.lists.count_below.Goals as goal
 
 pub overflow_add-count : goal.overflow_add-count

@@ -1,6 +1,6 @@
 use Rattle.std.proofs.Common.{ℕ, Option, sym, subst}
-use Rattle.dom_set.specs.Pieces.{holds}
-use Rattle.dom_set.specs.Ends.{IsLast}
+use Rattle.set_pieces.specs.Pieces.{holds}
+use Rattle.set_pieces.specs.Ends.{IsLast}
 use Rattle.std.proofs.Common.{take, ◌+◌}
 use Rattle.dom_set.proofs.Lasts.{last_more}
 use Rattle.dom_set.proofs.lists.last.Goals as goal

@@ -1,7 +1,7 @@
 use Rattle.std.proofs.Common.{ℕ, ◌≤◌, ◌||◌, Bool, Option, Some, ap, subst, arith}
-use Rattle.dom_set.specs.declared.piece.Piece.{Piece}
-use Rattle.dom_set.specs.Pieces.{in_piece}
-use Rattle.dom_set.specs.Ends.{IsFirstFrom}
+use Rattle.set_pieces.specs.declared.piece.Piece.{Piece}
+use Rattle.set_pieces.specs.Pieces.{in_piece}
+use Rattle.set_pieces.specs.Ends.{IsFirstFrom}
 use Rattle.dom_set.proofs.Merging.{below_first}
 use Rattle.dom_set.proofs.lists.nearer.Goals as goal
 

@@ -1,7 +1,7 @@
 use Rattle.std.proofs.Common.{◌≡◌, ◌+◌, ap, ◌∙◌, arith}
-use Rattle.dom_set.specs.Counting.{total}
-use Rattle.dom_set.specs.Pieces.{times}
-use Rattle.dom_set.proofs.Totals.{total_none, total_next}
+use Rattle.set_pieces.specs.Counting.{total}
+use Rattle.set_pieces.specs.Pieces.{times}
+use Rattle.set_pieces.proofs.Totals.{total_none, total_next}
 use Rattle.dom_set.proofs.lists.nth.Goals as goal
 
 pub loop-end-init : goal.loop-end-init

@@ -1,6 +1,6 @@
 use Rattle.std.proofs.Common.{inl, inr, sym, arith}
 use Rattle.std.proofs.lemmas.Bool.{cases_lt}
-use Rattle.dom_set.proofs.Pages.{one_holds}
+use Rattle.set_pieces.proofs.Pages.{one_holds}
 use Rattle.dom_set.proofs.lists.pages_end.Goals as goal
 
 pub loop-p-preserved : goal.loop-p-preserved

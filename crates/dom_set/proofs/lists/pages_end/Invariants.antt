@@ -1,6 +1,6 @@
 use Rattle.std.proofs.Common.{ℕ, ◌<◌, ◌≤◌, ◌^◌}
-use Rattle.dom_set.specs.Pieces.{holds}
-use Rattle.dom_set.specs.Ends.{HasPage}
+use Rattle.set_pieces.specs.Pieces.{holds}
+use Rattle.set_pieces.specs.Ends.{HasPage}
 use Rattle.dom_set.proofs.lists.pages_end.Given as goal
 
 abbrev pub invariant-loop-p : goal.invariant-loop-p

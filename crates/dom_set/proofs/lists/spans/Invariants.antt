@@ -1,7 +1,7 @@
 use Rattle.std.proofs.Common.{◌≡◌, ℕ, true, All, take}
 use Rattle.dom_set.specs.Elements.{is_within}
-use Rattle.dom_set.specs.Pieces.{holds}
-use Rattle.dom_set.specs.Ends.{AreEnds}
+use Rattle.set_pieces.specs.Pieces.{holds}
+use Rattle.set_pieces.specs.Ends.{AreEnds}
 use Rattle.dom_set.proofs.lists.spans.Given as goal
 
 abbrev pub invariant-loop-p : goal.invariant-loop-p

@@ -1,11 +1,11 @@
 use Rattle.std.proofs.Common.{◌≡◌, ◌^◌, ◌&&◌, ◌||◌, leb, sym, ◌∙◌, arith}
 use Rattle.std.proofs.lemmas.Nat.{pow_pos}
-use Rattle.dom_set.specs.Patterns.{matches}
-use Rattle.dom_set.specs.Runs.{in_run}
-use Rattle.dom_set.specs.Pieces.{in_piece}
+use Rattle.set_pieces.specs.Patterns.{matches}
+use Rattle.set_pieces.specs.Runs.{in_run}
+use Rattle.set_pieces.specs.Pieces.{in_piece}
 use Rattle.dom_set.proofs.Merging.{multiple_is, joined_is}
-use Rattle.dom_set.proofs.Pieces.{and_all}
-use Rattle.dom_set.proofs.Without.{whole_piece}
+use Rattle.set_pieces.proofs.Pieces.{and_all}
+use Rattle.set_pieces.proofs.Without.{whole_piece}
 use Rattle.dom_set.proofs.pairs.joined.Goals as goal
 
 pub returns-clause-held : goal.returns-clause-held

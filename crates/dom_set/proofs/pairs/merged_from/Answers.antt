@@ -1,10 +1,10 @@
 use Rattle.std.proofs.Common.{◌≡◌, ℕ, ◌+◌, ◌<◌, ◌≤◌, ◌∷◌, inl, inr, List, Bool, ◌||◌, suc, length, get_or, drop, sym, ap, ◌∙◌, subst, arith}
 use Rattle.std.proofs.lemmas.Bool.{cases_lt, false≢true}
 use Rattle.std.proofs.lemmas.List.{drop_all, get_or-drop, get_or_read, length-drop}
-use Rattle.dom_set.specs.declared.piece.Piece.{Piece}
-use Rattle.dom_set.specs.Counting.{one}
-use Rattle.dom_set.specs.Pieces.{in_piece, times, holds, IsMultiples}
-use Rattle.dom_set.proofs.Times.{rest_is, times_push}
+use Rattle.set_pieces.specs.declared.piece.Piece.{Piece}
+use Rattle.set_pieces.specs.Counting.{one}
+use Rattle.set_pieces.specs.Pieces.{in_piece, times, holds, IsMultiples}
+use Rattle.set_pieces.proofs.Times.{rest_is, times_push}
 use Rattle.dom_set.proofs.Merging.{apart_from_rest, or_regroup, no_more}
 use Rattle.dom_set.proofs.pairs.merged_from.Goals as goal
 use Rattle.dom_set.proofs.pairs.merged_from.Goals.{then-touches, else-touches+in_ok-push}

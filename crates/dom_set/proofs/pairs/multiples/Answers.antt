@@ -1,10 +1,10 @@
 use Rattle.std.proofs.Common.{◌^◌, refl, ◌∙◌}
 use Rattle.std.proofs.lemmas.Nat.{pow_pos}
-use Rattle.dom_set.specs.Runs.{in_run}
-use Rattle.dom_set.specs.Pieces.{in_piece}
-use Rattle.dom_set.proofs.Low.{rounded, multiples_are, no_multiples}
+use Rattle.set_pieces.specs.Runs.{in_run}
+use Rattle.set_pieces.specs.Pieces.{in_piece}
+use Rattle.set_pieces.proofs.Low.{rounded, multiples_are, no_multiples}
 use Rattle.dom_set.proofs.Merging.{multiple_is}
-use Rattle.dom_set.proofs.Pieces.{and_all}
+use Rattle.set_pieces.proofs.Pieces.{and_all}
 use Rattle.dom_set.proofs.pairs.multiples.Goals as goal
 
 pub returns-then-last-first-clause-held : goal.returns-then-last-first-clause-held

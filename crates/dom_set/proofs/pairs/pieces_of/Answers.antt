@@ -1,9 +1,9 @@
 use Rattle.std.proofs.Common.{ℕ, List, ◌%◌, ◌&&◌, eqb, sym, ap, ◌∙◌, rules}
 use Rattle.std.proofs.lemmas.List.Sorted.{All-permutation, list_any-IsPermutation, IsNonDecreasingBy-from_sort_by_key}
 use Rattle.dom_set.specs.Elements.{is_within}
-use Rattle.dom_set.specs.declared.piece.Piece.{Piece}
-use Rattle.dom_set.proofs.Times.{holds_once}
-use Rattle.dom_set.specs.Pieces.{in_piece, holds, IsMultiples}
+use Rattle.set_pieces.specs.declared.piece.Piece.{Piece}
+use Rattle.set_pieces.proofs.Times.{holds_once}
+use Rattle.set_pieces.specs.Pieces.{in_piece, holds, IsMultiples}
 use Rattle.dom_set.proofs.pairs.pieces_of.Goals as goal
 
 pub merged-requires-clause-multiples : goal.merged-requires-clause-multiples

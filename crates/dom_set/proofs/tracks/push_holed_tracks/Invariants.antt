@@ -1,6 +1,6 @@
 use Rattle.std.proofs.Common.{◌≡◌, ℕ, true, false}
-use Rattle.dom_set.specs.Patterns.{matches_below}
-use Rattle.dom_set.specs.Runs.{in_run}
+use Rattle.set_pieces.specs.Patterns.{matches_below}
+use Rattle.set_pieces.specs.Runs.{in_run}
 use Rattle.dom_set.specs.Tracks.{is_on_one, AreKept}
 use Rattle.dom_set.proofs.tracks.push_holed_tracks.Given as goal
 

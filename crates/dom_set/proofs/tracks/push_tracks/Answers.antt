@@ -1,5 +1,5 @@
 use Rattle.dom_set.proofs.Tracked.{in_holed}
-use Rattle.dom_set.proofs.Without.{own_run}
+use Rattle.set_pieces.proofs.Without.{own_run}
 use Rattle.dom_set.proofs.tracks.push_tracks.Goals as goal
 
 pub returns-in_ok-push_holed_tracks-in-Some-clause-covered : goal.returns-in_ok-push_holed_tracks-in-Some-clause-covered

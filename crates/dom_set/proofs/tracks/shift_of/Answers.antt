@@ -1,9 +1,9 @@
 use Rattle.std.proofs.Common.{◌≡◌, ℕ, ◌%◌, ◌^◌, ◌<◌, ◌≤◌, true, arith}
 use Rattle.std.proofs.lemmas.Bool.{eqb-true}
 use Rattle.std.specs.Int.{w32, trailing_ones}
-use Rattle.dom_set.specs.declared.pattern.Pattern.{Pattern}
-use Rattle.dom_set.specs.Patterns.{matches}
-use Rattle.dom_set.proofs.Masks.{ones_low, same_low}
+use Rattle.set_pieces.specs.declared.pattern.Pattern.{Pattern}
+use Rattle.set_pieces.specs.Patterns.{matches}
+use Rattle.set_pieces.proofs.Masks.{ones_low, same_low}
 use Rattle.dom_set.proofs.tracks.shift_of.Goals as goal
 
 same_remainder : (p : Pattern) (k x : ℕ) → p.mask < 2 ^ 32 → k ≤ trailing_ones w32 p.mask → k < 32 → matches p x ≡ true → x % 2 ^ k ≡ p.bits % 2 ^ k

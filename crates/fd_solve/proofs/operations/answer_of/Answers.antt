@@ -1,6 +1,4 @@
-use Rattle.std.proofs.Common.{ℕ, ◌<◌, ◌≤◌, ◌∙◌, sym, subst}
-use Rattle.fd_solve.specs.Equivalent.{AreEquivalent}
-use Rattle.fd_solve.proofs.Equivalence.{all_itself}
+use Rattle.std.proofs.Common.{ℕ, ◌<◌, ◌≤◌, ◌∙◌, subst}
 use Rattle.fd_prob.specs.Spaces.{space}
 use Rattle.fd_solve.specs.Marks.{whole_of}
 use Rattle.fd_solve.proofs.FirstCases.{same_space}
@@ -12,9 +10,4 @@ returns-then-nodes-space c = subst (λ (n : ℕ). c.args.nodes < n) (c.space.ens
 pub returns : goal.returns
 returns c =
     let within : space (whole_of c.args.marked.now) ≤ c.args.nodes = subst (λ (n : ℕ). n ≤ c.args.nodes) (c.space.ensures ∙ same_space (whole_of c.args.marked.now) c.args.marked.now.firsts.now c.requires.firsts) c.if-nodes-space.false in
-    c.in_ok-solved.ensures c.args.nodes within
-
-pub searched-requires-clause-cases : goal.searched-requires-clause-cases
-searched-requires-clause-cases c =
-    let cases = c.args.marked.now.problem.now.cases in
-    subst (AreEquivalent cases) (sym c.as_slice.ensures) (all_itself cases c.requires.problem)
+    c.in_ok-solved.ensures.solved c.args.nodes within

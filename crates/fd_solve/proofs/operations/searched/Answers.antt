@@ -7,8 +7,8 @@ use Rattle.fd_solve.proofs.operations.searched.Goals as goal
 pub least-requires-clause-pivot : goal.least-requires-clause-pivot
 least-requires-clause-pivot c op = c.in_ok-pivot.ensures op ∙ same_pivot (whole_of c.args.marked.now) c.args.marked.now.firsts.now c.requires.sound.firsts op slots.Op
 
-pub returns-in-Some : goal.returns-in-Some
-returns-in-Some c = λ nodes within. (within, rw c.in-Some.is at c.in_ok-x.ensures)
+pub returns-in-Some-clause-solved : goal.returns-in-Some-clause-solved
+returns-in-Some-clause-solved c = λ nodes within. (within, rw c.in-Some.is at c.in_ok-x.ensures.least)
 
-pub returns-in-None : goal.returns-in-None
-returns-in-None c = λ nodes within. (within, rw c.in-None.is at c.in_ok-x.ensures)
+pub returns-in-None-clause-solved : goal.returns-in-None-clause-solved
+returns-in-None-clause-solved c = λ nodes within. (within, rw c.in-None.is at c.in_ok-x.ensures.least)

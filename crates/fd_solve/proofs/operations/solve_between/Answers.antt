@@ -1,10 +1,18 @@
+use Rattle.std.proofs.Common.{sym, subst}
+use Rattle.fd_solve.specs.Equivalent.{StandFor}
 use Rattle.fd_solve.specs.Marks.{whole_of}
 use Rattle.fd_solve.proofs.AllOperations.{no_case, no_fit}
 use Rattle.fd_solve.proofs.operations.solve_between.Goals.{in-Some+in_ok-x+in_default-2, in_default}
 use Rattle.fd_solve.proofs.operations.solve_between.Goals as goal
 
 pub loop-op-preserved : goal.loop-op-preserved
-loop-op-preserved c = elim c.match-pivots_with.branch [
-  | in-Some+in_ok-x+in_default-2 w ↦ no_fit (whole_of c.args.marked.now) c.fitting_laws.ensures.fitting c.args.from c.loop-op.op c.loop-op.invariant (rw w.in_default-2.is at w.in_ok-x.ensures)
-  | in_default w ↦ no_case (whole_of c.args.marked.now) c.fitting_laws.ensures.fitting c.args.from c.loop-op.op c.loop-op.invariant w.in_default.ensures
-]
+loop-op-preserved c = record {
+  none = elim c.match-pivots_with.branch [
+    | in-Some+in_ok-x+in_default-2 w ↦ no_fit (whole_of c.args.marked.now) c.fitting_laws.ensures.fitting c.args.from c.loop-op.op c.loop-op.invariant.none (rw w.in_default-2.is at w.in_ok-x.ensures.least)
+    | in_default w ↦ no_case (whole_of c.args.marked.now) c.fitting_laws.ensures.fitting c.args.from c.loop-op.op c.loop-op.invariant.none w.in_default.ensures
+  ];
+  stands = elim c.match-pivots_with.branch [
+    | in-Some+in_ok-x+in_default-2 w ↦ subst (StandFor c.args.marked.now.problem.now.cases) (sym w.narrow-is) w.in_ok-x.ensures.narrow
+    | in_default w ↦ subst (StandFor c.args.marked.now.problem.now.cases) (sym w.narrow-is) c.loop-op.invariant.stands
+  ];
+}

@@ -1,5 +1,5 @@
 use Rattle.std.proofs.Common.{List, length, ap, ◌∙◌}
-use Rattle.leaf_pose.specs.declared.shape.Shape.{Shape}
+use Rattle.leaf_stand.specs.declared.shape.Shape.{Shape}
 use Rattle.leaf_pose.specs.Extras.{stays_of}
 use Rattle.leaf_pose.proofs.Adding.{extra_is, stays_length}
 use Rattle.leaf_pose.proofs.extras.extra_of.Goals as goal

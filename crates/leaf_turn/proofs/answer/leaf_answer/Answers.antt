@@ -1,7 +1,7 @@
 use Rattle.std.proofs.Common.{◌≡◌, ◌∙◌, true, All, List, Vec, Global, ap, map, subst, sym}
 use Rattle.std.proofs.lemmas.Result.{IfOk-weaker}
 use Rattle.tpl_ast.specs.declared.template.Atom.{Atom}
-use Rattle.leaf_pose.specs.Relations.{are_between}
+use Rattle.leaf_stand.specs.Relations.{are_between}
 use Rattle.part_state.specs.State.{here}
 use Rattle.leaf_turn.proofs.Plainness.{biases_between, plain_mandatory}
 use Rattle.leaf_turn.proofs.Wholly.{answered, found_by}

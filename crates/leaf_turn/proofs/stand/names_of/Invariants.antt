@@ -1,6 +1,6 @@
 use Rattle.std.proofs.Common.{◌≡◌, ℕ, ◌<◌, length}
 use Rattle.std.specs.Prelude.{None, slice_get, slice_index_or}
-use Rattle.leaf_pose.specs.Stands.{set_named, value_named}
+use Rattle.leaf_stand.specs.Stands.{set_named, value_named}
 use Rattle.leaf_turn.specs.Grounds.{declared_set}
 use Rattle.leaf_turn.proofs.stand.names_of.Given as goal
 

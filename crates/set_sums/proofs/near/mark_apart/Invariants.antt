@@ -4,7 +4,7 @@ use Rattle.set_sums.proofs.Marking.{HaveSumsBelow}
 use Rattle.set_sums.proofs.near.mark_apart.Given as goal
 
 abbrev pub invariant-loop-number : goal.invariant-loop-number
-invariant-loop-number l = record { marked : HaveSumsBelow l.marks l.fine l.fn.coarse l.base l.number; kept : AreStillMarked l.initial.marks l.marks; same : l.number % 2 ^ l.fn.coarse.shift ≡ l.fn.coarse.low % 2 ^ l.fn.coarse.shift }
+invariant-loop-number l = record { marked : HaveSumsBelow l.marks l.whole l.fn.other l.base l.number; kept : AreStillMarked l.initial.marks l.marks; same : l.number % 2 ^ l.fn.other.shift ≡ l.fn.other.low % 2 ^ l.fn.other.shift }
 
 abbrev pub decreases-loop-number : goal.decreases-loop-number
 decreases-loop-number l = l.last + 1 - l.number

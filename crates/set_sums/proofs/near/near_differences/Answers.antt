@@ -1,5 +1,5 @@
-use Rattle.set_sums.proofs.Members.{in_both}
+use Rattle.set_sums.proofs.Marking.{all_by_tracks}
 use Rattle.set_sums.proofs.near.near_differences.Goals as goal
 
-pub returns-in-Some-2 : goal.returns-in-Some-2
-returns-in-Some-2 c v w small near h k = in_both c.in-Some-2.tracks c.in-Some.places c.in_ok-near-in-Some-2.near c.in_ok-near-in-Some-2.ensures v ((rw c.in-Some-2.is at c.in_ok-tracks.ensures) v w small near h k) ((rw c.in-Some.is at c.in_ok-places.ensures) v w small near h k)
+pub returns : goal.returns
+returns c = all_by_tracks c.in_ok-near.near c.args.first.now c.args.second.now c.in_ok-firsts.firsts.items c.in_ok-others.others.items c.element_laws.ensures.words c.in_ok-firsts.ensures c.in_ok-others.ensures (rw (c.deref.ensures.value, c.deref-2.ensures.value) at c.in_ok-near.ensures)

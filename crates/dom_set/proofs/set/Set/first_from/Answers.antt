@@ -1,8 +1,8 @@
 use Rattle.std.proofs.Common.{◌≡◌, List, Some, subst, sym, ap, ◌∙◌}
-use Rattle.dom_set.specs.declared.piece.Piece.{Piece}
+use Rattle.set_pieces.specs.declared.piece.Piece.{Piece}
 use Rattle.dom_set.specs.Elements.{first_cyclic}
-use Rattle.dom_set.specs.Pieces.{holds}
-use Rattle.dom_set.specs.Ends.{IsFirstFrom}
+use Rattle.set_pieces.specs.Pieces.{holds}
+use Rattle.set_pieces.specs.Ends.{IsFirstFrom}
 use Rattle.dom_set.proofs.Sets.{cyclic_here, cyclic_round, cyclic_none}
 use Rattle.dom_set.proofs.set.Set.first_from.Goals as goal
 

@@ -1,7 +1,7 @@
 use Rattle.std.proofs.Common.{List, subst, sym}
-use Rattle.dom_set.specs.declared.piece.Piece.{Piece}
-use Rattle.dom_set.specs.Pieces.{holds}
-use Rattle.dom_set.specs.Ends.{IsFirstFrom}
+use Rattle.set_pieces.specs.declared.piece.Piece.{Piece}
+use Rattle.set_pieces.specs.Pieces.{holds}
+use Rattle.set_pieces.specs.Ends.{IsFirstFrom}
 use Rattle.dom_set.proofs.Sets.{first_of_all}
 use Rattle.dom_set.proofs.set.Set.least.Goals as goal
 

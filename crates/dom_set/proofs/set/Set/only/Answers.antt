@@ -1,7 +1,7 @@
 use Rattle.std.proofs.Common.{◌≡◌, ◌≢◌, ℕ, List, [], ◌∷◌, length, Option, MatchOption, Some, sym, ap, ◌∙◌, subst}
-use Rattle.dom_set.specs.declared.piece.Piece.{Piece}
-use Rattle.dom_set.specs.Pieces.{holds}
-use Rattle.dom_set.specs.Ends.{IsFirstFrom, IsLast}
+use Rattle.set_pieces.specs.declared.piece.Piece.{Piece}
+use Rattle.set_pieces.specs.Pieces.{holds}
+use Rattle.set_pieces.specs.Ends.{IsFirstFrom, IsLast}
 use Rattle.dom_set.proofs.Lasts.{none_first, not_only, only_is}
 use Rattle.dom_set.proofs.set.Set.only.Goals as goal
 

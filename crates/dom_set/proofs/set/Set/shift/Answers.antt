@@ -1,5 +1,5 @@
 use Rattle.std.proofs.Common.{◌+◌, ◌-◌, ◌%◌, ◌^◌}
-use Rattle.dom_set.proofs.Times.{apart_below}
+use Rattle.set_pieces.proofs.Times.{apart_below}
 use Rattle.dom_set.proofs.Sets.{shift_is}
 use Rattle.dom_set.proofs.set.Set.shift.Goals as goal
 

@@ -1,5 +1,5 @@
 use Rattle.std.proofs.Common.{◌-◌, ◌%◌}
-use Rattle.dom_set.proofs.Times.{apart_below}
+use Rattle.set_pieces.proofs.Times.{apart_below}
 use Rattle.dom_set.proofs.Sets.{odd_is}
 use Rattle.dom_set.proofs.set.Set.with_odd.Goals as goal
 

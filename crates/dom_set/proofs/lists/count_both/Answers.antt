@@ -1,9 +1,0 @@
-use Rattle.std.proofs.Common.{◌^◌, arith}
-use Rattle.dom_set.proofs.Without.{counted_both}
-use Rattle.dom_set.proofs.lists.count_both.Goals as goal
-
-pub overflow_sub-result : goal.overflow_sub-result
-overflow_sub-result c = omega (arith, c.count_piece.ensures, c.count_within.ensures, counted_both c.args.p c.args.q c.common.result c.filled.result (2 ^ 32) c.common.ensures c.filled.ensures)
-
-pub returns : goal.returns
-returns c = omega (arith, c.count_piece.ensures, c.count_within.ensures, counted_both c.args.p c.args.q c.common.result c.filled.result (2 ^ 32) c.common.ensures c.filled.ensures)

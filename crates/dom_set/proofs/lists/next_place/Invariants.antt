@@ -1,9 +1,0 @@
-use Rattle.std.proofs.Common.{◌-◌, length}
-use Rattle.dom_set.specs.Pieces.{AreAlive}
-use Rattle.dom_set.proofs.lists.next_place.Given as goal
-
-abbrev pub invariant-loop-alive : goal.invariant-loop-alive
-invariant-loop-alive l = AreAlive l.pieces l.next l.alive.items l.from
-
-abbrev pub decreases-loop-alive : goal.decreases-loop-alive
-decreases-loop-alive l = length l.pieces - l.next

@@ -1,6 +1,0 @@
-use Rattle.std.proofs.Common.{◌≡◌, ℕ, ◌+◌, drop}
-use Rattle.dom_set.specs.Pieces.{times}
-use Rattle.dom_set.proofs.lists.push_all.Given as goal
-
-abbrev pub invariant-loop-p : goal.invariant-loop-p
-invariant-loop-p l = (x : ℕ) → times l.out.items x + times (drop l.p-index l.pieces) x ≡ times l.initial.out.items x + times l.pieces x

@@ -1,4 +1,0 @@
-use Rattle.dom_set.proofs.pattern.Pattern.+between.Given as goal
-
-abbrev pub decreases-between : goal.decreases-between
-decreases-between l = l.high

@@ -1,4 +1,0 @@
-use Rattle.dom_set.proofs.pattern.Pattern.+count_below.Given as goal
-
-abbrev pub decreases-count_below : goal.decreases-count_below
-decreases-count_below l = l.self.mask

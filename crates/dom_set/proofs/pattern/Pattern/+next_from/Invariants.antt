@@ -1,4 +1,0 @@
-use Rattle.dom_set.proofs.pattern.Pattern.+next_from.Given as goal
-
-abbrev pub decreases-next_from : goal.decreases-next_from
-decreases-next_from l = l.self.mask

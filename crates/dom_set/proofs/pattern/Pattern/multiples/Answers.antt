@@ -1,6 +1,0 @@
-use Rattle.std.proofs.Common.{◌∙◌}
-use Rattle.dom_set.proofs.Raising.{ones_cut}
-use Rattle.dom_set.proofs.pattern.Pattern.multiples.Goals as goal
-
-pub returns-clause-step : goal.returns-clause-step
-returns-clause-step c = c.low_bits.ensures ∙ ones_cut c.args.shift c.requires

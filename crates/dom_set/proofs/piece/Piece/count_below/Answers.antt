@@ -1,9 +1,0 @@
-use Rattle.std.proofs.Common.{arith}
-use Rattle.dom_set.proofs.Without.{counted_apart}
-use Rattle.dom_set.proofs.piece.Piece.count_below.Goals as goal
-
-pub overflow_sub-result : goal.overflow_sub-result
-overflow_sub-result c = omega (arith, c.count_below.ensures, c.count_of.ensures, counted_apart c.args.self c.filled.result c.args.x c.filled.ensures)
-
-pub returns : goal.returns
-returns c = omega (arith, c.count_below.ensures, c.count_of.ensures, counted_apart c.args.self c.filled.result c.args.x c.filled.ensures)

@@ -1,5 +1,0 @@
-use Rattle.std.proofs.lemmas.Nat.{and_mask}
-use Rattle.dom_set.proofs.steps.low_bits.Goals as goal
-
-pub returns : goal.returns
-returns c = rw c.step.ensures (and_mask c.args.x c.args.shift)

@@ -1,6 +1,0 @@
-use Rattle.std.proofs.Common.{◌≡◌, ◌++◌, drop}
-use Rattle.leaf_pose.specs.Extras.{stays_of}
-use Rattle.leaf_pose.proofs.stand.Stand.staying.Given as goal
-
-abbrev pub invariant-loop-shape : goal.invariant-loop-shape
-invariant-loop-shape l = l.stay ++ stays_of l.self l.bias (drop l.shape-index l.shapes) ≡ stays_of l.self l.bias l.shapes

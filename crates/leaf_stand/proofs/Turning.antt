@@ -1,0 +1,322 @@
+-- The cases of a stand are those of every turn that it tells.
+use Rattle.std.proofs.Common.{◌≡◌, ℕ, ◌⊎◌, Bool, true, false, ◌&&◌, ◌||◌, List, [], ◌∷◌, Option, Some, refl, sym, ap, ◌∙◌, subst, inl, inr, ◌^◌}
+use Rattle.std.specs.Prelude.{not, if◌then◌else◌, nat_eq, nat_lt}
+use Rattle.std.specs.List.{list_all}
+use Rattle.std.proofs.lemmas.Bool.{and_from, and_parts}
+use Rattle.dom_set.specs.Elements.{is_in}
+use Rattle.rv_isa.specs.declared.operation.Op.{Op}
+use Rattle.rv_isa.specs.declared.operation.Op.TheVariants as ops
+use Rattle.rv_isa.specs.Table.{row_of}
+use Rattle.rv_csr.specs.declared.cause.Cause.{Cause}
+use Rattle.rv_csr.specs.declared.cause.Cause.TheVariants as causes
+use Rattle.rv_csr.specs.declared.privilege.Priv.{Priv}
+use Rattle.rv_csr.specs.declared.status.Flag.{Flag}
+use Rattle.rv_csr.specs.declared.status.Flag.TheVariants.{Tvm}
+use Rattle.rv_csr.specs.Privilege.{is_machine, is_supervisor}
+use Rattle.rv_csr.specs.Status.{is_set}
+use Rattle.rv_csr.specs.Causes.{number_of}
+use Rattle.rv_csr.specs.Traps.{takes_trap, vector_register}
+use Rattle.rv_script.specs.declared.place.Place.TheVariants.{Csr, Reg, Word}
+use Rattle.rv_script.specs.Folds.{Entry}
+use Rattle.rv_hart.specs.Privileged.{call_cause, is_withheld, lazy_address}
+use Rattle.addr_rows.specs.Walks.{EntryRow}
+use Rattle.tpl_ast.specs.Leaves.{same_var}
+use Rattle.tpl_ast.specs.declared.template.Atom.{Atom}
+use Rattle.tpl_ast.specs.declared.template.Atom.TheVariants as atoms
+use Rattle.tpl_ast.specs.declared.template.Var.{Var}
+use Rattle.tpl_ast.specs.declared.template.Var.TheVariants as vars
+use Rattle.tpl_admit.specs.Truth.{is_shared}
+use Rattle.fd_prob.specs.declared.problem.Case.{Case as ACase}
+use Rattle.fd_prob.specs.declared.slot.Slot.{Slot}
+use Rattle.fd_prob.specs.declared.slot.Slot.TheVariants as slots
+use Rattle.rv_isa.proofs.Numbers.{read}
+use Rattle.rv_isa.specs.Numbers.{op_numbered, op_number}
+use Rattle.leaf_link.specs.Turns.{Turn, is_narrow, is_small, may_be_source}
+use Rattle.leaf_link.specs.Values.{Values, instr_in}
+use Rattle.leaf_link.specs.Cases.{Case, Fits, FitsCase, Shape as AShape, Way as AWay, all_relate, all_tests, atoms_hold, base_domain, case_at, case_if, cases_of, domain, in_word, is_held, is_posed, is_some_word, is_value_named, or_no, shape_of, sources_hold, target_at, tests, unless, uses, uses_address, uses_rs1, uses_rs2, value_at}
+use Rattle.leaf_link.specs.Kinds.{always, branch_goes, far_is_target, forks, is_vector, near_is_target, retires, retires_when, traps, traps_when, vector_alone, vector_at}
+use Rattle.leaf_link.specs.Answers.{values_in}
+use Rattle.leaf_link.specs.AllWays.{ways_of}
+use Rattle.leaf_link.specs.Problems.{cases_over}
+use Rattle.leaf_stand.specs.declared.stand.Stand.{Stand}
+use Rattle.leaf_stand.specs.Kinds.{kind_of}
+use Rattle.leaf_stand.specs.Posed.{FitsSame, all_cases, allows, is_other, is_posable, is_posed_at, stand_cases, stand_ways}
+use Rattle.leaf_stand.specs.Stands.{IsStandOf, turn_of}
+use Rattle.leaf_stand.proofs.Rows.{built_narrow}
+use Rattle.leaf_stand.proofs.Single.{both_same, or_true}
+use Rattle.leaf_stand.proofs.Fits.{fits_either, fits_left, fits_right, in_word_reads, stand_allowed}
+
+-- ATOMS
+tests_same : (s : Stand) (t : Turn) (walk : List Entry) (pa : ℕ) → IsStandOf s t walk pa → (atom : Atom) (u : Var) (v : ℕ) → same_var vars.Pa u ≡ false → tests t atom u v ≡ tests (turn_of s) atom u v
+tests_same s t walk pa h (atoms.In w set) u v n = refl
+tests_same s t walk pa h (atoms.NotIn w set) u v n = refl
+tests_same s t walk pa h (atoms.Is w name) u v n =
+    ap (λ (o : Option ℕ). if same_var w u then is_value_named o (t.sets name) v else true) (h.names name)
+    ∙ ap (λ (l : List ℕ). if same_var w u then is_value_named ((turn_of s).names name) l v else true) (h.sets name)
+tests_same s t walk pa h (atoms.Same w y) u v n = refl
+tests_same s t walk pa h (atoms.Differ w y) u v n = refl
+tests_same s t walk pa h atoms.Taken u v n = refl
+tests_same s t walk pa h atoms.NotTaken u v n = refl
+tests_same s t walk pa h atoms.Shared u v n = ap (λ (b : Bool). if b then is_shared t.others (Some v) else true) n ∙ sym (ap (λ (b : Bool). if b then is_shared (turn_of s).others (Some v) else true) n)
+
+pub all_same : (s : Stand) (t : Turn) (walk : List Entry) (pa : ℕ) → IsStandOf s t walk pa → (leaf : List Atom) (u : Var) (v : ℕ) → same_var vars.Pa u ≡ false → all_tests t leaf u v ≡ all_tests (turn_of s) leaf u v
+all_same s t walk pa h [] u v n = refl
+all_same s t walk pa h (atom ∷ leaf) u v n = both_same _ _ _ _ (tests_same s t walk pa h atom u v n) (all_same s t walk pa h leaf u v n)
+
+-- DOMAINS
+field_same : (s : Stand) (t : Turn) (walk : List Entry) (pa : ℕ) → IsStandOf s t walk pa → (leaf : List Atom) (op : Op) (slot : Slot) (u : Var) (used : Bool) (v : ℕ) → same_var vars.Pa u ≡ false
+    → (in_word (t.known (Word pa)) op slot v && unless used (all_tests t leaf u v)) ≡ (in_word s.word op slot v && unless used (all_tests (turn_of s) leaf u v))
+field_same s t walk pa h leaf op slot u used v n = both_same _ _ _ _ (ap (λ (o : Option ℕ). in_word o op slot v) h.word) (ap (λ (b : Bool). unless used b) (all_same s t walk pa h leaf u v n))
+
+value_same : (s : Stand) (t : Turn) (walk : List Entry) (pa : ℕ) → IsStandOf s t walk pa → (leaf : List Atom) (u : Var) (used : Bool) (v : ℕ) → same_var vars.Pa u ≡ false
+    → or_no used (nat_lt v (2 ^ 32) && all_tests t leaf u v) v ≡ or_no used (nat_lt v (2 ^ 32) && all_tests (turn_of s) leaf u v) v
+value_same s t walk pa h leaf u used v n = ap (λ (b : Bool). or_no used (nat_lt v (2 ^ 32) && b) v) (all_same s t walk pa h leaf u v n)
+
+base_same : (s : Stand) (t : Turn) (walk : List Entry) (pa : ℕ) → IsStandOf s t walk pa → (leaf : List Atom) (sh : AShape) (slot : Slot) (v : ℕ) → base_domain t pa leaf sh slot v ≡ base_domain (turn_of s) 0 leaf sh slot v
+base_same s t walk pa h leaf sh slots.Op v = field_same s t walk pa h leaf sh.op slots.Op vars.Op true v refl
+base_same s t walk pa h leaf sh slots.Rs1 v = field_same s t walk pa h leaf sh.op slots.Rs1 vars.Rs1 (uses sh vars.Rs1) v refl
+base_same s t walk pa h leaf sh slots.Rs2 v = field_same s t walk pa h leaf sh.op slots.Rs2 vars.Rs2 (uses sh vars.Rs2) v refl
+base_same s t walk pa h leaf sh slots.Imm v = field_same s t walk pa h leaf sh.op slots.Imm vars.Imm (uses sh vars.Imm) v refl
+base_same s t walk pa h leaf sh slots.Rd v = field_same s t walk pa h leaf sh.op slots.Rd vars.Rd (uses sh vars.Rd) v refl
+base_same s t walk pa h leaf sh slots.Csr v = field_same s t walk pa h leaf sh.op slots.Csr vars.Csr (uses sh vars.Csr) v refl
+base_same s t walk pa h leaf sh slots.Ea v = value_same s t walk pa h leaf vars.Ea (uses_address sh) v refl
+base_same s t walk pa h leaf sh slots.A v = value_same s t walk pa h leaf vars.A (uses_rs1 sh) v refl
+base_same s t walk pa h leaf sh slots.B v = value_same s t walk pa h leaf vars.B (uses_rs2 sh) v refl
+base_same s t walk pa h leaf sh slots.FirstPte v = refl
+base_same s t walk pa h leaf sh slots.SecondPte v = refl
+base_same s t walk pa h leaf sh slots.DataWord v = refl
+base_same s t walk pa h leaf sh slots.OldCsr v = refl
+base_same s t walk pa h leaf sh slots.Vector v = refl
+
+-- RELATIONS
+open_source : (t : Turn) (op : Op) (x : Values) → is_other (kind_of op) ≡ false → x slots.Op ≡ op_number op → may_be_source t (instr_in x) ≡ true
+open_source t op x p e =
+    let o : (instr_in x).op ≡ op = ap op_numbered e ∙ read op in
+    let n : is_narrow (row_of (instr_in x).op) (instr_in x).csr ≡ false = ap (λ (q : Op). is_narrow (row_of q) (instr_in x).csr) o ∙ built_narrow op (instr_in x).csr p in
+    ap (λ (b : Bool). not b || is_small t.sources) n
+
+sources_agree : (s : Stand) (t : Turn) (walk : List Entry) (pa : ℕ) → IsStandOf s t walk pa → (sh : AShape) (x : Values) → is_other (kind_of sh.op) ≡ false → x slots.Op ≡ op_number sh.op → sources_hold t sh x ≡ sources_hold (turn_of s) sh x
+sources_agree s t walk pa h sh x p e =
+    both_same _ _ _ _
+    (ap (λ (b : Bool). unless (uses_rs1 sh) b) (both_same _ _ _ _ (ap (λ (o : Option ℕ). is_held o (x slots.A)) (h.registers (x slots.Rs1))) (or_true (is_some_word (t.known (Reg (x slots.Rs1)))) _ (open_source t sh.op x p e) ∙ sym (or_true (is_some_word ((turn_of s).known (Reg (x slots.Rs1)))) _ (open_source (turn_of s) sh.op x p e)))))
+    (both_same _ _ _ _ (ap (λ (o : Option ℕ). unless (uses_rs2 sh) (is_held o (x slots.B))) (h.registers (x slots.Rs2))) refl)
+
+pub atoms_agree : (s : Stand) (t : Turn) (walk : List Entry) (pa : ℕ) → IsStandOf s t walk pa → (leaf : List Atom) (sh : AShape) (x : Values) → atoms_hold t leaf sh x ≡ atoms_hold (turn_of s) leaf sh x
+atoms_agree s t walk pa h leaf sh x =
+    both_same _ _ _ _ (ap (λ (pc : ℕ). all_relate sh.op (value_at sh pc 0 x) leaf) h.pc)
+    (ap (λ (pc : ℕ). unless (uses sh vars.Target) (all_tests t leaf vars.Target (target_at sh.op pc x))) h.pc ∙ ap (λ (b : Bool). unless (uses sh vars.Target) b) (all_same s t walk pa h leaf vars.Target (target_at sh.op s.pc x) refl))
+
+-- WAYS
+-- two ways say the same
+pub record IsSameWay (a b : AWay) : Type 0 where
+  pub outcome : a.outcome ≡ b.outcome
+  pub reaches : a.reaches ≡ b.reaches
+  pub also : (slot : Slot) (v : ℕ) → a.also slot v ≡ b.also slot v
+  pub holds : (x : Values) → a.holds x ≡ b.holds x
+
+abbrev pub AreSameWays : List AWay → List AWay → Type 0
+AreSameWays [] [] = Unit {0}
+AreSameWays (a ∷ ps) (b ∷ qs) = IsSameWay a b × AreSameWays ps qs
+AreSameWays (a ∷ ps) [] = ⊥
+AreSameWays [] (b ∷ qs) = ⊥
+
+vector_same : (s : Stand) (t : Turn) (walk : List Entry) (pa : ℕ) → IsStandOf s t walk pa → (cause : Cause) (v : ℕ) → is_vector (turn_of s) cause v ≡ is_vector t cause v
+vector_same s t walk pa h cause v =
+    let place : vector_at t.fixed cause ≡ vector_at (turn_of s).fixed cause =
+    ap (λ (m : ℕ). lazy_address (vector_register (takes_trap m t.fixed.privilege (number_of cause)))) h.medeleg
+    ∙ ap (λ (p : Priv). lazy_address (vector_register (takes_trap s.csrs.medeleg p (number_of cause)))) h.privilege in
+    sym (ap (λ (a : ℕ). if is_some_word (t.known (Csr a)) then nat_eq v 0 else (nat_lt v (2 ^ 32) && is_in t.vectors v)) place
+    ∙ ap (λ (o : Option ℕ). if is_some_word o then nat_eq v 0 else (nat_lt v (2 ^ 32) && is_in t.vectors v)) (h.csrs (vector_at (turn_of s).fixed cause))
+    ∙ ap (λ (l : List ℕ). if is_some_word ((turn_of s).known (Csr (vector_at (turn_of s).fixed cause))) then nat_eq v 0 else (nat_lt v (2 ^ 32) && is_in l v)) h.vectors)
+
+retires_same : (f g : Values → Bool) → ((x : Values) → f x ≡ g x) → IsSameWay (retires_when f) (retires_when g)
+retires_same f g e = record { outcome = refl; reaches = refl; also = λ slot v. refl; holds = e }
+
+traps_same : (s : Stand) (t : Turn) (walk : List Entry) (pa : ℕ) → IsStandOf s t walk pa → (cause : Cause) (f g : Values → Bool) → ((x : Values) → f x ≡ g x) → IsSameWay (traps_when (turn_of s) cause f) (traps_when t cause g)
+traps_same s t walk pa h cause f g e = record { outcome = refl; reaches = refl; also = by_slot; holds = e }
+  where
+    by_slot : (slot : Slot) (v : ℕ) → vector_alone (turn_of s) cause slot v ≡ vector_alone t cause slot v
+    by_slot slots.Vector v = vector_same s t walk pa h cause v
+    by_slot slots.Op v = refl
+    by_slot _ v = refl
+
+forks_same : (s : Stand) (t : Turn) (walk : List Entry) (pa : ℕ) → IsStandOf s t walk pa → (f g : Values → Bool) → ((x : Values) → f x ≡ g x) → AreSameWays (forks (turn_of s) causes.FetchMisaligned f) (forks t causes.FetchMisaligned g)
+forks_same s t walk pa h f g e = (retires_same f g e, (traps_same s t walk pa h causes.FetchMisaligned (λ x. not (f x)) (λ x. not (g x)) (λ x. ap not (e x)), record {}))
+
+trap_same : (s : Stand) (t : Turn) (walk : List Entry) (pa : ℕ) → IsStandOf s t walk pa → (cause : Cause) → AreSameWays (traps (turn_of s) cause) (traps t cause)
+trap_same s t walk pa h cause = (traps_same s t walk pa h cause always always (λ x. refl), record {})
+
+plain_same : AreSameWays retires retires
+plain_same = (retires_same always always (λ x. refl), record {})
+
+near_same : (s : Stand) (t : Turn) (walk : List Entry) (pa : ℕ) → IsStandOf s t walk pa → (x : Values) → near_is_target s.pc x ≡ near_is_target t.fixed.pc x
+near_same s t walk pa h x = ap (λ (pc : ℕ). near_is_target pc x) (sym h.pc)
+
+goes_same : (s : Stand) (t : Turn) (walk : List Entry) (pa : ℕ) → IsStandOf s t walk pa → (op : Op) (x : Values) → branch_goes op s.pc x ≡ branch_goes op t.fixed.pc x
+goes_same s t walk pa h op x = ap (λ (pc : ℕ). branch_goes op pc x) (sym h.pc)
+
+withheld_same : (s : Stand) (t : Turn) (walk : List Entry) (pa : ℕ) → IsStandOf s t walk pa → (flag : Flag) → is_withheld flag (turn_of s).fixed ≡ is_withheld flag t.fixed
+withheld_same s t walk pa h flag =
+    sym (ap (λ (p : Priv). not (is_machine p) && (not (is_supervisor p) || is_set flag t.fixed.mstatus)) h.privilege
+    ∙ ap (λ (m : ℕ). not (is_machine s.privilege) && (not (is_supervisor s.privilege) || is_set flag m)) h.mstatus)
+
+fence_same : (s : Stand) (t : Turn) (walk : List Entry) (pa : ℕ) → IsStandOf s t walk pa → (p q : Bool) → p ≡ q
+    → AreSameWays (if p then traps (turn_of s) causes.Illegal else retires) (if q then traps t causes.Illegal else retires)
+fence_same s t walk pa h true true e = trap_same s t walk pa h causes.Illegal
+fence_same s t walk pa h false false e = plain_same
+fence_same s t walk pa h true false e = absurd (cc e)
+fence_same s t walk pa h false true e = absurd (cc e)
+
+pub ways_same : (s : Stand) (t : Turn) (walk : List Entry) (pa : ℕ) → IsStandOf s t walk pa → (leaf : List Atom) (loads stores : List EntryRow) (op : Op) → is_other (kind_of op) ≡ false → AreSameWays (stand_ways s op) (ways_of t walk pa leaf loads stores op)
+ways_same s t walk pa h leaf loads stores ops.Jal n = forks_same s t walk pa h (near_is_target s.pc) (near_is_target t.fixed.pc) (near_same s t walk pa h)
+ways_same s t walk pa h leaf loads stores ops.Jalr n = forks_same s t walk pa h far_is_target far_is_target (λ x. refl)
+ways_same s t walk pa h leaf loads stores ops.Beq n = forks_same s t walk pa h (branch_goes ops.Beq s.pc) (branch_goes ops.Beq t.fixed.pc) (goes_same s t walk pa h ops.Beq)
+ways_same s t walk pa h leaf loads stores ops.Bne n = forks_same s t walk pa h (branch_goes ops.Bne s.pc) (branch_goes ops.Bne t.fixed.pc) (goes_same s t walk pa h ops.Bne)
+ways_same s t walk pa h leaf loads stores ops.Blt n = forks_same s t walk pa h (branch_goes ops.Blt s.pc) (branch_goes ops.Blt t.fixed.pc) (goes_same s t walk pa h ops.Blt)
+ways_same s t walk pa h leaf loads stores ops.Bge n = forks_same s t walk pa h (branch_goes ops.Bge s.pc) (branch_goes ops.Bge t.fixed.pc) (goes_same s t walk pa h ops.Bge)
+ways_same s t walk pa h leaf loads stores ops.Bltu n = forks_same s t walk pa h (branch_goes ops.Bltu s.pc) (branch_goes ops.Bltu t.fixed.pc) (goes_same s t walk pa h ops.Bltu)
+ways_same s t walk pa h leaf loads stores ops.Bgeu n = forks_same s t walk pa h (branch_goes ops.Bgeu s.pc) (branch_goes ops.Bgeu t.fixed.pc) (goes_same s t walk pa h ops.Bgeu)
+ways_same s t walk pa h leaf loads stores ops.Ecall n = subst (λ (p : Priv). AreSameWays (traps (turn_of s) (call_cause s.privilege)) (traps t (call_cause p))) (sym h.privilege) (trap_same s t walk pa h (call_cause s.privilege))
+ways_same s t walk pa h leaf loads stores ops.Ebreak n = trap_same s t walk pa h causes.Breakpoint
+ways_same s t walk pa h leaf loads stores ops.Illegal n = trap_same s t walk pa h causes.Illegal
+ways_same s t walk pa h leaf loads stores ops.Lb n = absurd (cc n)
+ways_same s t walk pa h leaf loads stores ops.Lh n = absurd (cc n)
+ways_same s t walk pa h leaf loads stores ops.Lw n = absurd (cc n)
+ways_same s t walk pa h leaf loads stores ops.Lbu n = absurd (cc n)
+ways_same s t walk pa h leaf loads stores ops.Lhu n = absurd (cc n)
+ways_same s t walk pa h leaf loads stores ops.Sb n = absurd (cc n)
+ways_same s t walk pa h leaf loads stores ops.Sh n = absurd (cc n)
+ways_same s t walk pa h leaf loads stores ops.Sw n = absurd (cc n)
+ways_same s t walk pa h leaf loads stores ops.Csrrw n = absurd (cc n)
+ways_same s t walk pa h leaf loads stores ops.Csrrs n = absurd (cc n)
+ways_same s t walk pa h leaf loads stores ops.Csrrc n = absurd (cc n)
+ways_same s t walk pa h leaf loads stores ops.Csrrwi n = absurd (cc n)
+ways_same s t walk pa h leaf loads stores ops.Csrrsi n = absurd (cc n)
+ways_same s t walk pa h leaf loads stores ops.Csrrci n = absurd (cc n)
+ways_same s t walk pa h leaf loads stores ops.Mret n = absurd (cc n)
+ways_same s t walk pa h leaf loads stores ops.Sret n = absurd (cc n)
+ways_same s t walk pa h leaf loads stores ops.SfenceVma n = fence_same s t walk pa h (is_withheld Tvm (turn_of s).fixed) (is_withheld Tvm t.fixed) (withheld_same s t walk pa h Tvm)
+ways_same s t walk pa h leaf loads stores ops.Lui n = plain_same
+ways_same s t walk pa h leaf loads stores op n = plain_same
+
+-- CASES
+shapes_same : (op : Op) (a b : AWay) → IsSameWay a b → shape_of op a ≡ shape_of op b
+shapes_same op a b w = ap (λ (m : ℕ). shape_made op m a.reaches) w.outcome ∙ ap (λ (r : Bool). shape_made op b.outcome r) w.reaches
+  where
+    shape_made : Op → ℕ → Bool → AShape
+    shape_made o m r = record { op = o; outcome = m; reaches = r }
+
+domain_agrees : (s : Stand) (t : Turn) (walk : List Entry) (pa : ℕ) → IsStandOf s t walk pa → (leaf : List Atom) (op : Op) (a b : AWay) → IsSameWay a b → (slot : Slot) (v : ℕ) → domain (turn_of s) 0 leaf op a slot v ≡ domain t pa leaf op b slot v
+domain_agrees s t walk pa h leaf op a b w slot v =
+    both_same _ _ _ _ (ap (λ (sh : AShape). base_domain (turn_of s) 0 leaf sh slot v) (shapes_same op a b w) ∙ sym (base_same s t walk pa h leaf (shape_of op b) slot v)) (w.also slot v)
+
+holds_agree : (s : Stand) (t : Turn) (walk : List Entry) (pa : ℕ) → IsStandOf s t walk pa → (leaf : List Atom) (op : Op) (a b : AWay) → IsSameWay a b → is_other (kind_of op) ≡ false → (x : Values) → x slots.Op ≡ op_number op
+    → (case_at (turn_of s) 0 leaf op a).holds x ≡ (case_at t pa leaf op b).holds x
+holds_agree s t walk pa h leaf op a b w n x e =
+    both_same _ _ _ _ (ap (λ (sh : AShape). sources_hold (turn_of s) sh x) (shapes_same op a b w) ∙ sym (sources_agree s t walk pa h (shape_of op b) x n e))
+    (both_same _ _ _ _ (ap (λ (sh : AShape). atoms_hold (turn_of s) leaf sh x) (shapes_same op a b w) ∙ sym (atoms_agree s t walk pa h leaf (shape_of op b) x)) (w.holds x))
+
+pub posed_agrees : (s : Stand) (t : Turn) (walk : List Entry) (pa : ℕ) → IsStandOf s t walk pa → (leaf : List Atom) (op : Op) (a b : AWay) → IsSameWay a b → is_posed_at s leaf (shape_of op a) ≡ is_posed t walk pa leaf (shape_of op b)
+posed_agrees s t walk pa h leaf op a b w =
+    ap (λ (sh : AShape). is_posed_at s leaf sh) (shapes_same op a b w) ∙ both_same _ _ _ _ (sym h.fetches) (both_same _ _ _ _ refl (sym (all_same s t walk pa h leaf vars.Outcome b.outcome refl)))
+
+pub case_there : (s : Stand) (t : Turn) (walk : List Entry) (pa : ℕ) → IsStandOf s t walk pa → (leaf : List Atom) (op : Op) (a b : AWay) → IsSameWay a b → is_other (kind_of op) ≡ false → (x : Values) → FitsCase (case_at (turn_of s) 0 leaf op a) x → FitsCase (case_at t pa leaf op b) x
+case_there s t walk pa h leaf op a b w n x f = record {
+  op = f.op;
+  each = λ slot. sym (domain_agrees s t walk pa h leaf op a b w slot (x slot)) ∙ f.each slot;
+  holds = sym (holds_agree s t walk pa h leaf op a b w n x f.op) ∙ f.holds;
+}
+
+case_back : (s : Stand) (t : Turn) (walk : List Entry) (pa : ℕ) → IsStandOf s t walk pa → (leaf : List Atom) (op : Op) (a b : AWay) → IsSameWay a b → is_other (kind_of op) ≡ false → (x : Values) → FitsCase (case_at t pa leaf op b) x → FitsCase (case_at (turn_of s) 0 leaf op a) x
+case_back s t walk pa h leaf op a b w n x f = record {
+  op = f.op;
+  each = λ slot. domain_agrees s t walk pa h leaf op a b w slot (x slot) ∙ f.each slot;
+  holds = holds_agree s t walk pa h leaf op a b w n x f.op ∙ f.holds;
+}
+
+both_if : (p q : Bool) (c d : Case) (cs ds : List Case) (x : Values) → p ≡ q → (FitsCase c x → FitsCase d x) → (Fits cs x → Fits ds x) → Fits (case_if p c cs) x → Fits (case_if q d ds) x
+both_if true true c d cs ds x e here later (inl f) = inl (here f)
+both_if true true c d cs ds x e here later (inr f) = inr (later f)
+both_if false false c d cs ds x e here later f = later f
+both_if true false c d cs ds x e here later f = absurd (cc e)
+both_if false true c d cs ds x e here later f = absurd (cc e)
+
+ways_there : (s : Stand) (t : Turn) (walk : List Entry) (pa : ℕ) → IsStandOf s t walk pa → (leaf : List Atom) (op : Op) → is_other (kind_of op) ≡ false → (ps qs : List AWay) → AreSameWays ps qs → (x : Values) → Fits (stand_cases s leaf op ps) x → Fits (cases_of t walk pa leaf op qs) x
+ways_there s t walk pa h leaf op n [] [] w x f = f
+ways_there s t walk pa h leaf op n (a ∷ ps) (b ∷ qs) w x f =
+    both_if (is_posed_at s leaf (shape_of op a)) (is_posed t walk pa leaf (shape_of op b)) (case_at (turn_of s) 0 leaf op a) (case_at t pa leaf op b) (stand_cases s leaf op ps) (cases_of t walk pa leaf op qs) x
+    (posed_agrees s t walk pa h leaf op a b w.0) (case_there s t walk pa h leaf op a b w.0 n x) (ways_there s t walk pa h leaf op n ps qs w.1 x) f
+ways_there s t walk pa h leaf op n (a ∷ ps) [] w x f = absurd w
+ways_there s t walk pa h leaf op n [] (b ∷ qs) w x f = absurd w
+
+ways_back : (s : Stand) (t : Turn) (walk : List Entry) (pa : ℕ) → IsStandOf s t walk pa → (leaf : List Atom) (op : Op) → is_other (kind_of op) ≡ false → (ps qs : List AWay) → AreSameWays ps qs → (x : Values) → Fits (cases_of t walk pa leaf op qs) x → Fits (stand_cases s leaf op ps) x
+ways_back s t walk pa h leaf op n [] [] w x f = f
+ways_back s t walk pa h leaf op n (a ∷ ps) (b ∷ qs) w x f =
+    both_if (is_posed t walk pa leaf (shape_of op b)) (is_posed_at s leaf (shape_of op a)) (case_at t pa leaf op b) (case_at (turn_of s) 0 leaf op a) (cases_of t walk pa leaf op qs) (stand_cases s leaf op ps) x
+    (sym (posed_agrees s t walk pa h leaf op a b w.0)) (case_back s t walk pa h leaf op a b w.0 n x) (ways_back s t walk pa h leaf op n ps qs w.1 x) f
+ways_back s t walk pa h leaf op n (a ∷ ps) [] w x f = absurd w
+ways_back s t walk pa h leaf op n [] (b ∷ qs) w x f = absurd w
+
+-- OPERATIONS
+turn_allowed : (s : Stand) (t : Turn) (walk : List Entry) (pa : ℕ) → IsStandOf s t walk pa → (leaf : List Atom) (op : Op) (way : AWay) (x : Values) → FitsCase (case_at t pa leaf op way) x → allows s leaf op ≡ true
+turn_allowed s t walk pa h leaf op way x f =
+    let d : domain t pa leaf op way slots.Op (op_number op) ≡ true = subst (λ (v : ℕ). domain t pa leaf op way slots.Op v ≡ true) f.op (f.each slots.Op) in
+    let a = (and_parts (base_domain t pa leaf (shape_of op way) slots.Op (op_number op)) (way.also slots.Op (op_number op)) d).0 in
+    let b = sym (base_same s t walk pa h leaf (shape_of op way) slots.Op (op_number op)) ∙ a in
+    let e = and_parts (in_word s.word op slots.Op (op_number op)) (all_tests (turn_of s) leaf vars.Op (op_number op)) b in
+    and_from _ _ (in_word_reads s.word op e.0) e.1
+
+head_or_later : (p : Bool) (c : Case) (cs : List Case) (x : Values) → Fits (case_if p c cs) x → FitsCase c x ⊎ Fits cs x
+head_or_later true c cs x f = f
+head_or_later false c cs x f = inr f
+
+turn_ways_allowed : (s : Stand) (t : Turn) (walk : List Entry) (pa : ℕ) → IsStandOf s t walk pa → (leaf : List Atom) (op : Op) (ways : List AWay) (x : Values) → Fits (cases_of t walk pa leaf op ways) x → allows s leaf op ≡ true
+turn_ways_allowed s t walk pa h leaf op [] x f = absurd f
+turn_ways_allowed s t walk pa h leaf op (way ∷ ways) x f = elim (head_or_later (is_posed t walk pa leaf (shape_of op way)) (case_at t pa leaf op way) (cases_of t walk pa leaf op ways) x f) [
+  | inl g ↦ turn_allowed s t walk pa h leaf op way x g
+  | inr g ↦ turn_ways_allowed s t walk pa h leaf op ways x g
+]
+
+pub built_if : (s : Stand) (leaf : List Atom) (op : Op) → is_posable s leaf op ≡ true → allows s leaf op ≡ true → is_other (kind_of op) ≡ false
+built_if s leaf op p a = of_bools (is_other (kind_of op)) (allows s leaf op) p a
+  where
+    of_bools : (b d : Bool) → (not b || not d) ≡ true → d ≡ true → b ≡ false
+    of_bools true d e f = absurd (cc (ap not f, e))
+    of_bools false d e f = refl
+
+operation_there : (s : Stand) (t : Turn) (walk : List Entry) (pa : ℕ) → IsStandOf s t walk pa → (leaf : List Atom) (loads stores : List EntryRow) (op : Op) (x : Values) → is_posable s leaf op ≡ true → Fits (stand_cases s leaf op (stand_ways s op)) x
+    → Fits (cases_of t walk pa leaf op (ways_of t walk pa leaf loads stores op)) x
+operation_there s t walk pa h leaf loads stores op x p f =
+    let n = built_if s leaf op p (stand_allowed s leaf op (stand_ways s op) x f) in
+    ways_there s t walk pa h leaf op n (stand_ways s op) (ways_of t walk pa leaf loads stores op) (ways_same s t walk pa h leaf loads stores op n) x f
+
+operation_back : (s : Stand) (t : Turn) (walk : List Entry) (pa : ℕ) → IsStandOf s t walk pa → (leaf : List Atom) (loads stores : List EntryRow) (op : Op) (x : Values) → is_posable s leaf op ≡ true → Fits (cases_of t walk pa leaf op (ways_of t walk pa leaf loads stores op)) x
+    → Fits (stand_cases s leaf op (stand_ways s op)) x
+operation_back s t walk pa h leaf loads stores op x p f =
+    let n = built_if s leaf op p (turn_ways_allowed s t walk pa h leaf op (ways_of t walk pa leaf loads stores op) x f) in
+    ways_back s t walk pa h leaf op n (stand_ways s op) (ways_of t walk pa leaf loads stores op) (ways_same s t walk pa h leaf loads stores op n) x f
+
+all_there : (s : Stand) (t : Turn) (walk : List Entry) (pa : ℕ) → IsStandOf s t walk pa → (leaf : List Atom) (loads stores : List EntryRow) (list : List Op) (x : Values) → list_all (is_posable s leaf) list ≡ true → Fits (all_cases s leaf list) x
+    → Fits (cases_over t walk pa leaf (ways_of t walk pa leaf loads stores) list) x
+all_there s t walk pa h leaf loads stores [] x p f = f
+all_there s t walk pa h leaf loads stores (op ∷ list) x p f =
+    let b = and_parts (is_posable s leaf op) (list_all (is_posable s leaf) list) p in
+    elim (fits_either (stand_cases s leaf op (stand_ways s op)) (all_cases s leaf list) x f) [
+      | inl g ↦ fits_left (cases_of t walk pa leaf op (ways_of t walk pa leaf loads stores op)) (cases_over t walk pa leaf (ways_of t walk pa leaf loads stores) list) x (operation_there s t walk pa h leaf loads stores op x b.0 g)
+      | inr g ↦ fits_right (cases_of t walk pa leaf op (ways_of t walk pa leaf loads stores op)) (cases_over t walk pa leaf (ways_of t walk pa leaf loads stores) list) x (all_there s t walk pa h leaf loads stores list x b.1 g)
+    ]
+
+all_back : (s : Stand) (t : Turn) (walk : List Entry) (pa : ℕ) → IsStandOf s t walk pa → (leaf : List Atom) (loads stores : List EntryRow) (list : List Op) (x : Values) → list_all (is_posable s leaf) list ≡ true → Fits (cases_over t walk pa leaf (ways_of t walk pa leaf loads stores) list) x
+    → Fits (all_cases s leaf list) x
+all_back s t walk pa h leaf loads stores [] x p f = f
+all_back s t walk pa h leaf loads stores (op ∷ list) x p f =
+    let b = and_parts (is_posable s leaf op) (list_all (is_posable s leaf) list) p in
+    elim (fits_either (cases_of t walk pa leaf op (ways_of t walk pa leaf loads stores op)) (cases_over t walk pa leaf (ways_of t walk pa leaf loads stores) list) x f) [
+      | inl g ↦ fits_left (stand_cases s leaf op (stand_ways s op)) (all_cases s leaf list) x (operation_back s t walk pa h leaf loads stores op x b.0 g)
+      | inr g ↦ fits_right (stand_cases s leaf op (stand_ways s op)) (all_cases s leaf list) x (all_back s t walk pa h leaf loads stores list x b.1 g)
+    ]
+
+pub every_turn : (s : Stand) (t : Turn) (walk : List Entry) (pa : ℕ) → IsStandOf s t walk pa → (leaf : List Atom) (loads stores : List EntryRow) (list : List Op) (cs : List ACase) → list_all (is_posable s leaf) list ≡ true → FitsSame cs (all_cases s leaf list)
+    → FitsSame cs (cases_over t walk pa leaf (ways_of t walk pa leaf loads stores) list)
+every_turn s t walk pa h leaf loads stores list cs p k x hx =
+    (λ y. all_there s t walk pa h leaf loads stores list (values_in x) p ((k x hx).0 y), λ f. (k x hx).1 (all_back s t walk pa h leaf loads stores list (values_in x) p f))

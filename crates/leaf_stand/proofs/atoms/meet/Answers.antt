@@ -1,0 +1,13 @@
+use Rattle.std.proofs.Common.{◌≡◌, ◌&&◌}
+use Rattle.std.specs.List.{filter}
+use Rattle.std.proofs.lemmas.Result.{IfOk-weaker}
+use Rattle.dom_set.specs.Elements.{is_in}
+use Rattle.leaf_stand.specs.Sets.{IsSetOf}
+use Rattle.leaf_stand.proofs.Sets.{filter_leaves}
+use Rattle.leaf_stand.proofs.atoms.meet.Goals as goal
+
+pub returns : goal.returns
+returns c =
+    IfOk-weaker c.and.result (λ s. s ≡ filter (is_in c.args.own.now) c.args.set.now) (IsSetOf (λ v. is_in c.args.set.now v && is_in c.args.own.now v))
+    (λ s h. filter_leaves (is_in c.args.own.now) c.args.set.now s h)
+    c.and.ensures

@@ -1,0 +1,6 @@
+use Rattle.leaf_stand.specs.FirstCases.{fetch_first_at}
+use Rattle.leaf_stand.proofs.Sets.{word_domain}
+use Rattle.leaf_stand.proofs.stand.Stand.fetch_first_domain.Goals as goal
+
+pub returns : goal.returns
+returns c = word_domain c.in_ok-set.set (fetch_first_at c.args.self.now c.args.first.now c.args.second.now c.args.slot) c.element_laws.ensures.ascending c.element_laws.ensures.words c.in_ok-set.ensures

@@ -1,0 +1,9 @@
+pub mod Sets
+pub mod Stands
+pub mod Relations
+pub mod Kinds
+pub mod Posed
+pub mod Ways
+pub mod FirstCases
+pub mod Cuts
+pub mod Laws

@@ -1,0 +1,99 @@
+-- What is known where a leaf is solved, as the turn of the definitions.
+use Rattle.std.specs.Prelude.{◌≡◌, ℕ, Bool, true, false, nat_eq, List, [], Option, Some, None, slice_get}
+use Rattle.rv_csr.specs.Causes.{number_of}
+use Rattle.rv_csr.specs.State.{CsrValues, lazy_value}
+use Rattle.rv_csr.specs.Table.{register_at}
+use Rattle.rv_csr.specs.declared.table.Register.{Register}
+use Rattle.rv_csr.specs.declared.table.Register.TheVariants.{Lazy}
+use Rattle.rv_script.specs.declared.place.Place.{Place}
+use Rattle.rv_script.specs.declared.place.Place.TheVariants.{Reg, Csr, Word}
+use Rattle.rv_script.specs.Folds.{Entry}
+use Rattle.fd_prob.specs.declared.slot.Slot.{Slot}
+use Rattle.fd_prob.specs.declared.slot.Slot.TheVariants as slots
+use Rattle.tpl_ast.specs.declared.template.Atom.{Atom}
+use Rattle.leaf_link.specs.Turns.{Turn}
+use Rattle.leaf_link.specs.Cases.{Shape as AShape, base_domain, may_fetch}
+use Rattle.leaf_link.specs.Firsts.{data_pairs}
+use Rattle.leaf_link.specs.Kinds.{nothing_new, vector_alone}
+use Rattle.leaf_stand.specs.declared.stand.Name.{Name}
+use Rattle.leaf_stand.specs.declared.stand.Stand.{Stand}
+use Rattle.leaf_stand.specs.declared.shape.End.{End}
+use Rattle.leaf_stand.specs.declared.shape.End.TheVariants.{Retires, Traps}
+use Rattle.leaf_stand.specs.declared.shape.Shape.{Shape}
+
+-- the value of a name, where it is one of the list and bound, and its set
+abbrev pub value_named : Option Name → Option ℕ
+value_named None = None
+value_named (Some name) = name.value
+
+abbrev pub set_named : Option Name → List ℕ
+set_named None = []
+set_named (Some name) = name.set.now
+
+-- what is known of a register
+abbrev pub held : Option (Option ℕ) → Option ℕ
+held None = None
+held (Some o) = o
+
+abbrev pub csr_held : CsrValues → Option Register → Option ℕ
+csr_held csrs (Some (Lazy register)) = lazy_value csrs register
+csr_held csrs (Some register) = None
+csr_held csrs None = None
+
+abbrev pub known_of : Stand → Place → Option ℕ
+known_of s (Reg n) = held (slice_get s.registers n)
+known_of s (Csr addr) = csr_held s.csrs (register_at addr)
+known_of s (Word addr) = s.word
+
+-- a turn of which just this is known. What a stand leaves out is of no weight for operations without a data access
+abbrev pub turn_of : Stand → Turn
+turn_of s = record {
+  fixed = record { pc = s.pc; privilege = s.privilege; mstatus = s.csrs.mstatus; medeleg = s.csrs.medeleg; satp = s.csrs.satp; number = s.csrs.hart; ram = λ n. true };
+  known = known_of s;
+  feet = [];
+  pool = [];
+  tables = [];
+  flags = [];
+  vectors = s.vectors.now;
+  names = λ n. value_named (slice_get s.names.now n);
+  sets = λ n. set_named (slice_get s.names.now n);
+  others = [];
+  sources = λ v. true;
+}
+
+-- the stand tells what a turn is: its pc, privilege, registers and CSRs, the word at the pc, the vectors and the names, and whether the fetch may be made
+pub record IsStandOf (s : Stand) (t : Turn) (walk : List Entry) (pa : ℕ) : Type 0 where
+  pub pc : t.fixed.pc ≡ s.pc
+  pub privilege : t.fixed.privilege ≡ s.privilege
+  pub mstatus : t.fixed.mstatus ≡ s.csrs.mstatus
+  pub medeleg : t.fixed.medeleg ≡ s.csrs.medeleg
+  pub registers : (n : ℕ) → t.known (Reg n) ≡ held (slice_get s.registers n)
+  pub csrs : (addr : ℕ) → t.known (Csr addr) ≡ csr_held s.csrs (register_at addr)
+  pub word : t.known (Word pa) ≡ s.word
+  pub vectors : t.vectors ≡ s.vectors.now
+  pub names : (n : ℕ) → t.names n ≡ value_named (slice_get s.names.now n)
+  pub sets : (n : ℕ) → t.sets n ≡ set_named (slice_get s.names.now n)
+  pub fetches : may_fetch t walk pa ≡ s.fetches
+  pub pairs : data_pairs t ≡ s.pairs
+
+-- HOW A STEP ENDS
+abbrev pub outcome_at : End → ℕ
+outcome_at Retires = 255
+outcome_at (Traps cause) = number_of cause
+
+abbrev pub shape_at : Shape → AShape
+shape_at s = record { op = s.op; outcome = outcome_at s.end; reaches = false }
+
+-- what an end says of single variables
+abbrev pub also_at : Turn → End → Slot → ℕ → Bool
+also_at t Retires = nothing_new
+also_at t (Traps cause) = vector_alone t cause
+
+-- the domain of a variable
+abbrev pub domain_at : Turn → List Atom → Shape → Slot → ℕ → Bool
+domain_at t leaf s slots.FirstPte v = nat_eq v 0
+domain_at t leaf s slots.SecondPte v = nat_eq v 0
+domain_at t leaf s slots.DataWord v = nat_eq v 0
+domain_at t leaf s slots.OldCsr v = nat_eq v 0
+domain_at t leaf s slots.Vector v = also_at t s.end slots.Vector v
+domain_at t leaf s slot v = base_domain t 0 leaf (shape_at s) slot v

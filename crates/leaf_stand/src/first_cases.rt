@@ -1,0 +1,131 @@
+// First cases of operations: what counts for the space of a problem and for the order of its assignments.
+
+ghost use Rattle.std.specs.Prelude.{◌≡◌, ℕ, ◌&&◌, true, false, length, IfOk};
+ghost use Rattle.tpl_ast.specs.Leaves.{same_var};
+ghost use Rattle.leaf_link.specs.Cases.{all_tests, in_word, or_no};
+ghost use Rattle.leaf_link.specs.Firsts.{IsDomain};
+ghost use Rattle.fd_prob.specs.Fitting.{IsCase};
+ghost use Rattle.leaf_stand.specs.FirstCases.{AreFirstDomains, IsFirstCase, first_at};
+ghost use Rattle.leaf_stand.specs.Sets.{IsSetOf};
+ghost use Rattle.leaf_stand.specs.Stands.{turn_of};
+
+use crate::formats::Spans;
+use crate::stand::Stand;
+use dom_set::{OutOfMemory, Set};
+use fd_prob::{Case, Items, Rel, SLOTS, Slot};
+use rv_isa::Op;
+use std::alloc::Global;
+use tpl_ast::{Atom, Var};
+
+impl Stand<'_> {
+    /// The values of a field that pass the atoms on it.
+    fn first_field(
+        &self,
+        alloc: Global,
+        leaf: &[Atom],
+        op: Op,
+        slot: Slot,
+        var: Var,
+    ) -> Result<Set, OutOfMemory>
+        requires { same_var Var.Pa var ≡ false }
+        ensures { IfOk result (IsSetOf (λ v. in_word self.now.word op slot v && all_tests (turn_of self.now) leaf.now var v)) }
+    {
+        let values = self.fields(alloc, op, slot)?;
+        self.passing(alloc, values, leaf, var)
+    }
+
+    /// Any word, or 0 alone.
+    fn any_if(&self, alloc: Global, has: bool) -> Result<Set, OutOfMemory>
+        ensures { IfOk result (IsSetOf (or_no has true)) }
+    {
+        if has {
+            Spans::up_to(u32::MAX).set(alloc)
+        } else {
+            Spans::one(0).set(alloc)
+        }
+    }
+
+    /// The words that pass the atoms on a variable that the operation has; 0 alone in place of all words where it
+    /// has it not.
+    fn first_words(
+        &self,
+        alloc: Global,
+        leaf: &[Atom],
+        has: bool,
+        var: Var,
+    ) -> Result<Set, OutOfMemory>
+        requires { same_var Var.Pa var ≡ false }
+        ensures { IfOk result (IsSetOf (λ v. or_no has true v && all_tests (turn_of self.now) leaf.now var v)) }
+    {
+        let values = self.any_if(alloc, has)?;
+        self.passing(alloc, values, leaf, var)
+    }
+
+    fn first_set(
+        &self,
+        alloc: Global,
+        leaf: &[Atom],
+        op: Op,
+        slot: Slot,
+    ) -> Result<Set, OutOfMemory>
+        ensures { IfOk result (IsSetOf (first_at (turn_of self.now) leaf.now op slot)) }
+    {
+        match slot {
+            Slot::Op => self.first_field(alloc, leaf, op, slot, Var::Op),
+            Slot::Rs1 => self.first_field(alloc, leaf, op, slot, Var::Rs1),
+            Slot::Rs2 => self.first_field(alloc, leaf, op, slot, Var::Rs2),
+            Slot::Imm => self.first_field(alloc, leaf, op, slot, Var::Imm),
+            Slot::Rd => self.first_field(alloc, leaf, op, slot, Var::Rd),
+            Slot::Csr => self.first_field(alloc, leaf, op, slot, Var::Csr),
+            Slot::Ea => self.first_words(alloc, leaf, false, Var::Ea),
+            Slot::A => self.first_words(alloc, leaf, op.reads_rs1(), Var::A),
+            Slot::B => self.first_words(alloc, leaf, op.reads_rs2(), Var::B),
+            Slot::FirstPte => Spans::one(0).set(alloc),
+            Slot::SecondPte => Spans::one(0).set(alloc),
+            Slot::DataWord => Spans::one(0).set(alloc),
+            Slot::OldCsr => Spans::one(0).set(alloc),
+            Slot::Vector => self.vectors.copy(alloc),
+        }
+    }
+
+    /// The domain of a variable in the first case of an operation.
+    fn first_domain(
+        &self,
+        alloc: Global,
+        leaf: &[Atom],
+        op: Op,
+        slot: Slot,
+    ) -> Result<Set, OutOfMemory>
+        ensures { IfOk result (λ set. IsDomain set (first_at (turn_of self.now) leaf.now op slot)) }
+    {
+        let set = self.first_set(alloc, leaf, op, slot)?;
+        set.element_laws();
+        Ok(set)
+    }
+
+    fn first_domains(&self, alloc: Global, leaf: &[Atom], op: Op) -> Result<Vec<Set>, OutOfMemory>
+        ensures each { IfOk result (λ doms. AreFirstDomains (turn_of self.now) leaf.now op doms.items) }
+        ensures length { IfOk result (λ doms. length doms.items ≡ 14) }
+    {
+        let mut doms = Vec::new(alloc);
+        for slot in SLOTS {
+            doms.push(self.first_domain(alloc, leaf, op, slot)?)?;
+        }
+        Ok(doms)
+    }
+
+    /// The first case of an operation, which nothing fits.
+    pub fn first_case(&self, alloc: Global, leaf: &[Atom], op: Op) -> Result<Case, OutOfMemory>
+        ensures shape { IfOk result IsCase }
+        ensures first { IfOk result (IsFirstCase self.now leaf.now op) }
+    {
+        let doms = self.first_domains(alloc, leaf, op)?;
+        let mut rels = Items::new(alloc);
+        rels.push(Rel::Rows(Items::new(alloc)))?;
+        Ok(Case {
+            op: op.number(),
+            doms: Items::from_vec(doms),
+            rels,
+        })
+    }
+}

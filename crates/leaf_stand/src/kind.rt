@@ -1,0 +1,65 @@
+// Operations by how their steps go on after the sources.
+
+ghost use Rattle.std.specs.Prelude.{◌≡◌, not};
+ghost use Rattle.leaf_stand.specs.Kinds.{kind_of};
+ghost use Rattle.leaf_stand.specs.Posed.{is_other};
+
+use rv_isa::Op;
+
+/// How the steps of an operation go on after their sources.
+#[derive(Clone, Copy)]
+pub enum Kind {
+    /// It retires: a register or immediate operation, LUI, AUIPC or FENCE.
+    Plain,
+    Branch,
+    /// JAL.
+    Jump,
+    /// JALR.
+    JumpRegister,
+    /// ECALL.
+    Call,
+    /// EBREAK.
+    Break,
+    /// ILLEGAL: the words 0 and 2^32 - 1, which raise an illegal instruction.
+    Illegal,
+    /// SFENCE.VMA.
+    AddressFence,
+    /// It is not built.
+    Other,
+}
+
+/// The kind of an operation.
+pub fn kind_of(op: Op) -> Kind
+    ensures { result ≡ kind_of op }
+{
+    match op {
+        Op::Jal => Kind::Jump,
+        Op::Jalr => Kind::JumpRegister,
+        Op::Beq | Op::Bne | Op::Blt | Op::Bge | Op::Bltu | Op::Bgeu => Kind::Branch,
+        Op::Lb | Op::Lh | Op::Lw | Op::Lbu | Op::Lhu | Op::Sb | Op::Sh | Op::Sw => Kind::Other,
+        Op::Ecall => Kind::Call,
+        Op::Ebreak => Kind::Break,
+        Op::Csrrw | Op::Csrrs | Op::Csrrc | Op::Csrrwi | Op::Csrrsi | Op::Csrrci => Kind::Other,
+        Op::Mret | Op::Sret => Kind::Other,
+        Op::SfenceVma => Kind::AddressFence,
+        Op::Illegal => Kind::Illegal,
+        _ => Kind::Plain,
+    }
+}
+
+/// Whether leaves with the operation are posed.
+pub fn is_posed(op: Op) -> bool
+    ensures { result ≡ not (is_other (kind_of op)) }
+{
+    match kind_of(op) {
+        Kind::Other => false,
+        Kind::Plain
+        | Kind::Branch
+        | Kind::Jump
+        | Kind::JumpRegister
+        | Kind::Call
+        | Kind::Break
+        | Kind::Illegal
+        | Kind::AddressFence => true,
+    }
+}

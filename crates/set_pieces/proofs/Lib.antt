@@ -1,0 +1,16 @@
+pub mod Low
+pub mod Totals
+pub mod Pieces
+pub mod Without
+pub mod Times
+pub mod Powers
+pub mod Halving
+pub mod Stepping
+pub mod Masks
+pub mod Raising
+pub mod Ends
+pub mod Pages
+pub mod Lasts
+pub mod Spans
+pub mod Tells
+pub mod Unmatched

@@ -1,0 +1,18 @@
+use Rattle.std.proofs.Common.{◌&&◌, not, Option, sym, ap, ◌∙◌}
+use Rattle.set_pieces.specs.declared.pattern.Pattern.{Pattern}
+use Rattle.set_pieces.specs.Patterns.{matches, is_matched}
+use Rattle.set_pieces.specs.Runs.{in_run}
+use Rattle.set_pieces.specs.Pieces.{in_piece}
+use Rattle.set_pieces.proofs.Pieces.{and_all}
+use Rattle.set_pieces.proofs.Lasts.{last_same}
+use Rattle.set_pieces.proofs.piece.Piece.last.Goals as goal
+
+pub returns-in-Some : goal.returns-in-Some
+unfolding in_piece
+returns-in-Some c = last_same (λ x. in_run c.args.self.run x && not (matches c.in-Some.hole x)) (λ x. in_run c.args.self.run x && not (is_matched c.args.self.hole x)) c.last_without.result
+    (λ x. ap (λ (o : Option Pattern). in_run c.args.self.run x && not (is_matched o x)) (sym c.in-Some.is)) c.last_without.ensures
+
+pub returns-in-None : goal.returns-in-None
+unfolding in_piece
+returns-in-None c = last_same (in_run c.args.self.run) (λ x. in_run c.args.self.run x && not (is_matched c.args.self.hole x)) c.last.result
+    (λ x. sym (and_all (in_run c.args.self.run x)) ∙ ap (λ (o : Option Pattern). in_run c.args.self.run x && not (is_matched o x)) (sym c.in-None.is)) c.last.ensures

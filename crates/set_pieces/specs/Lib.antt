@@ -1,0 +1,5 @@
+pub mod Counting
+pub mod Patterns
+pub mod Ends
+pub mod Runs
+pub mod Pieces

@@ -1,0 +1,10 @@
+use Rattle.std.proofs.Common.{◌≡◌, ◌+◌, ◌-◌, ◌%◌, ◌^◌}
+use Rattle.set_sums.specs.Rests.{AreRestsKept}
+use Rattle.set_sums.proofs.Leaving.{HaveRestsBelow}
+use Rattle.set_sums.proofs.rests.note_rests.Given as goal
+
+abbrev pub invariant-loop-number : goal.invariant-loop-number
+invariant-loop-number l = record { noted : HaveRestsBelow l.rests l.fn.steps l.number; kept : AreRestsKept l.initial.rests l.rests; same : l.number % 2 ^ l.fn.steps.shift ≡ l.fn.steps.low % 2 ^ l.fn.steps.shift }
+
+abbrev pub decreases-loop-number : goal.decreases-loop-number
+decreases-loop-number l = l.end + 1 - l.number
