@@ -1,9 +1,9 @@
-//! Exact finite sets of 32-bit numbers. A `Set` is kept as a list of pieces, which are `set_pieces`', and no number is in
-//! two of them. No call's time grows with the number of elements, but that of
-//! `shift` where it splits a piece. `from_ranges` keeps at most one piece for each pair, with the mask 2^k - 1 for the
-//! multiples of 2^k, `below` and `with_odd` one for each piece, `signed_below` two. `from_patterns` makes one piece of each
-//! pattern, whose ends tell the highest bits of the mask down to the highest one that it lacks, and joins the pieces of
-//! each half of the patterns as `or` does, which keeps those of one set, and beside them what `minus` leaves of the other.
+//! Exact finite sets of 32-bit numbers. A `Set` is kept as a list of pieces, which are `set_pieces`', and no number is
+//! in two of them. No call's time grows with the number of elements, but that of `shift` where it splits a piece.
+//! `from_ranges` keeps at most one piece for each pair, with the mask 2^k - 1 for the multiples of 2^k, `below` and
+//! `with_odd` one for each piece, `signed_below` two. `from_patterns` makes one piece of each pattern, whose ends tell
+//! the highest bits of the mask down to the highest one that it lacks, and joins the pieces of each half of the
+//! patterns as `or` does, which keeps those of one set, and beside them what `minus` leaves of the other.
 //!
 //! `and` keeps one piece for each two that have a number in common, where their holes are one: where one of two holes has
 //! all that the other has, as the multiples of 64 and those of 4,096 have. A piece less one that it has a number in common

@@ -1,11 +1,9 @@
 // Lists of pieces.
-ghost use Rattle.std.specs.Prelude.{◌≡◌, ℕ, ◌+◌, ◌-◌, ◌*◌, ◌%◌, ◌^◌, ◌<◌, ◌≤◌, ◌↔◌, ◌&&◌, ◌||◌, not, Bool, true, false, bit_and, All, List, length, drop, IfSome, IsTrue, nat_lt, nat_le, if◌then◌else◌, IfOk, OnOk};
-ghost use Rattle.set_pieces.specs.Counting.{one, total};
-ghost use Rattle.dom_set.specs.Elements.{is_matching, is_within};
-ghost use Rattle.set_pieces.specs.Patterns.{is_matched, matches};
-ghost use Rattle.set_pieces.specs.Runs.{in_run, is_in_run};
-ghost use Rattle.set_pieces.specs.Pieces.{in_piece, is_held, times, holds, Ascends, IsApart, AreAlive};
-ghost use Rattle.set_pieces.specs.Ends.{HasPage, IsFirstFrom, IsLast, AreEnds, greater, lesser};
+ghost use Rattle.std.specs.Prelude.{◌≡◌, ℕ, ◌+◌, ◌-◌, ◌%◌, ◌^◌, ◌<◌, ◌≤◌, ◌&&◌, ◌||◌, Bool, true, bit_and, All, IfSome, IsTrue, nat_lt, nat_le, if◌then◌else◌, IfOk, OnOk};
+ghost use Rattle.set_pieces.specs.Counting.{total};
+ghost use Rattle.dom_set.specs.Elements.{is_within};
+ghost use Rattle.set_pieces.specs.Pieces.{in_piece, times, holds, Ascends, IsApart};
+ghost use Rattle.set_pieces.specs.Ends.{HasPage, IsFirstFrom, IsLast, AreEnds};
 
 use set_pieces::{END, OutOfMemory, Piece, greater, lesser, push_moved_piece, push_piece};
 use std::alloc::Global;

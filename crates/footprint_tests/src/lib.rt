@@ -1,6 +1,8 @@
-//! Tests of pages of bits and of footprints, by their public calls.
+//! Tests of pages of bits, of footprints and of what accesses may do with bytes, by their public calls.
 #![tactic(auto)]
 
+#[cfg(test)]
+mod bytes;
 #[cfg(test)]
 mod maps;
 #[cfg(test)]

@@ -1,7 +1,6 @@
 -- Variables that are compared are those of problems.
-use Rattle.std.proofs.Common.{◌≡◌, true, List, [], ◌∷◌, refl}
+use Rattle.std.proofs.Common.{◌≡◌, true, [], ◌∷◌, refl}
 use Rattle.std.proofs.lemmas.Bool.{and_from}
-use Rattle.std.specs.List.{AllByRecursion}
 use Rattle.tpl_ast.specs.declared.template.Atom.{Atom}
 use Rattle.tpl_ast.specs.declared.template.Atom.TheVariants as atoms
 use Rattle.tpl_ast.specs.declared.template.Var.{Var}
@@ -9,7 +8,7 @@ use Rattle.tpl_ast.specs.declared.template.Var.TheVariants as vars
 use Rattle.tpl_ast.specs.Grammar.{are_comparable}
 use Rattle.tpl_ast.specs.Leaves.{IsPlain}
 use Rattle.leaf_stand.specs.Laws.{LeavesAreBetween}
-use Rattle.leaf_stand.specs.Relations.{are_between, has_slot, is_between, slot_of}
+use Rattle.leaf_stand.specs.Relations.{has_slot, is_between, slot_of}
 
 first_slot : (v u : Var) → are_comparable v u ≡ true → has_slot (slot_of v) ≡ true
 first_slot vars.Pa u h = absurd (cc h)

@@ -5,7 +5,6 @@ use Rattle.std.proofs.Math.Seq.{drop-cons}
 use Rattle.dom_set.specs.Elements.{is_in}
 use Rattle.tpl_ast.specs.Leaves.{same_var}
 use Rattle.tpl_ast.specs.declared.template.Atom.{Atom}
-use Rattle.tpl_ast.specs.declared.template.Atom.TheVariants as atoms
 use Rattle.tpl_ast.specs.declared.template.Var.{Var}
 use Rattle.tpl_ast.specs.declared.template.Var.TheVariants as vars
 use Rattle.fd_prob.specs.declared.slot.Slot.{Slot}

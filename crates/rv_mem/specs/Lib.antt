@@ -1,5 +1,6 @@
 pub mod Ram
 pub mod Seen
+pub mod Runs
 pub mod Bytes
 pub mod Full
 pub mod Part

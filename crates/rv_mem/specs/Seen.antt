@@ -14,3 +14,15 @@ abbrev pub is_there : Seen → Bool
 is_there (Known w) = true
 is_there Untouched = true
 is_there Vacant = false
+
+-- the word has a value
+abbrev pub is_known : Seen → Bool
+is_known (Known w) = true
+is_known Untouched = false
+is_known Vacant = false
+
+-- the word is one of RAM that has no value yet
+abbrev pub is_untouched : Seen → Bool
+is_untouched (Known w) = false
+is_untouched Untouched = true
+is_untouched Vacant = false

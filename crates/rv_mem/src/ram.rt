@@ -1,6 +1,7 @@
 // RAM.
-ghost use Rattle.std.specs.Prelude.{◌≡◌, ◌/◌, ◌%◌, IfOk};
-ghost use Rattle.rv_mem.specs.Ram.{AreWhole, in_ram};
+ghost use Rattle.std.specs.Prelude.{◌≡◌, ◌/◌, ◌%◌, ℕ, ◌||◌, IfOk, OnOk};
+ghost use Rattle.rv_mem.specs.Ram.{AreWhole, IsWhole, in_ram, in_region};
+ghost use Rattle.rv_mem.specs.Runs.{in_runs};
 
 use crate::OutOfMemory;
 use std::alloc::Global;
@@ -21,6 +22,17 @@ impl Model for Ram {
     ghost view = { λ r. r.regions.items };
 
     ghost invariant = { λ r. AreWhole r.regions.items };
+}
+
+/// Appends the bytes of a region, if it has any.
+fn push_region(runs: &mut Vec<(u32, u32)>, region: (u32, u32)) -> Result<(), OutOfMemory>
+    requires { IsWhole region }
+    ensures { OnOk result ((x : ℕ) → in_runs runs.new.items x ≡ (in_runs runs.old.items x || in_region region (x / 4))) }
+{
+    if region.0 < region.1 {
+        runs.push((region.0, region.1 - 1))?;
+    }
+    Ok(())
 }
 
 impl Ram {
@@ -45,6 +57,17 @@ impl Ram {
         ensures whole { AreWhole self.now }
     {
         self.regions.as_slice()
+    }
+
+    /// The bytes of RAM as runs, each by its first byte and its last, in the order of the regions.
+    pub fn runs(&self, alloc: Global) -> Result<Vec<(u32, u32)>, OutOfMemory>
+        ensures { IfOk result (λ runs. (x : ℕ) → in_runs runs.items x ≡ in_ram self.now (x / 4)) }
+    {
+        let mut runs = Vec::new(alloc);
+        for region in self.as_slice() {
+            push_region(&mut runs, *region)?;
+        }
+        Ok(runs)
     }
 
     /// Whether the word at an address, a multiple of 4, is one of RAM.

@@ -1,10 +1,9 @@
 // Pieces moved by a distance, modulo 2^32.
-ghost use Rattle.std.specs.Prelude.{◌≡◌, ℕ, ◌+◌, ◌-◌, ◌*◌, ◌%◌, ◌^◌, ◌<◌, ◌≤◌, ◌↔◌, ◌&&◌, ◌||◌, not, Bool, true, false, bit_and, All, List, length, drop, IfSome, IsTrue, nat_lt, nat_le, if◌then◌else◌, IfOk, OnOk};
-ghost use Rattle.set_pieces.specs.Counting.{one, total};
-ghost use Rattle.set_pieces.specs.Patterns.{is_matched, matches};
+ghost use Rattle.std.specs.Prelude.{◌≡◌, ℕ, ◌+◌, ◌-◌, ◌%◌, ◌^◌, ◌<◌, ◌&&◌, not, OnOk};
+ghost use Rattle.set_pieces.specs.Counting.{one};
+ghost use Rattle.set_pieces.specs.Patterns.{matches};
 ghost use Rattle.set_pieces.specs.Runs.{in_run, is_in_run};
-ghost use Rattle.set_pieces.specs.Pieces.{in_piece, is_held, times, holds, Ascends, IsApart, AreAlive};
-ghost use Rattle.set_pieces.specs.Ends.{HasPage, IsFirstFrom, IsLast, AreEnds, greater, lesser};
+ghost use Rattle.set_pieces.specs.Pieces.{in_piece, times};
 
 use crate::error::OutOfMemory;
 use crate::parts::{push_piece, push_run};

@@ -6,3 +6,4 @@ pub mod Grids
 pub mod Marking
 pub mod Turning
 pub mod Leaving
+pub mod Closing

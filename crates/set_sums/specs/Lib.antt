@@ -4,3 +4,4 @@ pub mod Spans
 pub mod Wanted
 pub mod Turned
 pub mod Rests
+pub mod Close

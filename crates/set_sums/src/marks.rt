@@ -93,7 +93,7 @@ impl Marks {
     }
 
     /// Marks the number.
-    fn mark(&mut self, number: u64)
+    pub fn mark(&mut self, number: u64)
         requires { number < 4096 }
         ensures { (x : ℕ) → has self.new x ≡ (has self.old x && not (nat_eq x number)) }
     {
@@ -102,7 +102,7 @@ impl Marks {
     }
 
     /// The first number from the given one up that is not marked.
-    fn first_gap(&self, from: u64) -> Option<u64>
+    pub fn first_gap(&self, from: u64) -> Option<u64>
         requires { from ≤ 4096 }
         ensures from { IfSome result (λ v. from ≤ v) }
         ensures within { IfSome result (λ v. v < 4096) }
@@ -238,6 +238,11 @@ impl Marks {
             Some(number) => number % 64 == rest && number <= last,
             None => false,
         }
+    }
+
+    /// How many numbers are not marked.
+    pub fn count(&self) -> u32 {
+        self.gaps.count()
     }
 
     /// The marked numbers.

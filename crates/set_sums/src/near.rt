@@ -1,17 +1,19 @@
 // Differences of two sets that are near 0, by the places and the low bits of their elements together.
 ghost use Rattle.std.specs.Prelude.{◌≡◌, ℕ, ◌+◌, ◌-◌, ◌*◌, ◌%◌, ◌^◌, ◌<◌, ◌≤◌, IfOk, IfSome, IsTrue};
-ghost use Rattle.set_sums.specs.Near.{AreBackward, AreForward, AreInRanges, AreStillMarked, HasGapFrom, HasNearDifferences, HasNearGap, HasNearOn, HaveMoved, HaveNear, HaveNearOf, HaveNearWith, HaveSteps, HaveSumsFrom, IsAgainst, IsAlong, IsAroundSteps, IsNarrow, IsNext, MayFillGap};
+ghost use Rattle.set_sums.specs.Near.{AreBackward, AreForward, AreInRanges, AreStillMarked, HasGapFrom, HasNearDifferences, HasNearGap, HasNearOn, HaveMoved, HaveNear, HaveNearOf, HaveNearWith, HaveSteps, HaveSumsFrom, IsAgainst, IsAlong, IsNarrow, MayFillGap};
 
+use crate::close::mark_by_pages;
+use crate::grid::{hull, next_on};
 use crate::marks::Marks;
 use crate::ranges::{Span, WORDS, push_round, words_of};
-use crate::rests::{has_gap_leaving, rests_of, sums_of};
+use crate::rests::{has_gap_leaving, leave_much, rests_of, sums_of};
 use crate::steps::{NEAR, REACH, Steps, step};
 use dom_set::{OutOfMemory, Set, Track};
 use lane_bits::PageBits;
 use std::alloc::Global;
 
 /// How many pairs of tracks are looked at, at most.
-const TRACKS: u64 = 4_000_000;
+const TRACKS: u64 = 16_000_000;
 
 /// Steps that are so much coarser leave few numbers near.
 const COARSE: u32 = 6;
@@ -61,24 +63,6 @@ fn backward(alloc: Global, tracks: &[Track]) -> Result<Vec<Steps>, OutOfMemory>
         all.push(against(*track))?;
     }
     Ok(all)
-}
-
-/// The first number from the given one up that is a multiple of 2^shift from the lowest.
-fn next_on(low: u64, shift: u32, from: u64) -> u64
-    requires within { shift < 32 }
-    requires fits { from < 2 ^ 40 }
-    ensures { IsNext low shift from result }
-{
-    if from <= low {
-        return low;
-    }
-    let step = step(shift);
-    let past = (from - low) & (step - 1);
-    if past == 0 {
-        from
-    } else {
-        from + (step - past)
-    }
 }
 
 /// Marks the numbers from the lowest to the highest one that are a multiple of 2^shift from the lowest, from the base
@@ -199,20 +183,6 @@ fn mark_block(marks: &mut Marks, firsts: &[Steps], others: &[Steps])
     }
 }
 
-/// A range around all steps.
-fn hull(all: &[Steps]) -> (u64, u64)
-    ensures around { IsAroundSteps all.now result }
-    ensures bound { result.1 ≤ 2 ^ 32 + 2048 }
-{
-    let mut low = u64::MAX;
-    let mut high = 0;
-    for steps in all {
-        low = low.min(steps.low);
-        high = high.max(steps.high);
-    }
-    (low, high)
-}
-
 /// Whether a number from the lowest to the highest is near, from the base on, and is not marked.
 fn has_gap_from(marks: &Marks, low: u64, high: u64, base: u64) -> bool
     ensures { HasGapFrom marks.now low high base result }
@@ -241,7 +211,12 @@ fn may_fill_gap(marks: &Marks, firsts: &[Steps], others: &[Steps]) -> bool
     if !has_near_gap(marks, low, high) {
         return false;
     }
-    let rests = sums_of(&rests_of(firsts), &rests_of(others));
+    let first_rests = rests_of(firsts);
+    let other_rests = rests_of(others);
+    if leave_much(&first_rests, &other_rests) {
+        return true;
+    }
+    let rests = sums_of(&first_rests, &other_rests);
     has_gap_leaving(marks, &rests, low, high)
 }
 
@@ -262,6 +237,9 @@ fn mark_pairs(marks: &mut Marks, left: &mut u64, firsts: &[Steps], others: &[Ste
     if firsts.len() <= BLOCK && others.len() <= BLOCK {
         *left = left.saturating_sub((firsts.len() * others.len()) as u64);
         mark_block(marks, firsts, others);
+        return;
+    }
+    if mark_by_pages(marks, firsts, others) {
         return;
     }
     if firsts.len() < others.len() {

@@ -59,6 +59,14 @@ pub fn sums_of(firsts: &PageBits, others: &PageBits) -> PageBits
     sums
 }
 
+/// From so many pairs on sums are not added up: they leave nearly all, and that takes its time.
+const MANY: u32 = 512;
+
+/// Whether the pairs of what is left are many.
+pub fn leave_much(firsts: &PageBits, others: &PageBits) -> bool {
+    firsts.count().saturating_mul(others.count()) > MANY
+}
+
 /// Whether a number from the lowest to the highest, from the base on, leaves one of these and is not marked.
 fn has_gap_leaving_from(marks: &Marks, rests: &PageBits, low: u64, high: u64, base: u64) -> bool
     ensures { HasGapLeavingFrom marks.now rests.now 64 low high base result }

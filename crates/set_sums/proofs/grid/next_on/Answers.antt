@@ -1,6 +1,6 @@
 use Rattle.std.proofs.Common.{refl, arith}
 use Rattle.set_sums.proofs.Grids.{next_at, next_past}
-use Rattle.set_sums.proofs.near.next_on.Goals as goal
+use Rattle.set_sums.proofs.grid.next_on.Goals as goal
 
 pub returns-then-past-eq0 : goal.returns-then-past-eq0
 returns-then-past-eq0 c = next_at c.args.low c.args.shift c.args.from c.step-step.result _ c.step-step.ensures refl (omega arith) c.if-past-eq0.true

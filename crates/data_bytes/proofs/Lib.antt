@@ -1,0 +1,4 @@
+pub mod Sets
+pub mod Framing
+pub mod Seeing
+pub mod Starting

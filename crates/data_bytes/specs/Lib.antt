@@ -1,0 +1,4 @@
+pub mod Sets
+pub mod Frames
+pub mod Bytes
+pub mod Starts
