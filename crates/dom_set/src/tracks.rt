@@ -71,9 +71,54 @@ fn push_run_tracks(tracks: &mut Vec<Track>, run: Option<Run>) -> Result<(), OutO
     }
 }
 
-/// Adds tracks around the run's numbers that the pattern doesn't match: for each bit around those that have its bits below
-/// that one, and not that one.
-fn push_holed_tracks(tracks: &mut Vec<Track>, run: Run, hole: Pattern) -> Result<(), OutOfMemory>
+/// Adds the track of the numbers from the first one up to the end, if there are any.
+fn push_range(tracks: &mut Vec<Track>, first: u64, end: u64) -> Result<(), OutOfMemory>
+    requires { end ≤ 2 ^ 32 }
+    ensures covered { OnOk result ((x : ℕ) → first ≤ x → x < end → is_on_one tracks.new.items x ≡ true) }
+    ensures kept { OnOk result (AreKept tracks.old.items tracks.new.items) }
+{
+    if first >= end {
+        return Ok(());
+    }
+    let low = first as u32;
+    let high = (end - 1) as u32;
+    // A single number has no neighbour, whatever the distance.
+    let shift = if low == high { 31 } else { 0 };
+    tracks.push(Track { low, high, shift })?;
+    Ok(())
+}
+
+/// Adds tracks around the numbers from the lowest to the highest one that the pattern doesn't match: a range between each
+/// two that it does.
+fn push_ranges(
+    tracks: &mut Vec<Track>,
+    hole: Pattern,
+    low: u32,
+    high: u32,
+) -> Result<(), OutOfMemory>
+    ensures covered { OnOk result ((x : ℕ) → low ≤ x → x ≤ high → matches hole x ≡ false → is_on_one tracks.new.items x ≡ true) }
+    ensures kept { OnOk result (AreKept tracks.old.items tracks.new.items) }
+{
+    let end = u64::from(high) + 1;
+    let mut from = u64::from(low);
+    while from < end {
+        let next = hole.next_from(from).min(end);
+        push_range(tracks, from, next)?;
+        from = next + 1;
+    }
+    Ok(())
+}
+
+/// Whether the run is a range and the hole leaves out so few of its numbers that they make fewer ranges than it has bits.
+fn is_cut_rarely(run: Run, hole: Pattern, low: u32, high: u32) -> bool {
+    let below = hole.count_below(u64::from(low));
+    let cuts = hole.count_below(u64::from(high) + 1).saturating_sub(below);
+    run.pattern.mask == 0 && cuts < u64::from(hole.mask.trailing_ones())
+}
+
+/// Adds tracks around the run's numbers that the pattern doesn't match, bit by bit: around those that have its bits below
+/// one, and not that one.
+fn push_bits(tracks: &mut Vec<Track>, run: Run, hole: Pattern) -> Result<(), OutOfMemory>
     ensures covered { OnOk result ((x : ℕ) → in_run run x ≡ true → matches hole x ≡ false → is_on_one tracks.new.items x ≡ true) }
     ensures kept { OnOk result (AreKept tracks.old.items tracks.new.items) }
 {
@@ -82,6 +127,20 @@ fn push_holed_tracks(tracks: &mut Vec<Track>, run: Run, hole: Pattern) -> Result
         push_run_tracks(tracks, run.missed(hole, bit))?;
     }
     Ok(())
+}
+
+/// Adds tracks around the run's numbers that the pattern doesn't match, as ranges where these are fewer, and else bit by bit.
+fn push_holed_tracks(tracks: &mut Vec<Track>, run: Run, hole: Pattern) -> Result<(), OutOfMemory>
+    ensures covered { OnOk result ((x : ℕ) → in_run run x ≡ true → matches hole x ≡ false → is_on_one tracks.new.items x ≡ true) }
+    ensures kept { OnOk result (AreKept tracks.old.items tracks.new.items) }
+{
+    let Some((low, high)) = run.span() else {
+        return Ok(());
+    };
+    if is_cut_rarely(run, hole, low, high) {
+        return push_ranges(tracks, hole, low, high);
+    }
+    push_bits(tracks, run, hole)
 }
 
 /// Adds tracks around the numbers of a piece.

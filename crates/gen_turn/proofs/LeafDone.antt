@@ -234,7 +234,7 @@ module _ (met_are_true : MetAreTrue) (are_fetched : StepsAreFetched) (words_are_
 
       only_fetched : (a u : ℕ) → given_to es (Word a) ≡ Some u → a ≡ turn.found_is.pa
       only_fetched a u h =
-          words_are_fetched (turn_at turn.found_is.setting turn.found_is.feet k old) turn.found_is.walk turn.found_is.pa turn.found_is.leaf (new_at k old x) turn.found_is.fetched turn.found_is.candidate turn.found_is.little a u
+          words_are_fetched (turn_at turn.found_is.setting turn.found_is.feet k old) turn.found_is.walk turn.found_is.pa turn.found_is.leaf (new_at k old x) turn.found_is.fetched turn.found_is.candidate turn.found_is.inner a u
           (sym (l.taken.places.listed (Word a)) ∙ h)
 
   -- the candidate

@@ -48,4 +48,8 @@ mod Finding
 mod Existing
 mod FetchPossible
 mod Placing
+mod Alone
+mod Located
+mod SatpKept
+mod FetchedWords
 mod Unfailing

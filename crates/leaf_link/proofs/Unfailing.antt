@@ -17,7 +17,6 @@ use Rattle.rv_csr.specs.declared.table.Register.{Register}
 use Rattle.rv_csr.specs.Causes.{number_of}
 use Rattle.rv_csr.specs.Privilege.{is_machine}
 use Rattle.rv_csr.specs.Table.{is_legal}
-use Rattle.rv_script.specs.Folds.{Entry, Known}
 use Rattle.rv_script.specs.Logs.{by_answers}
 use Rattle.rv_script.specs.Script.{Label.FromCsr, Question.OfCsr, Question.OfMemory, Script, Script.Ask, Script.Outside, Script.Done, ◌>>=◌}
 use Rattle.rv_script.proofs.Results.{Ends, ended, ends_then}

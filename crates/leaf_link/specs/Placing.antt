@@ -1,48 +1,36 @@
--- Which of a candidate's values each of its new places has, told from the place alone, where the instruction asks for little.
-use Rattle.std.specs.Prelude.{◌≡◌, ℕ, ◌<◌, Bool, true, false, not, ◌&&◌, nat_eq, if◌then◌else◌, List, Some}
-use Rattle.rv_isa.specs.declared.table.Row.{Row}
-use Rattle.rv_isa.specs.declared.table.Row.TheVariants.{R, I, Shift, S, B, U, J, Csr as CsrRow, CsrImmediate, FenceSets, AddressFence, Fixed as Whole, DefinedIllegal}
+-- Which of a candidate's values each of its new places has, told from the place alone where data accesses are not translated; and what its step keeps.
+use Rattle.std.specs.Prelude.{◌≡◌, ℕ, ◌<◌, Bool, false, ◌&&◌, nat_eq, if◌then◌else◌, List, Some}
+use Rattle.rv_isa.specs.declared.instruction.Instr.{Instr}
 use Rattle.rv_isa.specs.Encoding.{Fits, word_of}
 use Rattle.rv_isa.specs.Table.{row_of}
+use Rattle.rv_csr.specs.declared.table.Register.{Register}
+use Rattle.rv_csr.specs.declared.table.Register.TheVariants.{Sstatus, Satp, Mstatus, Medeleg, Mhartid, Lazy}
 use Rattle.rv_script.specs.declared.place.Place.{Place}
 use Rattle.rv_script.specs.declared.place.Place.TheVariants.{Reg, Csr, Word}
 use Rattle.rv_script.specs.Folds.{Entry, Known}
+use Rattle.sv_walk.specs.Translation.{is_translated}
 use Rattle.rv_hart.specs.declared.record.Control.{Control}
 use Rattle.rv_hart.specs.declared.record.Control.TheVariants.{Stay, Write, Trap, Mret, Sret}
+use Rattle.rv_hart.specs.Machine.{data_view}
 use Rattle.fd_prob.specs.declared.slot.Slot.TheVariants as slots
 use Rattle.tpl_ast.specs.declared.template.Atom.{Atom}
 use Rattle.leaf_link.specs.Turns.{Turn}
-use Rattle.leaf_link.specs.Values.{Values, instr_in}
+use Rattle.leaf_link.specs.Values.{Values, has_address, has_csr_operand, instr_in}
 use Rattle.leaf_link.specs.Candidates.{IsCandidate}
 use Rattle.leaf_link.specs.Ways.{IsFetched}
 use Rattle.leaf_link.specs.Problems.{key_of}
 
--- behind its source registers the instruction asks for nothing but the vector of a trap: all but loads, stores, CSR instructions, MRET and SRET
-abbrev pub asks_little : Row → Bool
-asks_little (R opcode funct3 funct7) = true
-asks_little (I opcode funct3) = not (nat_eq opcode 0x03)
-asks_little (Shift opcode funct3 funct7) = true
-asks_little (S opcode funct3) = false
-asks_little (B opcode funct3) = true
-asks_little (U opcode) = true
-asks_little (J opcode) = true
-asks_little (CsrRow opcode funct3) = false
-asks_little (CsrImmediate opcode funct3) = false
-asks_little (FenceSets opcode funct3) = true
-asks_little (AddressFence opcode funct3 funct7) = true
-asks_little (Whole bits) = not (nat_eq bits 0x3020_0073) && not (nat_eq bits 0x1020_0073)
-asks_little DefinedIllegal = true
+-- where the fetched word stands at `pa`: a word is the fetched one or the data word, a register is rs1 or else rs2, a CSR is the vector of a trap, or else the one that is
+-- read
+abbrev pub place_value : Values → ℕ → Place → ℕ
+place_value x pa (Word addr) = if nat_eq addr pa then word_of (instr_in x) else x slots.DataWord
+place_value x pa (Reg n) = if nat_eq n (x slots.Rs1) then x slots.A else x slots.B
+place_value x pa (Csr addr) = if nat_eq (x slots.Vector) 0 then x slots.OldCsr else x slots.Vector
 
--- a word is the fetched one, a register is rs1 or else rs2, a CSR is the vector
-abbrev pub value_at : Values → Place → ℕ
-value_at x (Word addr) = word_of (instr_in x)
-value_at x (Reg n) = if nat_eq n (x slots.Rs1) then x slots.A else x slots.B
-value_at x (Csr addr) = x slots.Vector
-
-abbrev pub ValuesAreByPlaces : Type 0
-ValuesAreByPlaces =
-    (t : Turn) (walk : List Entry) (pa : ℕ) (leaf : List Atom) (new : Known) → IsFetched t walk pa → (w : IsCandidate t leaf new) → asks_little (row_of w.instr.op) ≡ true
-    → (place : Place) (v : ℕ) → new place ≡ Some v → v ≡ value_at (key_of t leaf new w) place
+abbrev pub PlacesHaveValues : Type 0
+PlacesHaveValues =
+    (t : Turn) (walk : List Entry) (pa : ℕ) (leaf : List Atom) (new : Known) → IsFetched t walk pa → is_translated (data_view t.fixed) ≡ false → (w : IsCandidate t leaf new)
+    → (place : Place) (v : ℕ) → new place ≡ Some v → v ≡ place_value (key_of t leaf new w) pa place
 
 -- the fields fit the operation, whose number is one of the table
 pub record IsInstruction (x : Values) : Type 0 where
@@ -54,22 +42,33 @@ abbrev pub ValuesAreInstructions : Type 0
 ValuesAreInstructions =
     (t : Turn) (leaf : List Atom) (new : Known) → (w : IsCandidate t leaf new) → IsInstruction (key_of t leaf new w) × (instr_in (key_of t leaf new w) ≡ w.instr)
 
--- a step goes on as it is, or traps
-abbrev pub StaysOrTraps : Control → Type 0
-StaysOrTraps Stay = Unit {0}
-StaysOrTraps (Write register value) = ⊥
-StaysOrTraps (Trap cause value) = Unit {0}
-StaysOrTraps Mret = ⊥
-StaysOrTraps Sret = ⊥
+-- a CSR instruction whose register is satp
+abbrev pub writes_satp : Instr → Bool
+writes_satp i = has_csr_operand (row_of i.op) && nat_eq i.csr 0x180
 
--- it writes no CSR but those of a trap
-abbrev pub StepsStayOrTrap : Type 0
-StepsStayOrTrap =
-    (t : Turn) (walk : List Entry) (pa : ℕ) (leaf : List Atom) (new : Known) → IsFetched t walk pa → (w : IsCandidate t leaf new) → asks_little (row_of w.instr.op) ≡ true
-    → StaysOrTraps w.change.control
+abbrev pub IsNotSatp : Register → Type 0
+IsNotSatp Sstatus = Unit {0}
+IsNotSatp Satp = ⊥
+IsNotSatp Mstatus = Unit {0}
+IsNotSatp Medeleg = Unit {0}
+IsNotSatp Mhartid = Unit {0}
+IsNotSatp (Lazy register) = Unit {0}
 
--- the only new word is the fetched one
+-- a step does not write satp
+abbrev pub KeepsSatp : Control → Type 0
+KeepsSatp Stay = Unit {0}
+KeepsSatp (Write register value) = IsNotSatp register
+KeepsSatp (Trap cause value) = Unit {0}
+KeepsSatp Mret = Unit {0}
+KeepsSatp Sret = Unit {0}
+
+-- the only steps that write satp are those of CSR instructions with its address
+abbrev pub StepsKeepSatp : Type 0
+StepsKeepSatp =
+    (t : Turn) (walk : List Entry) (pa : ℕ) (leaf : List Atom) (new : Known) → IsFetched t walk pa → (w : IsCandidate t leaf new) → writes_satp w.instr ≡ false → KeepsSatp w.change.control
+
+-- the only new word is the fetched one, but for loads and stores
 abbrev pub NewWordsAreFetched : Type 0
 NewWordsAreFetched =
-    (t : Turn) (walk : List Entry) (pa : ℕ) (leaf : List Atom) (new : Known) → IsFetched t walk pa → (w : IsCandidate t leaf new) → asks_little (row_of w.instr.op) ≡ true
+    (t : Turn) (walk : List Entry) (pa : ℕ) (leaf : List Atom) (new : Known) → IsFetched t walk pa → (w : IsCandidate t leaf new) → has_address (row_of w.instr.op) ≡ false
     → (addr v : ℕ) → new (Word addr) ≡ Some v → addr ≡ pa

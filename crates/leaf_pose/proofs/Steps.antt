@@ -10,6 +10,7 @@ use Rattle.fd_prob.specs.declared.problem.Assignment.{Assignment}
 use Rattle.fd_prob.specs.declared.problem.Case.{Case as ACase}
 use Rattle.fd_prob.specs.declared.relation.Rel.{Rel}
 use Rattle.fd_prob.specs.declared.relation.Rel.TheVariants.{Rows}
+use Rattle.fd_prob.specs.declared.slot.Slot.{Slot}
 use Rattle.fd_prob.specs.Fitting.{IsCase, fits_case}
 use Rattle.fd_prob.specs.Relations.{holds}
 use Rattle.rv_isa.specs.Numbers.{op_numbered, op_number}
@@ -28,7 +29,7 @@ use Rattle.leaf_stand.specs.Stands.{shape_at, turn_of}
 use Rattle.leaf_stand.specs.Ways.{AreWaysOf, IsWayOf, shape_with, way_case, way_cases}
 use Rattle.leaf_pose.proofs.Shapes.{pushed}
 use Rattle.leaf_link.proofs.Numbers.{same_op}
-use Rattle.leaf_stand.proofs.Single.{both_same, relations_of}
+use Rattle.leaf_stand.proofs.Single.{relations_of}
 use Rattle.leaf_stand.proofs.Fits.{both_lists, fits_either, fits_left, fits_right, none_yet}
 
 -- MORE CASES
@@ -122,12 +123,15 @@ part_fits s leaf op way x h f =
     let more = and_parts (atoms_hold t leaf sh x) ((way_at s op way).holds x) parts.1 in
     record {
       op = f.op;
-      each = λ slot. both_same _ _ _ _ (ap (λ (a : AShape). base_domain t 0 leaf a slot (x slot)) e) (h.also slot (x slot)) ∙ f.each slot;
-      holds = and_from _ _ (ap (λ (a : AShape). sources_hold t a x) e ∙ parts.0) (and_from _ _ (ap (λ (a : AShape). atoms_hold t leaf a x) e ∙ more.0) (h.holds x more.1));
+      each = λ slot. and_from _ _ (ap (λ (a : AShape). base_domain t 0 leaf a slot (x slot)) e ∙ (domain_parts slot).0) (h.also slot (x slot) (domain_parts slot).1);
+      holds = and_from _ _ (ap (λ (a : AShape). sources_hold t a x) e ∙ parts.0) (and_from _ _ (ap (λ (a : AShape). atoms_hold t leaf a x) e ∙ more.0) (h.holds x (λ slot. (domain_parts slot).1) more.1));
     }
   where
     shapes_same : (o : Op) (m n : ℕ) (b d : Bool) → m ≡ n → b ≡ d → shape_at_with o m b ≡ shape_at_with o n d
     shapes_same o m n b d p q = ap (λ (k : ℕ). shape_at_with o k b) p ∙ ap (λ (k : Bool). shape_at_with o n k) q
+
+    domain_parts : (slot : Slot) → (base_domain (turn_of s) 0 leaf (shape_of op (way_at s op way)) slot (x slot) ≡ true) × ((way_at s op way).also slot (x slot) ≡ true)
+    domain_parts slot = and_parts (base_domain (turn_of s) 0 leaf (shape_of op (way_at s op way)) slot (x slot)) ((way_at s op way).also slot (x slot)) (f.each slot)
 
 pub way_shaped : (s : Stand) (leaf : List Atom) (op : Op) (way : Way) (c : ACase) → is_other (kind_of op) ≡ false → IsPartOf s op way → is_posed_at s leaf (shape_at (shape_with op way.end)) ≡ true
     → FitsSame (c ∷ []) (case_at (turn_of s) 0 leaf op (way_at s op way) ∷ []) → IsShaped s leaf (shape_with op way.end) c

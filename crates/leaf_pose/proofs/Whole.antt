@@ -1,5 +1,5 @@
 -- The problem of a leaf, whole.
-use Rattle.std.proofs.Common.{◌≡◌, ℕ, zero, suc, ◌<◌, ◌^◌, Bool, true, false, ◌&&◌, ◌||◌, ◌==◌, List, [], ◌∷◌, ◌++◌, Option, Some, None, refl, sym, ap, ◌∙◌, subst, inl, inr, arith, lit<, All, find, get_or, length}
+use Rattle.std.proofs.Common.{◌≡◌, ℕ, zero, suc, ◌<◌, ◌^◌, Bool, true, false, ◌&&◌, ◌==◌, List, [], ◌∷◌, ◌++◌, Option, Some, None, refl, sym, ap, ◌∙◌, subst, inl, inr, arith, lit<, All, find, get_or, length}
 use Rattle.std.specs.Prelude.{nat_eq, nat_lt, slice_index_or}
 use Rattle.std.specs.List.{list_all}
 use Rattle.std.proofs.lemmas.Bool.{and_parts, cases_Bool}
@@ -31,7 +31,7 @@ use Rattle.fd_prob.specs.Slots.{slot_number}
 use Rattle.leaf_link.specs.Turns.{Turn, is_first_form, is_second_form}
 use Rattle.leaf_link.specs.Values.{has_address}
 use Rattle.leaf_link.specs.Cases.{all_tests, in_format, in_read, in_word, or_no}
-use Rattle.leaf_link.specs.Firsts.{IsDomain, IsFirst, IsFirstOf, first_domain, has_old, has_walk, in_first_format, in_first_word, is_allowed, is_modelled, is_return}
+use Rattle.leaf_link.specs.Firsts.{IsDomain, IsFirst, IsFirstOf, first_domain, has_walk, in_first_format, in_first_word, is_allowed, is_modelled}
 use Rattle.leaf_stand.specs.declared.shape.Shape.{Shape}
 use Rattle.leaf_pose.specs.declared.shaped.Shaped.{Shaped}
 use Rattle.leaf_stand.specs.declared.stand.Stand.{Stand}
@@ -45,7 +45,7 @@ use Rattle.leaf_pose.specs.Problems.{ArePivots, PosesLeaf}
 use Rattle.leaf_stand.specs.Stands.{IsStandOf, turn_of}
 use Rattle.leaf_pose.proofs.Leading.{FindsFirst, first_found, none_found}
 use Rattle.leaf_stand.proofs.Lists.{each_domain}
-use Rattle.leaf_stand.proofs.Rows.{built_address, built_csr, built_return}
+use Rattle.leaf_stand.proofs.Rows.{built_address, built_csr}
 use Rattle.leaf_pose.proofs.Shapes.{nothing}
 use Rattle.leaf_stand.proofs.Single.{both_same, domain_in_case}
 use Rattle.leaf_stand.proofs.Fits.{none_yet}
@@ -89,9 +89,6 @@ or_nothing b inside v h = ap (λ (c : Bool). or_no c inside v) h
 no_walk : (t : Turn) (op : Op) → has_address (row_of op) ≡ false → has_walk t op ≡ false
 no_walk t op h = ap (λ (b : Bool). b && is_translated (data_view t.fixed)) h
 
-no_old : (op : Op) → has_csr (row_of op) ≡ false → is_return op ≡ false → has_old op ≡ false
-no_old op h k = ap (λ (b : Bool). b || is_return op) h ∙ k
-
 first_same : (s : Stand) (t : Turn) (walk : List Entry) (pa : ℕ) → IsStandOf s t walk pa → (leaf : List Atom) (op : Op) → is_other (kind_of op) ≡ false → (slot : Slot) (v : ℕ) → first_domain t pa leaf op slot v ≡ first_at (turn_of s) leaf op slot v
 first_same s t walk pa h leaf op n slots.Op v = first_field s t walk pa h leaf op slots.Op vars.Op v (built_csr op n) refl
 first_same s t walk pa h leaf op n slots.Rs1 v = first_field s t walk pa h leaf op slots.Rs1 vars.Rs1 v (built_csr op n) refl
@@ -105,7 +102,7 @@ first_same s t walk pa h leaf op n slots.B v = both_same _ _ _ _ refl (all_same 
 first_same s t walk pa h leaf op n slots.FirstPte v = or_nothing (has_walk t op) (is_first_form t v) v (no_walk t op (built_address op n))
 first_same s t walk pa h leaf op n slots.SecondPte v = or_nothing (has_walk t op) (is_second_form t v) v (no_walk t op (built_address op n))
 first_same s t walk pa h leaf op n slots.DataWord v = or_nothing (has_address (row_of op)) true v (built_address op n)
-first_same s t walk pa h leaf op n slots.OldCsr v = or_nothing (has_old op) true v (no_old op (built_csr op n) (built_return op n))
+first_same s t walk pa h leaf op n slots.OldCsr v = refl
 first_same s t walk pa h leaf op n slots.Vector v = ap (λ (l : List ℕ). is_in l v) h.vectors
 
 -- an operation that is allowed is so at every turn

@@ -39,7 +39,7 @@ pub fn case_of(
     ensures fits { IfOk result (λ c. FitsSame (c ∷ []) (case_at (turn_of stand.now) 0 leaf.now op (way_at stand.now op way) ∷ [])) }
 {
     let shape = Shape { op, end: way.end };
-    let doms = stand.domains(alloc, leaf, shape)?;
+    let doms = stand.domains(alloc, leaf, shape, way.reads)?;
     let rels = relations(alloc, stand, leaf, shape, way)?;
     Ok(Case {
         op: op.number(),

@@ -1,20 +1,25 @@
 -- The ways of each kind of operations, as the code and as the definitions have them.
-use Rattle.std.proofs.Common.{◌≡◌, ◌+◌, ◌%◌, ◌^◌, ◌⊎◌, Bool, true, false, ◌&&◌, List, [], ◌∷◌, ◌++◌, Some, None, refl, sym, ap, ◌∙◌, subst, inl, inr}
+use Rattle.std.proofs.Common.{◌≡◌, ℕ, ◌+◌, ◌%◌, ◌^◌, ◌⊎◌, Bool, true, false, ◌&&◌, List, [], ◌∷◌, ◌++◌, Some, None, refl, sym, ap, ◌∙◌, subst, inl, inr}
 use Rattle.std.specs.Prelude.{not, if◌then◌else◌}
 use Rattle.std.proofs.lemmas.Bool.{and_from, and_parts}
 use Rattle.rv_isa.specs.declared.operation.Op.{Op}
 use Rattle.rv_isa.specs.declared.operation.Op.TheVariants as ops
 use Rattle.rv_isa.specs.Arithmetic.{is_branch}
 use Rattle.rv_csr.specs.declared.cause.Cause.TheVariants as causes
-use Rattle.rv_csr.specs.declared.status.Flag.TheVariants.{Tvm}
+use Rattle.rv_csr.specs.declared.status.Flag.TheVariants.{Tsr, Tvm}
+use Rattle.rv_csr.specs.declared.table.LazyRegister.{LazyRegister}
+use Rattle.rv_csr.specs.declared.table.LazyRegister.TheVariants.{Mepc, Sepc}
+use Rattle.rv_csr.specs.Privilege.{is_machine}
 use Rattle.rv_hart.specs.Machine.{is_taken}
-use Rattle.rv_hart.specs.Privileged.{call_cause, is_withheld}
+use Rattle.rv_hart.specs.Privileged.{call_cause, is_withheld, lazy_address}
 use Rattle.rv_script.specs.Lists.{HasItem}
 use Rattle.tpl_ast.specs.declared.template.Atom.{Atom}
 use Rattle.tpl_ast.specs.declared.template.Var.TheVariants as vars
+use Rattle.fd_prob.specs.declared.slot.Slot.{Slot}
 use Rattle.fd_prob.specs.declared.slot.Slot.TheVariants as slots
 use Rattle.leaf_link.specs.Values.{Values}
-use Rattle.leaf_link.specs.Cases.{Case, Fits, FitsCase, Shape as AShape, Way as AWay, atoms_hold, case_at, case_if, sources_hold, target_at, uses}
+use Rattle.leaf_link.specs.Cases.{Case, Fits, FitsCase, Shape as AShape, Way as AWay, atoms_hold, base_domain, case_at, case_if, sources_hold, target_at, uses}
+use Rattle.leaf_link.specs.Controls.{ends_when, is_old, old_new, return_ways}
 use Rattle.leaf_link.specs.Kinds.{branch_goes, forks, is_target, near_is_target, retires, retires_when, traps, traps_when}
 use Rattle.leaf_stand.specs.declared.shape.End.{End}
 use Rattle.leaf_stand.specs.declared.shape.End.TheVariants.{Retires, Traps}
@@ -23,12 +28,12 @@ use Rattle.leaf_stand.specs.declared.way.Way.{Way}
 use Rattle.leaf_stand.specs.Kinds.{kind_of}
 use Rattle.leaf_stand.specs.Posed.{IsPartOf, is_other, is_posed_at, stand_cases, stand_ways}
 use Rattle.leaf_stand.specs.Relations.{way_at}
-use Rattle.leaf_stand.specs.Stands.{shape_at, turn_of}
-use Rattle.leaf_stand.specs.Ways.{AreWaysOf, going, missing, retiring, shape_with, staying, trapping, way_cases, ways_by}
+use Rattle.leaf_stand.specs.Stands.{also_read, shape_at, turn_of}
+use Rattle.leaf_stand.specs.Ways.{AreWaysOf, going, missing, retiring, returning, shape_with, staying, trapping, way_cases, ways_by}
 
 -- WAYS THAT ARE THOSE OF THE DEFINITION
 whole_way : (s : Stand) (op : Op) (way : Way) → HasItem (stand_ways s op) (way_at s op way) → IsPartOf s op way
-whole_way s op way i = record { whole = way_at s op way; is = i; outcome = refl; reaches = refl; also = λ slot v. refl; holds = λ x h. h }
+whole_way s op way i = record { whole = way_at s op way; is = i; outcome = refl; reaches = refl; also = λ slot v h. h; holds = λ x a h. h }
 
 -- BRANCHES
 taken_goes : (t n : Bool) → (t && n) ≡ true → (if t then n else true) ≡ true
@@ -81,8 +86,8 @@ taken_part s op b = record {
   is = fork_of s op b (retires_when (branch_goes op s.pc)) (inl refl);
   outcome = refl;
   reaches = refl;
-  also = λ slot v. refl;
-  holds = λ x h. ap (λ (n : Bool). if is_taken op (x slots.A) (x slots.B) then n else true) (sym (aligned_near s op b x)) ∙ taken_goes (is_taken op (x slots.A) (x slots.B)) (is_target (target_at op s.pc x)) h;
+  also = λ slot v h. h;
+  holds = λ x a h. ap (λ (n : Bool). if is_taken op (x slots.A) (x slots.B) then n else true) (sym (aligned_near s op b x)) ∙ taken_goes (is_taken op (x slots.A) (x slots.B)) (is_target (target_at op s.pc x)) h;
 }
 
 staying_part : (s : Stand) (op : Op) → IsBranching s op → IsPartOf s op staying
@@ -91,8 +96,8 @@ staying_part s op b = record {
   is = fork_of s op b (retires_when (branch_goes op s.pc)) (inl refl);
   outcome = refl;
   reaches = refl;
-  also = λ slot v. refl;
-  holds = λ x h. not_taken_goes (is_taken op (x slots.A) (x slots.B)) (near_is_target s.pc x) h;
+  also = λ slot v h. h;
+  holds = λ x a h. not_taken_goes (is_taken op (x slots.A) (x slots.B)) (near_is_target s.pc x) h;
 }
 
 missing_part : (s : Stand) (op : Op) → IsBranching s op → IsPartOf s op (missing (Some true))
@@ -101,8 +106,8 @@ missing_part s op b = record {
   is = fork_of s op b (traps_when (turn_of s) causes.FetchMisaligned (λ x. not (branch_goes op s.pc x))) (inr (inl refl));
   outcome = refl;
   reaches = refl;
-  also = λ slot v. refl;
-  holds = λ x h. sym (misses_same (is_taken op (x slots.A) (x slots.B)) (near_is_target s.pc x)) ∙ ap (λ (n : Bool). is_taken op (x slots.A) (x slots.B) && not n) (sym (aligned_near s op b x)) ∙ h;
+  also = λ slot v h. h;
+  holds = λ x a h. sym (misses_same (is_taken op (x slots.A) (x slots.B)) (near_is_target s.pc x)) ∙ ap (λ (n : Bool). is_taken op (x slots.A) (x slots.B) && not n) (sym (aligned_near s op b x)) ∙ h;
 }
 
 branch_parts : (s : Stand) (op : Op) → IsBranching s op → AreWaysOf s op (going (Some true) ∷ staying ∷ missing (Some true) ∷ [])
@@ -209,6 +214,65 @@ fence_parts s true e =
     (record { steered = refl; aimed = refl; part = whole_way s ops.SfenceVma (trapping causes.Illegal) (subst (λ (l : List AWay). HasItem l (way_at s ops.SfenceVma (trapping causes.Illegal))) (sym (fence_now s true e)) (inl refl)) }, record {})
 fence_parts s false e = (record { steered = refl; aimed = refl; part = whole_way s ops.SfenceVma retiring (subst (λ (l : List AWay). HasItem l (way_at s ops.SfenceVma retiring)) (sym (fence_now s false e)) (inl refl)) }, record {})
 
+-- RETURNS
+-- the ways of a return that is not refused
+abbrev granted : Stand → LazyRegister → List AWay
+granted s register = return_ways (turn_of s) (lazy_address register)
+
+abbrev return_whole : Stand → LazyRegister → AWay
+return_whole s register = ends_when (λ x. is_old (turn_of s) (lazy_address register) (x slots.OldCsr))
+
+read_new : (s : Stand) (register : LazyRegister) (slot : Slot) (v : ℕ) → also_read (turn_of s) Retires register slot v ≡ true → old_new slot v ≡ true
+read_new s register slots.OldCsr v h = refl
+read_new s register slots.Op v h = h
+read_new s register _ v h = h
+
+return_part : (s : Stand) (op : Op) (register : LazyRegister) → HasItem (stand_ways s op) (return_whole s register) → IsPartOf s op (returning register)
+return_part s op register i = record { whole = return_whole s register; is = i; outcome = refl; reaches = refl; also = read_new s register; holds = λ x a h. a slots.OldCsr }
+
+granted_parts : (s : Stand) (op : Op) (register : LazyRegister) → stand_ways s op ≡ granted s register → AreWaysOf s op (returning register ∷ [])
+granted_parts s op register e = (record { steered = refl; aimed = refl; part = return_part s op register (subst (λ (l : List AWay). HasItem l (return_whole s register)) (sym e) (inl refl)) }, record {})
+
+refused_parts : (s : Stand) (op : Op) → stand_ways s op ≡ traps (turn_of s) causes.Illegal → AreWaysOf s op (trapping causes.Illegal ∷ [])
+refused_parts s op e = (record { steered = refl; aimed = refl; part = whole_way s op (trapping causes.Illegal) (subst (λ (l : List AWay). HasItem l (way_at s op (trapping causes.Illegal))) (sym e) (inl refl)) }, record {})
+
+mret_parts : (s : Stand) (b : Bool) → is_machine s.privilege ≡ b → AreWaysOf s ops.Mret (if b then returning Mepc ∷ [] else trapping causes.Illegal ∷ [])
+mret_parts s true e = granted_parts s ops.Mret Mepc (ap (λ (w : Bool). if w then granted s Mepc else traps (turn_of s) causes.Illegal) e)
+mret_parts s false e = refused_parts s ops.Mret (ap (λ (w : Bool). if w then granted s Mepc else traps (turn_of s) causes.Illegal) e)
+
+sret_parts : (s : Stand) (b : Bool) → is_withheld Tsr (turn_of s).fixed ≡ b → AreWaysOf s ops.Sret (if b then trapping causes.Illegal ∷ [] else returning Sepc ∷ [])
+sret_parts s true e = refused_parts s ops.Sret (ap (λ (w : Bool). if w then traps (turn_of s) causes.Illegal else granted s Sepc) e)
+sret_parts s false e = granted_parts s ops.Sret Sepc (ap (λ (w : Bool). if w then traps (turn_of s) causes.Illegal else granted s Sepc) e)
+
+-- the old value is in the domain, or in what holds
+return_there : (s : Stand) (leaf : List Atom) (op : Op) (register : LazyRegister) (x : Values) → FitsCase (case_with s leaf op (way_at s op (returning register))) x → FitsCase (case_with s leaf op (return_whole s register)) x
+unfolding retiring_shape
+return_there s leaf op register x f =
+    let p = and_parts (sources_hold (turn_of s) (retiring_shape op) x) (atoms_hold (turn_of s) leaf (retiring_shape op) x && true) f.holds in
+    let q = and_parts (atoms_hold (turn_of s) leaf (retiring_shape op) x) true p.1 in
+    record {
+      op = f.op;
+      each = λ slot. let d = and_parts (base_domain (turn_of s) 0 leaf (retiring_shape op) slot (x slot)) (also_read (turn_of s) Retires register slot (x slot)) (f.each slot) in and_from _ _ d.0 (read_new s register slot (x slot) d.1);
+      holds = and_from _ _ p.0 (and_from _ _ q.0 (f.each slots.OldCsr));
+    }
+
+return_back : (s : Stand) (leaf : List Atom) (op : Op) (register : LazyRegister) (x : Values) → FitsCase (case_with s leaf op (return_whole s register)) x → FitsCase (case_with s leaf op (way_at s op (returning register))) x
+unfolding retiring_shape
+return_back s leaf op register x f =
+    let old = is_old (turn_of s) (lazy_address register) (x slots.OldCsr) in
+    let p = and_parts (sources_hold (turn_of s) (retiring_shape op) x) (atoms_hold (turn_of s) leaf (retiring_shape op) x && old) f.holds in
+    let q = and_parts (atoms_hold (turn_of s) leaf (retiring_shape op) x) old p.1 in
+    record {
+      op = f.op;
+      each = λ slot. let d = and_parts (base_domain (turn_of s) 0 leaf (retiring_shape op) slot (x slot)) (old_new slot (x slot)) (f.each slot) in and_from _ _ d.0 (read_here q.1 slot d.1);
+      holds = and_from _ _ p.0 (and_from _ _ q.0 refl);
+    }
+  where
+    read_here : is_old (turn_of s) (lazy_address register) (x slots.OldCsr) ≡ true → (slot : Slot) → old_new slot (x slot) ≡ true → also_read (turn_of s) Retires register slot (x slot) ≡ true
+    read_here h slots.OldCsr k = h
+    read_here h slots.Op k = k
+    read_here h _ k = k
+
 -- ALL KINDS
 pub are_ways : (s : Stand) (op : Op) → is_other (kind_of op) ≡ false → AreWaysOf s op (ways_by s (kind_of op))
 are_ways s ops.Beq h = branch_parts s ops.Beq (branching_beq s)
@@ -236,8 +300,8 @@ are_ways s ops.Csrrc h = absurd (cc h)
 are_ways s ops.Csrrwi h = absurd (cc h)
 are_ways s ops.Csrrsi h = absurd (cc h)
 are_ways s ops.Csrrci h = absurd (cc h)
-are_ways s ops.Mret h = absurd (cc h)
-are_ways s ops.Sret h = absurd (cc h)
+are_ways s ops.Mret h = mret_parts s (is_machine s.privilege) refl
+are_ways s ops.Sret h = sret_parts s (is_withheld Tsr (turn_of s).fixed) refl
 are_ways s ops.SfenceVma h = fence_parts s (is_withheld Tvm (turn_of s).fixed) refl
 are_ways s ops.Lui h = (record { steered = refl; aimed = refl; part = whole_way s ops.Lui retiring (inl refl) }, record {})
 are_ways s op h = (record { steered = refl; aimed = refl; part = whole_way s op retiring (inl refl) }, record {})
@@ -285,6 +349,36 @@ fence_back : (s : Stand) (leaf : List Atom) (b : Bool) (x : Values) → Fits (st
 fence_back s leaf true x f = same_back s leaf ops.SfenceVma (trapping causes.Illegal ∷ []) x f
 fence_back s leaf false x f = same_back s leaf ops.SfenceVma (retiring ∷ []) x f
 
+granted_there : (s : Stand) (leaf : List Atom) (op : Op) (register : LazyRegister) (p : Bool) (x : Values) → Fits (case_if p (case_with s leaf op (way_at s op (returning register))) [] ++ []) x → Fits (case_if p (case_with s leaf op (return_whole s register)) []) x
+granted_there s leaf op register true x (inl f) = inl (return_there s leaf op register x f)
+granted_there s leaf op register true x (inr f) = absurd f
+granted_there s leaf op register false x f = absurd f
+
+granted_back : (s : Stand) (leaf : List Atom) (op : Op) (register : LazyRegister) (p : Bool) (x : Values) → Fits (case_if p (case_with s leaf op (return_whole s register)) []) x → Fits (case_if p (case_with s leaf op (way_at s op (returning register))) [] ++ []) x
+granted_back s leaf op register true x (inl f) = inl (return_back s leaf op register x f)
+granted_back s leaf op register true x (inr f) = absurd f
+granted_back s leaf op register false x f = absurd f
+
+mret_there : (s : Stand) (leaf : List Atom) (b : Bool) (x : Values) → Fits (way_cases s leaf ops.Mret (if b then returning Mepc ∷ [] else trapping causes.Illegal ∷ [])) x
+    → Fits (stand_cases s leaf ops.Mret (if b then granted s Mepc else traps (turn_of s) causes.Illegal)) x
+mret_there s leaf true x f = granted_there s leaf ops.Mret Mepc (is_posed_at s leaf (shape_at (shape_with ops.Mret Retires))) x f
+mret_there s leaf false x f = same_there s leaf ops.Mret (trapping causes.Illegal ∷ []) x f
+
+mret_back : (s : Stand) (leaf : List Atom) (b : Bool) (x : Values) → Fits (stand_cases s leaf ops.Mret (if b then granted s Mepc else traps (turn_of s) causes.Illegal)) x
+    → Fits (way_cases s leaf ops.Mret (if b then returning Mepc ∷ [] else trapping causes.Illegal ∷ [])) x
+mret_back s leaf true x f = granted_back s leaf ops.Mret Mepc (is_posed_at s leaf (shape_at (shape_with ops.Mret Retires))) x f
+mret_back s leaf false x f = same_back s leaf ops.Mret (trapping causes.Illegal ∷ []) x f
+
+sret_there : (s : Stand) (leaf : List Atom) (b : Bool) (x : Values) → Fits (way_cases s leaf ops.Sret (if b then trapping causes.Illegal ∷ [] else returning Sepc ∷ [])) x
+    → Fits (stand_cases s leaf ops.Sret (if b then traps (turn_of s) causes.Illegal else granted s Sepc)) x
+sret_there s leaf true x f = same_there s leaf ops.Sret (trapping causes.Illegal ∷ []) x f
+sret_there s leaf false x f = granted_there s leaf ops.Sret Sepc (is_posed_at s leaf (shape_at (shape_with ops.Sret Retires))) x f
+
+sret_back : (s : Stand) (leaf : List Atom) (b : Bool) (x : Values) → Fits (stand_cases s leaf ops.Sret (if b then traps (turn_of s) causes.Illegal else granted s Sepc)) x
+    → Fits (way_cases s leaf ops.Sret (if b then trapping causes.Illegal ∷ [] else returning Sepc ∷ [])) x
+sret_back s leaf true x f = same_back s leaf ops.Sret (trapping causes.Illegal ∷ []) x f
+sret_back s leaf false x f = granted_back s leaf ops.Sret Sepc (is_posed_at s leaf (shape_at (shape_with ops.Sret Retires))) x f
+
 -- what fits the ways of the code fits those of the definition
 pub ways_there : (s : Stand) (leaf : List Atom) (op : Op) → is_other (kind_of op) ≡ false → (x : Values) → Fits (way_cases s leaf op (ways_by s (kind_of op))) x → Fits (stand_cases s leaf op (stand_ways s op)) x
 ways_there s leaf ops.Beq h x f = branching_there s leaf ops.Beq x (branching_beq s) f
@@ -312,8 +406,8 @@ ways_there s leaf ops.Csrrc h x f = absurd (cc h)
 ways_there s leaf ops.Csrrwi h x f = absurd (cc h)
 ways_there s leaf ops.Csrrsi h x f = absurd (cc h)
 ways_there s leaf ops.Csrrci h x f = absurd (cc h)
-ways_there s leaf ops.Mret h x f = absurd (cc h)
-ways_there s leaf ops.Sret h x f = absurd (cc h)
+ways_there s leaf ops.Mret h x f = mret_there s leaf (is_machine s.privilege) x f
+ways_there s leaf ops.Sret h x f = sret_there s leaf (is_withheld Tsr (turn_of s).fixed) x f
 ways_there s leaf ops.SfenceVma h x f = fence_there s leaf (is_withheld Tvm (turn_of s).fixed) x f
 ways_there s leaf ops.Lui h x f = same_there s leaf ops.Lui (ways_by s (kind_of ops.Lui)) x f
 ways_there s leaf op h x f = same_there s leaf op (retiring ∷ []) x f
@@ -344,8 +438,8 @@ ways_back s leaf ops.Csrrc h x f = absurd (cc h)
 ways_back s leaf ops.Csrrwi h x f = absurd (cc h)
 ways_back s leaf ops.Csrrsi h x f = absurd (cc h)
 ways_back s leaf ops.Csrrci h x f = absurd (cc h)
-ways_back s leaf ops.Mret h x f = absurd (cc h)
-ways_back s leaf ops.Sret h x f = absurd (cc h)
+ways_back s leaf ops.Mret h x f = mret_back s leaf (is_machine s.privilege) x f
+ways_back s leaf ops.Sret h x f = sret_back s leaf (is_withheld Tsr (turn_of s).fixed) x f
 ways_back s leaf ops.SfenceVma h x f = fence_back s leaf (is_withheld Tvm (turn_of s).fixed) x f
 ways_back s leaf ops.Lui h x f = same_back s leaf ops.Lui (ways_by s (kind_of ops.Lui)) x f
 ways_back s leaf op h x f = same_back s leaf op (retiring ∷ []) x f

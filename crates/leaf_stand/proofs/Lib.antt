@@ -8,3 +8,4 @@ pub mod Turning
 pub mod Compared
 pub mod Silent
 pub mod Cutting
+mod Olds

@@ -1,12 +1,11 @@
 -- What operations that are built are not.
 use Rattle.std.proofs.Common.{◌≡◌, ℕ, false, refl}
 use Rattle.rv_isa.specs.declared.operation.Op.{Op}
-use Rattle.rv_isa.specs.declared.operation.Op.TheVariants.{Lb, Lh, Lw, Lbu, Lhu, Sb, Sh, Sw, Csrrw, Csrrs, Csrrc, Csrrwi, Csrrsi, Csrrci, Mret, Sret}
+use Rattle.rv_isa.specs.declared.operation.Op.TheVariants.{Lb, Lh, Lw, Lbu, Lhu, Sb, Sh, Sw, Csrrw, Csrrs, Csrrc, Csrrwi, Csrrsi, Csrrci}
 use Rattle.rv_isa.specs.Fields.{has_csr}
 use Rattle.rv_isa.specs.Table.{row_of}
 use Rattle.leaf_link.specs.Turns.{is_narrow}
 use Rattle.leaf_link.specs.Values.{has_address}
-use Rattle.leaf_link.specs.Firsts.{is_return}
 use Rattle.leaf_stand.specs.Kinds.{kind_of}
 use Rattle.leaf_stand.specs.Posed.{is_other}
 
@@ -35,8 +34,3 @@ built_csr Csrrwi h = absurd (cc h)
 built_csr Csrrsi h = absurd (cc h)
 built_csr Csrrci h = absurd (cc h)
 built_csr _ h = refl
-
-pub built_return : (op : Op) → is_other (kind_of op) ≡ false → is_return op ≡ false
-built_return Mret h = absurd (cc h)
-built_return Sret h = absurd (cc h)
-built_return _ h = refl

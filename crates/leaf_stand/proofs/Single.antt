@@ -11,6 +11,7 @@ use Rattle.rv_isa.specs.declared.operation.Op.{Op}
 use Rattle.rv_isa.specs.declared.operation.Op.TheVariants as ops
 use Rattle.rv_isa.specs.Arithmetic.{is_branch}
 use Rattle.rv_isa.specs.Table.{row_of}
+use Rattle.rv_csr.specs.declared.table.LazyRegister.{LazyRegister}
 use Rattle.rv_hart.specs.Machine.{is_taken}
 use Rattle.tpl_ast.specs.declared.template.Atom.{Atom}
 use Rattle.tpl_ast.specs.declared.template.Atom.TheVariants as atoms
@@ -44,7 +45,7 @@ use Rattle.leaf_stand.specs.Kinds.{kind_of}
 use Rattle.leaf_stand.specs.Posed.{FitsSame, is_other}
 use Rattle.leaf_stand.specs.Relations.{AreRelations, IsTargetSet, are_between, atom_rel, atom_rels, differ_rel, has_slot, held_rel, is_aimed, is_between, is_steered, linked_rel, may_aim, may_steer, same_rel, slot_of, source_rels, taken_rel, target_rel, target_test, way_at}
 use Rattle.leaf_stand.specs.Sets.{AreDomains, IsSetOf}
-use Rattle.leaf_stand.specs.Stands.{also_at, domain_at, held, shape_at, turn_of}
+use Rattle.leaf_stand.specs.Stands.{also_at, also_by, domain_at, held, shape_at, turn_of}
 use Rattle.leaf_stand.specs.Ways.{shape_with}
 use Rattle.leaf_stand.proofs.Lists.{each_domain}
 use Rattle.leaf_stand.proofs.Rows.{built_address, built_narrow}
@@ -58,35 +59,41 @@ or_true true b h = refl
 or_true false b h = h
 
 -- DOMAINS
-domain_with : (s : Stand) (leaf : List Atom) (op : Op) (end : End) (slot : Slot) (v : ℕ) → (base_domain (turn_of s) 0 leaf (shape_at (shape_with op end)) slot v && also_at (turn_of s) end slot v) ≡ domain_at (turn_of s) leaf (shape_with op end) slot v
-domain_with s leaf op Retires slots.Op v = and_true _
-domain_with s leaf op Retires slots.Rs1 v = and_true _
-domain_with s leaf op Retires slots.Rs2 v = and_true _
-domain_with s leaf op Retires slots.Imm v = and_true _
-domain_with s leaf op Retires slots.Rd v = and_true _
-domain_with s leaf op Retires slots.Csr v = and_true _
-domain_with s leaf op Retires slots.Ea v = and_true _
-domain_with s leaf op Retires slots.A v = and_true _
-domain_with s leaf op Retires slots.B v = and_true _
-domain_with s leaf op Retires slots.FirstPte v = refl
-domain_with s leaf op Retires slots.SecondPte v = refl
-domain_with s leaf op Retires slots.DataWord v = refl
-domain_with s leaf op Retires slots.OldCsr v = refl
-domain_with s leaf op Retires slots.Vector v = refl
-domain_with s leaf op (Traps cause) slots.Op v = and_true _
-domain_with s leaf op (Traps cause) slots.Rs1 v = and_true _
-domain_with s leaf op (Traps cause) slots.Rs2 v = and_true _
-domain_with s leaf op (Traps cause) slots.Imm v = and_true _
-domain_with s leaf op (Traps cause) slots.Rd v = and_true _
-domain_with s leaf op (Traps cause) slots.Csr v = and_true _
-domain_with s leaf op (Traps cause) slots.Ea v = and_true _
-domain_with s leaf op (Traps cause) slots.A v = and_true _
-domain_with s leaf op (Traps cause) slots.B v = and_true _
-domain_with s leaf op (Traps cause) slots.FirstPte v = refl
-domain_with s leaf op (Traps cause) slots.SecondPte v = refl
-domain_with s leaf op (Traps cause) slots.DataWord v = refl
-domain_with s leaf op (Traps cause) slots.OldCsr v = refl
-domain_with s leaf op (Traps cause) slots.Vector v = refl
+own_domain : (s : Stand) (leaf : List Atom) (op : Op) (end : End) (slot : Slot) (v : ℕ) → (base_domain (turn_of s) 0 leaf (shape_at (shape_with op end)) slot v && also_at (turn_of s) end slot v) ≡ domain_at (turn_of s) leaf (shape_with op end) None slot v
+own_domain s leaf op Retires slots.Op v = and_true _
+own_domain s leaf op Retires slots.Rs1 v = and_true _
+own_domain s leaf op Retires slots.Rs2 v = and_true _
+own_domain s leaf op Retires slots.Imm v = and_true _
+own_domain s leaf op Retires slots.Rd v = and_true _
+own_domain s leaf op Retires slots.Csr v = and_true _
+own_domain s leaf op Retires slots.Ea v = and_true _
+own_domain s leaf op Retires slots.A v = and_true _
+own_domain s leaf op Retires slots.B v = and_true _
+own_domain s leaf op Retires slots.FirstPte v = refl
+own_domain s leaf op Retires slots.SecondPte v = refl
+own_domain s leaf op Retires slots.DataWord v = refl
+own_domain s leaf op Retires slots.OldCsr v = refl
+own_domain s leaf op Retires slots.Vector v = refl
+own_domain s leaf op (Traps cause) slots.Op v = and_true _
+own_domain s leaf op (Traps cause) slots.Rs1 v = and_true _
+own_domain s leaf op (Traps cause) slots.Rs2 v = and_true _
+own_domain s leaf op (Traps cause) slots.Imm v = and_true _
+own_domain s leaf op (Traps cause) slots.Rd v = and_true _
+own_domain s leaf op (Traps cause) slots.Csr v = and_true _
+own_domain s leaf op (Traps cause) slots.Ea v = and_true _
+own_domain s leaf op (Traps cause) slots.A v = and_true _
+own_domain s leaf op (Traps cause) slots.B v = and_true _
+own_domain s leaf op (Traps cause) slots.FirstPte v = refl
+own_domain s leaf op (Traps cause) slots.SecondPte v = refl
+own_domain s leaf op (Traps cause) slots.DataWord v = refl
+own_domain s leaf op (Traps cause) slots.OldCsr v = refl
+own_domain s leaf op (Traps cause) slots.Vector v = refl
+
+domain_with : (s : Stand) (leaf : List Atom) (op : Op) (end : End) (reads : Option LazyRegister) (slot : Slot) (v : ℕ) → (base_domain (turn_of s) 0 leaf (shape_at (shape_with op end)) slot v && also_by (turn_of s) end reads slot v) ≡ domain_at (turn_of s) leaf (shape_with op end) reads slot v
+domain_with s leaf op end None slot v = own_domain s leaf op end slot v
+domain_with s leaf op end (Some register) slots.OldCsr v = refl
+domain_with s leaf op end (Some register) slots.Op v = own_domain s leaf op end slots.Op v
+domain_with s leaf op end (Some register) slot v = own_domain s leaf op end slot v
 
 pub domain_in_case : (c : ACase) (s : Slot) → domain_of c s ≡ slice_index_or c.doms (slot_number s) []
 unfolding domain_of
@@ -302,15 +309,15 @@ or_none false h = h
 
 pub case_same : (s : Stand) (leaf : List Atom) (op : Op) (way : Way) (c : ACase) → is_other (kind_of op) ≡ false → may_steer op way.taken ≡ true
     → may_aim (uses (shape_at (shape_with op way.end)) vars.Target) way.aim ≡ true → all_judged (shape_at (shape_with op way.end)) leaf ≡ true → are_between leaf ≡ true
-    → c.op ≡ op_number op → AreDomains (domain_at (turn_of s) leaf (shape_with op way.end)) SLOTS c.doms → AreRelations s leaf (shape_with op way.end) way c.rels
+    → c.op ≡ op_number op → AreDomains (domain_at (turn_of s) leaf (shape_with op way.end) way.reads) SLOTS c.doms → AreRelations s leaf (shape_with op way.end) way c.rels
     → FitsSame (c ∷ []) (case_at (turn_of s) 0 leaf op (way_at s op way) ∷ [])
 case_same s leaf op way c p st am j b n d r x hx = (there, back)
   where
     inside : (slot : Slot) → is_in (domain_of c slot) (value_of x slot) ≡ domain (turn_of s) 0 leaf op (way_at s op way) slot (value_of x slot)
     inside slot =
         ap (λ (set : List ℕ). is_in set (value_of x slot)) (domain_in_case c slot)
-        ∙ each_domain (λ r set. IsSetOf (domain_at (turn_of s) leaf (shape_with op way.end) r) set) c.doms d slot (value_of x slot) (word_at x hx slot)
-        ∙ sym (domain_with s leaf op way.end slot (value_of x slot))
+        ∙ each_domain (λ r set. IsSetOf (domain_at (turn_of s) leaf (shape_with op way.end) way.reads r) set) c.doms d slot (value_of x slot) (word_at x hx slot)
+        ∙ sym (domain_with s leaf op way.end way.reads slot (value_of x slot))
 
     related : value_of x slots.Op ≡ c.op → list_all (holds (op_numbered c.op) x) c.rels ≡ (case_at (turn_of s) 0 leaf op (way_at s op way)).holds (values_in x)
     related e =

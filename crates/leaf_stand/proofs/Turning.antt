@@ -1,5 +1,5 @@
 -- The cases of a stand are those of every turn that it tells.
-use Rattle.std.proofs.Common.{◌≡◌, ℕ, ◌⊎◌, Bool, true, false, ◌&&◌, ◌||◌, List, [], ◌∷◌, Option, Some, refl, sym, ap, ◌∙◌, subst, inl, inr, ◌^◌}
+use Rattle.std.proofs.Common.{◌≡◌, ℕ, ◌⊎◌, Bool, true, false, ◌&&◌, ◌||◌, List, [], ◌∷◌, Option, Some, None, refl, sym, ap, ◌∙◌, subst, inl, inr, ◌^◌}
 use Rattle.std.specs.Prelude.{not, if◌then◌else◌, nat_eq, nat_lt}
 use Rattle.std.specs.List.{list_all}
 use Rattle.std.proofs.lemmas.Bool.{and_from, and_parts}
@@ -11,7 +11,9 @@ use Rattle.rv_csr.specs.declared.cause.Cause.{Cause}
 use Rattle.rv_csr.specs.declared.cause.Cause.TheVariants as causes
 use Rattle.rv_csr.specs.declared.privilege.Priv.{Priv}
 use Rattle.rv_csr.specs.declared.status.Flag.{Flag}
-use Rattle.rv_csr.specs.declared.status.Flag.TheVariants.{Tvm}
+use Rattle.rv_csr.specs.declared.status.Flag.TheVariants.{Tsr, Tvm}
+use Rattle.rv_csr.specs.declared.table.LazyRegister.TheVariants.{Mepc, Sepc}
+use Rattle.rv_csr.specs.Table.{is_legal_at}
 use Rattle.rv_csr.specs.Privilege.{is_machine, is_supervisor}
 use Rattle.rv_csr.specs.Status.{is_set}
 use Rattle.rv_csr.specs.Causes.{number_of}
@@ -31,10 +33,11 @@ use Rattle.fd_prob.specs.declared.slot.Slot.{Slot}
 use Rattle.fd_prob.specs.declared.slot.Slot.TheVariants as slots
 use Rattle.rv_isa.proofs.Numbers.{read}
 use Rattle.rv_isa.specs.Numbers.{op_numbered, op_number}
-use Rattle.leaf_link.specs.Turns.{Turn, is_narrow, is_small, may_be_source}
+use Rattle.leaf_link.specs.Turns.{Turn, holds_address, is_narrow, is_small, may_be_old, may_be_source}
 use Rattle.leaf_link.specs.Values.{Values, instr_in}
 use Rattle.leaf_link.specs.Cases.{Case, Fits, FitsCase, Shape as AShape, Way as AWay, all_relate, all_tests, atoms_hold, base_domain, case_at, case_if, cases_of, domain, in_word, is_held, is_posed, is_some_word, is_value_named, or_no, shape_of, sources_hold, target_at, tests, unless, uses, uses_address, uses_rs1, uses_rs2, value_at}
 use Rattle.leaf_link.specs.Kinds.{always, branch_goes, far_is_target, forks, is_vector, near_is_target, retires, retires_when, traps, traps_when, vector_alone, vector_at}
+use Rattle.leaf_link.specs.Controls.{is_old, is_old_value, return_ways}
 use Rattle.leaf_link.specs.Answers.{values_in}
 use Rattle.leaf_link.specs.AllWays.{ways_of}
 use Rattle.leaf_link.specs.Problems.{cases_over}
@@ -167,6 +170,34 @@ fence_same s t walk pa h false false e = plain_same
 fence_same s t walk pa h true false e = absurd (cc e)
 fence_same s t walk pa h false true e = absurd (cc e)
 
+may_same : (s : Stand) (t : Turn) (walk : List Entry) (pa : ℕ) → IsStandOf s t walk pa → (addr v : ℕ) → may_be_old (turn_of s) addr v ≡ may_be_old t addr v
+may_same s t walk pa h addr v = ap (λ (l : List ℕ). if holds_address addr then is_in l v else is_legal_at addr v) (sym h.vectors)
+
+old_value_same : (s : Stand) (t : Turn) (walk : List Entry) (pa : ℕ) → IsStandOf s t walk pa → (o : Option ℕ) (addr v : ℕ) → is_old_value (turn_of s) o addr v ≡ is_old_value t o addr v
+old_value_same s t walk pa h None addr v = ap (λ (b : Bool). nat_lt v (2 ^ 32) && b) (may_same s t walk pa h addr v)
+old_value_same s t walk pa h (Some w) addr v = refl
+
+old_same : (s : Stand) (t : Turn) (walk : List Entry) (pa : ℕ) → IsStandOf s t walk pa → (addr v : ℕ) → is_old (turn_of s) addr v ≡ is_old t addr v
+old_same s t walk pa h addr v = old_value_same s t walk pa h ((turn_of s).known (Csr addr)) addr v ∙ ap (λ (o : Option ℕ). is_old_value t o addr v) (sym (h.csrs addr))
+
+granted_same : (s : Stand) (t : Turn) (walk : List Entry) (pa : ℕ) → IsStandOf s t walk pa → (addr : ℕ) → AreSameWays (return_ways (turn_of s) addr) (return_ways t addr)
+granted_same s t walk pa h addr = (record { outcome = refl; reaches = refl; also = λ slot v. refl; holds = λ x. old_same s t walk pa h addr (x slots.OldCsr) }, record {})
+
+-- a return is refused where the flag says so, or else granted
+return_same : (s : Stand) (t : Turn) (walk : List Entry) (pa : ℕ) → IsStandOf s t walk pa → (addr : ℕ) (p q : Bool) → p ≡ q
+    → AreSameWays (if p then return_ways (turn_of s) addr else traps (turn_of s) causes.Illegal) (if q then return_ways t addr else traps t causes.Illegal)
+return_same s t walk pa h addr true true e = granted_same s t walk pa h addr
+return_same s t walk pa h addr false false e = trap_same s t walk pa h causes.Illegal
+return_same s t walk pa h addr true false e = absurd (cc e)
+return_same s t walk pa h addr false true e = absurd (cc e)
+
+refusal_same : (s : Stand) (t : Turn) (walk : List Entry) (pa : ℕ) → IsStandOf s t walk pa → (addr : ℕ) (p q : Bool) → p ≡ q
+    → AreSameWays (if p then traps (turn_of s) causes.Illegal else return_ways (turn_of s) addr) (if q then traps t causes.Illegal else return_ways t addr)
+refusal_same s t walk pa h addr true true e = trap_same s t walk pa h causes.Illegal
+refusal_same s t walk pa h addr false false e = granted_same s t walk pa h addr
+refusal_same s t walk pa h addr true false e = absurd (cc e)
+refusal_same s t walk pa h addr false true e = absurd (cc e)
+
 pub ways_same : (s : Stand) (t : Turn) (walk : List Entry) (pa : ℕ) → IsStandOf s t walk pa → (leaf : List Atom) (loads stores : List EntryRow) (op : Op) → is_other (kind_of op) ≡ false → AreSameWays (stand_ways s op) (ways_of t walk pa leaf loads stores op)
 ways_same s t walk pa h leaf loads stores ops.Jal n = forks_same s t walk pa h (near_is_target s.pc) (near_is_target t.fixed.pc) (near_same s t walk pa h)
 ways_same s t walk pa h leaf loads stores ops.Jalr n = forks_same s t walk pa h far_is_target far_is_target (λ x. refl)
@@ -193,8 +224,8 @@ ways_same s t walk pa h leaf loads stores ops.Csrrc n = absurd (cc n)
 ways_same s t walk pa h leaf loads stores ops.Csrrwi n = absurd (cc n)
 ways_same s t walk pa h leaf loads stores ops.Csrrsi n = absurd (cc n)
 ways_same s t walk pa h leaf loads stores ops.Csrrci n = absurd (cc n)
-ways_same s t walk pa h leaf loads stores ops.Mret n = absurd (cc n)
-ways_same s t walk pa h leaf loads stores ops.Sret n = absurd (cc n)
+ways_same s t walk pa h leaf loads stores ops.Mret n = return_same s t walk pa h (lazy_address Mepc) (is_machine s.privilege) (is_machine t.fixed.privilege) (ap is_machine (sym h.privilege))
+ways_same s t walk pa h leaf loads stores ops.Sret n = refusal_same s t walk pa h (lazy_address Sepc) (is_withheld Tsr (turn_of s).fixed) (is_withheld Tsr t.fixed) (withheld_same s t walk pa h Tsr)
 ways_same s t walk pa h leaf loads stores ops.SfenceVma n = fence_same s t walk pa h (is_withheld Tvm (turn_of s).fixed) (is_withheld Tvm t.fixed) (withheld_same s t walk pa h Tvm)
 ways_same s t walk pa h leaf loads stores ops.Lui n = plain_same
 ways_same s t walk pa h leaf loads stores op n = plain_same

@@ -4,7 +4,7 @@ use Rattle.rv_isa.specs.declared.operation.Op.TheVariants as ops
 use Rattle.leaf_stand.specs.declared.kind.Kind.{Kind}
 use Rattle.leaf_stand.specs.declared.kind.Kind.TheVariants as kinds
 
--- loads, stores, CSR instructions, MRET and SRET are not built
+-- loads, stores and CSR instructions are not built
 abbrev pub kind_of : Op → Kind
 kind_of ops.Jal = kinds.Jump
 kind_of ops.Jalr = kinds.JumpRegister
@@ -30,8 +30,8 @@ kind_of ops.Csrrc = kinds.Other
 kind_of ops.Csrrwi = kinds.Other
 kind_of ops.Csrrsi = kinds.Other
 kind_of ops.Csrrci = kinds.Other
-kind_of ops.Mret = kinds.Other
-kind_of ops.Sret = kinds.Other
+kind_of ops.Mret = kinds.MachineReturn
+kind_of ops.Sret = kinds.SupervisorReturn
 kind_of ops.SfenceVma = kinds.AddressFence
 kind_of ops.Illegal = kinds.Illegal
 kind_of op = kinds.Plain

@@ -82,5 +82,5 @@ pub record IsPartOf (s : Stand) (op : Op) (way : Way) : Type 0 where
   pub is : HasItem (stand_ways s op) whole
   pub outcome : whole.outcome ≡ outcome_at way.end
   pub reaches : whole.reaches ≡ false
-  pub also : (slot : Slot) (v : ℕ) → whole.also slot v ≡ (way_at s op way).also slot v
-  pub holds : (x : Values) → (way_at s op way).holds x ≡ true → whole.holds x ≡ true
+  pub also : (slot : Slot) (v : ℕ) → (way_at s op way).also slot v ≡ true → whole.also slot v ≡ true
+  pub holds : (x : Values) → ((slot : Slot) → (way_at s op way).also slot (x slot) ≡ true) → (way_at s op way).holds x ≡ true → whole.holds x ≡ true

@@ -21,7 +21,7 @@ use Rattle.leaf_stand.specs.declared.way.Aim.{Aim}
 use Rattle.leaf_stand.specs.declared.way.Aim.TheVariants.{Anywhere, Aligned, Misaligned}
 use Rattle.leaf_stand.specs.declared.way.Way.{Way}
 use Rattle.leaf_stand.specs.Sets.{IsSetOf}
-use Rattle.leaf_stand.specs.Stands.{also_at, outcome_at, shape_at, turn_of}
+use Rattle.leaf_stand.specs.Stands.{also_by, outcome_at, shape_at, turn_of}
 
 -- ATOMS
 -- the variable of problems that stands for one of atoms
@@ -124,7 +124,7 @@ abbrev pub way_at : Stand → Op → Way → AWay
 way_at s op way = record {
   outcome = outcome_at way.end;
   reaches = false;
-  also = also_at (turn_of s) way.end;
+  also = also_by (turn_of s) way.end way.reads;
   holds = λ x. is_steered op way.taken x && is_aimed way.aim (target_at op s.pc x);
 }
 

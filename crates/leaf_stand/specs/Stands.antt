@@ -3,16 +3,19 @@ use Rattle.std.specs.Prelude.{◌≡◌, ℕ, Bool, true, false, nat_eq, List, [
 use Rattle.rv_csr.specs.Causes.{number_of}
 use Rattle.rv_csr.specs.State.{CsrValues, lazy_value}
 use Rattle.rv_csr.specs.Table.{register_at}
+use Rattle.rv_csr.specs.declared.table.LazyRegister.{LazyRegister}
 use Rattle.rv_csr.specs.declared.table.Register.{Register}
 use Rattle.rv_csr.specs.declared.table.Register.TheVariants.{Lazy}
 use Rattle.rv_script.specs.declared.place.Place.{Place}
 use Rattle.rv_script.specs.declared.place.Place.TheVariants.{Reg, Csr, Word}
 use Rattle.rv_script.specs.Folds.{Entry}
+use Rattle.rv_hart.specs.Privileged.{lazy_address}
 use Rattle.fd_prob.specs.declared.slot.Slot.{Slot}
 use Rattle.fd_prob.specs.declared.slot.Slot.TheVariants as slots
 use Rattle.tpl_ast.specs.declared.template.Atom.{Atom}
 use Rattle.leaf_link.specs.Turns.{Turn}
 use Rattle.leaf_link.specs.Cases.{Shape as AShape, base_domain, may_fetch}
+use Rattle.leaf_link.specs.Controls.{is_old}
 use Rattle.leaf_link.specs.Firsts.{data_pairs}
 use Rattle.leaf_link.specs.Kinds.{nothing_new, vector_alone}
 use Rattle.leaf_stand.specs.declared.stand.Name.{Name}
@@ -89,11 +92,25 @@ abbrev pub also_at : Turn → End → Slot → ℕ → Bool
 also_at t Retires = nothing_new
 also_at t (Traps cause) = vector_alone t cause
 
--- the domain of a variable
-abbrev pub domain_at : Turn → List Atom → Shape → Slot → ℕ → Bool
-domain_at t leaf s slots.FirstPte v = nat_eq v 0
-domain_at t leaf s slots.SecondPte v = nat_eq v 0
-domain_at t leaf s slots.DataWord v = nat_eq v 0
-domain_at t leaf s slots.OldCsr v = nat_eq v 0
-domain_at t leaf s slots.Vector v = also_at t s.end slots.Vector v
-domain_at t leaf s slot v = base_domain t 0 leaf (shape_at s) slot v
+-- and with the old value of a CSR that the step reads
+abbrev pub also_read : Turn → End → LazyRegister → Slot → ℕ → Bool
+also_read t end register slots.OldCsr v = is_old t (lazy_address register) v
+also_read t end register slot v = also_at t end slot v
+
+abbrev pub also_by : Turn → End → Option LazyRegister → Slot → ℕ → Bool
+also_by t end None = also_at t end
+also_by t end (Some register) = also_read t end register
+
+-- the old value of a CSR that is read, and else 0
+abbrev pub old_at : Turn → Option LazyRegister → ℕ → Bool
+old_at t None v = nat_eq v 0
+old_at t (Some register) v = is_old t (lazy_address register) v
+
+-- the domain of a variable, where the step reads a CSR or none
+abbrev pub domain_at : Turn → List Atom → Shape → Option LazyRegister → Slot → ℕ → Bool
+domain_at t leaf s reads slots.FirstPte v = nat_eq v 0
+domain_at t leaf s reads slots.SecondPte v = nat_eq v 0
+domain_at t leaf s reads slots.DataWord v = nat_eq v 0
+domain_at t leaf s reads slots.OldCsr v = old_at t reads v
+domain_at t leaf s reads slots.Vector v = also_at t s.end slots.Vector v
+domain_at t leaf s reads slot v = base_domain t 0 leaf (shape_at s) slot v

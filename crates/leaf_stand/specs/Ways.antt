@@ -3,7 +3,10 @@ use Rattle.std.specs.Prelude.{◌≡◌, Bool, true, false, List, [], ◌∷◌,
 use Rattle.rv_isa.specs.declared.operation.Op.{Op}
 use Rattle.rv_csr.specs.declared.cause.Cause.{Cause}
 use Rattle.rv_csr.specs.declared.cause.Cause.TheVariants as causes
-use Rattle.rv_csr.specs.declared.status.Flag.TheVariants.{Tvm}
+use Rattle.rv_csr.specs.declared.status.Flag.TheVariants.{Tsr, Tvm}
+use Rattle.rv_csr.specs.declared.table.LazyRegister.{LazyRegister}
+use Rattle.rv_csr.specs.declared.table.LazyRegister.TheVariants.{Mepc, Sepc}
+use Rattle.rv_csr.specs.Privilege.{is_machine}
 use Rattle.rv_hart.specs.Privileged.{call_cause, is_withheld}
 use Rattle.tpl_ast.specs.declared.template.Atom.{Atom}
 use Rattle.tpl_ast.specs.declared.template.Var.TheVariants as vars
@@ -24,21 +27,25 @@ abbrev pub shape_with : Op → End → Shape
 shape_with op end = record { op = op; end = end }
 
 abbrev pub retiring : Way
-retiring = record { end = Retires; taken = None; aim = Anywhere }
+retiring = record { end = Retires; taken = None; aim = Anywhere; reads = None }
 
 abbrev pub trapping : Cause → Way
-trapping cause = record { end = Traps cause; taken = None; aim = Anywhere }
+trapping cause = record { end = Traps cause; taken = None; aim = Anywhere; reads = None }
 
 -- a jump, or a branch that is taken, retires at a multiple of 4
 abbrev pub going : Option Bool → Way
-going taken = record { end = Retires; taken = taken; aim = Aligned }
+going taken = record { end = Retires; taken = taken; aim = Aligned; reads = None }
 
 -- and traps at what is no multiple of 4
 abbrev pub missing : Option Bool → Way
-missing taken = record { end = Traps causes.FetchMisaligned; taken = taken; aim = Misaligned }
+missing taken = record { end = Traps causes.FetchMisaligned; taken = taken; aim = Misaligned; reads = None }
 
 abbrev pub staying : Way
-staying = record { end = Retires; taken = Some false; aim = Anywhere }
+staying = record { end = Retires; taken = Some false; aim = Anywhere; reads = None }
+
+-- a return goes to where a CSR leads
+abbrev pub returning : LazyRegister → Way
+returning register = record { end = Retires; taken = None; aim = Anywhere; reads = Some register }
 
 abbrev pub ways_by : Stand → Kind → List Way
 ways_by s kinds.Plain = retiring ∷ []
@@ -49,6 +56,8 @@ ways_by s kinds.Call = trapping (call_cause s.privilege) ∷ []
 ways_by s kinds.Break = trapping causes.Breakpoint ∷ []
 ways_by s kinds.Illegal = trapping causes.Illegal ∷ []
 ways_by s kinds.AddressFence = if is_withheld Tvm (turn_of s).fixed then trapping causes.Illegal ∷ [] else retiring ∷ []
+ways_by s kinds.MachineReturn = if is_machine s.privilege then returning Mepc ∷ [] else trapping causes.Illegal ∷ []
+ways_by s kinds.SupervisorReturn = if is_withheld Tsr (turn_of s).fixed then trapping causes.Illegal ∷ [] else returning Sepc ∷ []
 ways_by s kinds.Other = []
 
 -- the way is one of the operation's

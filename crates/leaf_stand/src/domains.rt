@@ -10,7 +10,7 @@ ghost use Rattle.tpl_ast.specs.Leaves.{same_var};
 ghost use Rattle.leaf_link.specs.Kinds.{is_vector};
 ghost use Rattle.leaf_stand.specs.Sets.{AreDomains, IsSetOf, in_spans};
 ghost use Rattle.leaf_stand.specs.Posed.{allows, is_posed_at};
-ghost use Rattle.leaf_stand.specs.Stands.{also_at, domain_at, shape_at, turn_of};
+ghost use Rattle.leaf_stand.specs.Stands.{also_at, domain_at, old_at, shape_at, turn_of};
 
 use crate::atoms::all_judged;
 use crate::formats::{Spans, field, field_of};
@@ -18,7 +18,7 @@ use crate::shape::{End, Shape};
 use crate::stand::Stand;
 use dom_set::{OutOfMemory, Set};
 use fd_prob::{SLOTS, Slot};
-use rv_csr::Cause;
+use rv_csr::{Cause, LazyRegister};
 use rv_isa::{Op, decode};
 use std::alloc::Global;
 use tpl_ast::{Atom, Var};
@@ -99,16 +99,27 @@ impl Stand<'_> {
         }
     }
 
+    /// The values of a CSR that the step reads; 0 alone where it reads none.
+    fn old(&self, alloc: Global, reads: Option<LazyRegister>) -> Result<Set, OutOfMemory>
+        ensures { IfOk result (IsSetOf (old_at (turn_of self.now) reads)) }
+    {
+        match reads {
+            Some(register) => self.old_values(alloc, register),
+            None => Spans::one(0).set(alloc),
+        }
+    }
+
     /// The domain of a variable.
     fn domain(
         &self,
         alloc: Global,
         leaf: &[Atom],
         shape: Shape,
+        reads: Option<LazyRegister>,
         slot: Slot,
     ) -> Result<Set, OutOfMemory>
         requires { has_address (row_of shape.op) ≡ false }
-        ensures { IfOk result (IsSetOf (domain_at (turn_of self.now) leaf.now shape slot)) }
+        ensures { IfOk result (IsSetOf (domain_at (turn_of self.now) leaf.now shape reads slot)) }
     {
         let op = shape.op;
         match slot {
@@ -124,25 +135,26 @@ impl Stand<'_> {
             Slot::FirstPte => Spans::one(0).set(alloc),
             Slot::SecondPte => Spans::one(0).set(alloc),
             Slot::DataWord => Spans::one(0).set(alloc),
-            Slot::OldCsr => Spans::one(0).set(alloc),
+            Slot::OldCsr => self.old(alloc, reads),
             Slot::Vector => self.ends(alloc, shape.end),
         }
     }
 
-    /// The domains of all variables, in their order.
+    /// The domains of all variables, in their order, of a step that reads a CSR or none.
     pub fn domains(
         &self,
         alloc: Global,
         leaf: &[Atom],
         shape: Shape,
+        reads: Option<LazyRegister>,
     ) -> Result<Vec<Set>, OutOfMemory>
         requires { has_address (row_of shape.op) ≡ false }
-        ensures each { IfOk result (λ doms. AreDomains (domain_at (turn_of self.now) leaf.now shape) SLOTS doms.items) }
+        ensures each { IfOk result (λ doms. AreDomains (domain_at (turn_of self.now) leaf.now shape reads) SLOTS doms.items) }
         ensures length { IfOk result (λ doms. length doms.items ≡ 14) }
     {
         let mut doms = Vec::new(alloc);
         for slot in SLOTS {
-            doms.push(self.domain(alloc, leaf, shape, slot)?)?;
+            doms.push(self.domain(alloc, leaf, shape, reads, slot)?)?;
         }
         Ok(doms)
     }

@@ -10,6 +10,7 @@ ghost use Rattle.leaf_stand.specs.Sets.{IsSetOf};
 ghost use Rattle.leaf_stand.specs.Stands.{turn_of};
 
 use crate::formats::Spans;
+use crate::shape::has_old;
 use crate::stand::Stand;
 use dom_set::{OutOfMemory, Set};
 use fd_prob::{Case, Items, Rel, SLOTS, Slot};
@@ -83,7 +84,7 @@ impl Stand<'_> {
             Slot::FirstPte => Spans::one(0).set(alloc),
             Slot::SecondPte => Spans::one(0).set(alloc),
             Slot::DataWord => Spans::one(0).set(alloc),
-            Slot::OldCsr => Spans::one(0).set(alloc),
+            Slot::OldCsr => self.any_if(alloc, has_old(op)),
             Slot::Vector => self.vectors.copy(alloc),
         }
     }

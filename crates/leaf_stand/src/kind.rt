@@ -22,6 +22,10 @@ pub enum Kind {
     Break,
     /// ILLEGAL: the words 0 and 2^32 - 1, which raise an illegal instruction.
     Illegal,
+    /// MRET.
+    MachineReturn,
+    /// SRET.
+    SupervisorReturn,
     /// SFENCE.VMA.
     AddressFence,
     /// It is not built.
@@ -40,7 +44,8 @@ pub fn kind_of(op: Op) -> Kind
         Op::Ecall => Kind::Call,
         Op::Ebreak => Kind::Break,
         Op::Csrrw | Op::Csrrs | Op::Csrrc | Op::Csrrwi | Op::Csrrsi | Op::Csrrci => Kind::Other,
-        Op::Mret | Op::Sret => Kind::Other,
+        Op::Mret => Kind::MachineReturn,
+        Op::Sret => Kind::SupervisorReturn,
         Op::SfenceVma => Kind::AddressFence,
         Op::Illegal => Kind::Illegal,
         _ => Kind::Plain,
@@ -60,6 +65,8 @@ pub fn is_posed(op: Op) -> bool
         | Kind::Call
         | Kind::Break
         | Kind::Illegal
+        | Kind::MachineReturn
+        | Kind::SupervisorReturn
         | Kind::AddressFence => true,
     }
 }

@@ -5,6 +5,7 @@
 #![tactic(auto)]
 
 mod atoms;
+mod csrs;
 mod cuts;
 mod domains;
 mod fetch_cases;

@@ -2,7 +2,7 @@
 
 ghost use Rattle.std.specs.Prelude.{◌≡◌};
 ghost use Rattle.std.specs.List.{list_all};
-ghost use Rattle.rv_csr.specs.declared.status.Flag.TheVariants.{Tvm};
+ghost use Rattle.rv_csr.specs.declared.status.Flag.TheVariants.{Tsr, Tvm};
 ghost use Rattle.rv_hart.specs.Privileged.{is_withheld};
 ghost use Rattle.rv_isa.specs.declared.operation.TheConstants.{OPS};
 ghost use Rattle.leaf_stand.specs.Posed.{are_posable, is_posable};
@@ -13,7 +13,7 @@ use crate::kind::{Kind, kind_of};
 use crate::shape::End;
 use crate::stand::Stand;
 use crate::way::{Aim, Way};
-use rv_csr::{Cause, Priv};
+use rv_csr::{Cause, LazyRegister, Priv};
 use rv_isa::{OPS, Op};
 use tpl_ast::Atom;
 
@@ -21,6 +21,7 @@ static RETIRES: [Way; 1] = [Way {
     end: End::Retires,
     taken: None,
     aim: Aim::Anywhere,
+    reads: None,
 }];
 
 /// A branch that is taken retires at a multiple of 4, and traps at what is none.
@@ -29,16 +30,19 @@ static BRANCHES: [Way; 3] = [
         end: End::Retires,
         taken: Some(true),
         aim: Aim::Aligned,
+        reads: None,
     },
     Way {
         end: End::Retires,
         taken: Some(false),
         aim: Aim::Anywhere,
+        reads: None,
     },
     Way {
         end: End::Traps(Cause::FetchMisaligned),
         taken: Some(true),
         aim: Aim::Misaligned,
+        reads: None,
     },
 ];
 
@@ -47,11 +51,13 @@ static JUMPS: [Way; 2] = [
         end: End::Retires,
         taken: None,
         aim: Aim::Aligned,
+        reads: None,
     },
     Way {
         end: End::Traps(Cause::FetchMisaligned),
         taken: None,
         aim: Aim::Misaligned,
+        reads: None,
     },
 ];
 
@@ -59,30 +65,49 @@ static CALLS_FROM_U: [Way; 1] = [Way {
     end: End::Traps(Cause::CallFromU),
     taken: None,
     aim: Aim::Anywhere,
+    reads: None,
 }];
 
 static CALLS_FROM_S: [Way; 1] = [Way {
     end: End::Traps(Cause::CallFromS),
     taken: None,
     aim: Aim::Anywhere,
+    reads: None,
 }];
 
 static CALLS_FROM_M: [Way; 1] = [Way {
     end: End::Traps(Cause::CallFromM),
     taken: None,
     aim: Aim::Anywhere,
+    reads: None,
 }];
 
 static BREAKS: [Way; 1] = [Way {
     end: End::Traps(Cause::Breakpoint),
     taken: None,
     aim: Aim::Anywhere,
+    reads: None,
 }];
 
 static REFUSALS: [Way; 1] = [Way {
     end: End::Traps(Cause::Illegal),
     taken: None,
     aim: Aim::Anywhere,
+    reads: None,
+}];
+
+static MACHINE_RETURNS: [Way; 1] = [Way {
+    end: End::Retires,
+    taken: None,
+    aim: Aim::Anywhere,
+    reads: Some(LazyRegister::Mepc),
+}];
+
+static SUPERVISOR_RETURNS: [Way; 1] = [Way {
+    end: End::Retires,
+    taken: None,
+    aim: Aim::Anywhere,
+    reads: Some(LazyRegister::Sepc),
 }];
 
 impl Stand<'_> {
@@ -93,6 +118,17 @@ impl Stand<'_> {
         match self.privilege {
             Priv::U => true,
             Priv::S => self.csrs.tvm(),
+            Priv::M => false,
+        }
+    }
+
+    /// Whether SRET is illegal (Privileged, 3.1.6.5).
+    fn withholds_returns(&self) -> bool
+        ensures { result ≡ is_withheld Tsr (turn_of self.now).fixed }
+    {
+        match self.privilege {
+            Priv::U => true,
+            Priv::S => self.csrs.tsr(),
             Priv::M => false,
         }
     }
@@ -118,6 +154,17 @@ impl Stand<'_> {
                     &REFUSALS
                 } else {
                     &RETIRES
+                }
+            }
+            Kind::MachineReturn => match self.privilege {
+                Priv::M => &MACHINE_RETURNS,
+                Priv::S | Priv::U => &REFUSALS,
+            },
+            Kind::SupervisorReturn => {
+                if self.withholds_returns() {
+                    &REFUSALS
+                } else {
+                    &SUPERVISOR_RETURNS
                 }
             }
             Kind::Other => &[],

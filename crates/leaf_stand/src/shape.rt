@@ -2,6 +2,7 @@
 
 ghost use Rattle.std.specs.Prelude.{◌≡◌};
 ghost use Rattle.leaf_link.specs.Cases.{uses, uses_condition, uses_rs1, uses_rs2};
+ghost use Rattle.leaf_link.specs.Firsts.{has_old};
 ghost use Rattle.tpl_ast.specs.Leaves.{same_var, var_number};
 ghost use Rattle.leaf_stand.specs.Stands.{outcome_at, shape_at};
 ghost use Rattle.leaf_stand.specs.Relations.{slot_of};
@@ -84,6 +85,13 @@ impl Shape {
             Var::Pa => false,
         }
     }
+}
+
+/// The operation may read a CSR.
+pub fn has_old(op: Op) -> bool
+    ensures { result ≡ has_old op }
+{
+    op.has_csr() || matches!(op, Op::Mret | Op::Sret)
 }
 
 /// The place of a variable in their order.

@@ -1,6 +1,7 @@
 // The ways in which a step goes on after its sources.
 
 use crate::shape::End;
+use rv_csr::LazyRegister;
 
 /// Which targets a way is for.
 #[derive(Clone, Copy)]
@@ -20,4 +21,6 @@ pub struct Way {
     /// Of a branch, whether it is taken.
     pub taken: Option<bool>,
     pub aim: Aim,
+    /// The CSR that it reads.
+    pub reads: Option<LazyRegister>,
 }

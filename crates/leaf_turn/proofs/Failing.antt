@@ -1,7 +1,7 @@
 -- A step whose fetch fails where no address is translated: it asks for the vector of its trap alone, and starts nothing else.
 use Rattle.std.proofs.Common.{◌≡◌, ℕ, ◌<◌, ◌≤◌, Bool, true, false, eqb, if◌then◌else◌, List, [], ◌∷◌, Option, Some, None, refl, sym, ap, ◌∙◌, subst, inl, inr, arith}
 use Rattle.std.proofs.Math.Path.{fun_ext}
-use Rattle.std.proofs.lemmas.Bool.{cases_lt, eqb-true}
+use Rattle.std.proofs.lemmas.Bool.{cases_Bool, cases_lt, eqb-true}
 use Rattle.rv_csr.specs.Causes.{number_of}
 use Rattle.rv_csr.specs.declared.cause.Cause.TheVariants.{FetchAccess}
 use Rattle.rv_isa.specs.declared.instruction.Instr.{Instr}
@@ -35,12 +35,13 @@ use Rattle.leaf_link.specs.Faults.{IsFaultCandidate, fault_values}
 use Rattle.leaf_link.specs.FetchAnswers.{FaultAnswersAreExact, FetchPrecedes, IsFaultAnswer, fetch_pivot, fetch_space}
 use Rattle.leaf_link.specs.Fetches.{fetch_script}
 use Rattle.leaf_link.specs.Kinds.{vector_at}
-use Rattle.leaf_link.specs.Placing.{IsInstruction, StaysOrTraps, value_at}
+use Rattle.leaf_link.specs.Placing.{IsInstruction, KeepsSatp, place_value}
 use Rattle.leaf_link.specs.Turns.{Turn, may_start}
 use Rattle.leaf_link.specs.Values.{Values}
 use Rattle.leaf_stand.specs.declared.stand.Stand.{Stand}
 use Rattle.leaf_pose.specs.Fetches.{PosesFault}
 use Rattle.leaf_stand.specs.Stands.{IsStandOf}
+use Rattle.part_machine.specs.Whole.{hart_of}
 use Rattle.turn_laws.specs.Given.{turn_at}
 use Rattle.turn_laws.specs.Played.{FaultsArePlayed}
 use Rattle.leaf_turn.specs.Answers.{new_at}
@@ -105,10 +106,16 @@ vector_new : (o : Option ℕ) (vector v : ℕ) → where_unknown o (Some vector)
 vector_new None vector v h = cc
 vector_new (Some u) vector v h = absurd (cc)
 
-place_value : (t : Turn) (addr vector : ℕ) (place : Place) (v : ℕ) → started t.known (entry (OfCsr FromVector addr) vector ∷ []) place ≡ Some v → v ≡ value_at (fault_values t (entry (OfCsr FromVector addr) vector ∷ [])) place
-place_value t addr vector (Reg n) v h = absurd (none_new (t.known (Reg n)) v h)
-place_value t addr vector (Word a) v h = absurd (none_new (t.known (Word a)) v h)
-place_value t addr vector (Csr a) v h = go (eqb addr a) refl h
+or_vector : (n v : ℕ) → v ≡ n → v ≡ (if eqb n 0 then 0 else n)
+or_vector n v is = elim (cases_Bool (eqb n 0)) [
+  | inl y ↦ is ∙ eqb-true n 0 y ∙ sym (ap (λ (b : Bool). if b then 0 else n) y)
+  | inr other ↦ is ∙ sym (ap (λ (b : Bool). if b then 0 else n) other)
+]
+
+started_value : (t : Turn) (addr vector pc : ℕ) (place : Place) (v : ℕ) → started t.known (entry (OfCsr FromVector addr) vector ∷ []) place ≡ Some v → v ≡ place_value (fault_values t (entry (OfCsr FromVector addr) vector ∷ [])) pc place
+started_value t addr vector pc (Reg n) v h = absurd (none_new (t.known (Reg n)) v h)
+started_value t addr vector pc (Word a) v h = absurd (none_new (t.known (Word a)) v h)
+started_value t addr vector pc (Csr a) v h = or_vector (if_new (t.known (Csr addr)) vector) v (go (eqb addr a) refl h)
   where
     go : (same : Bool) → eqb addr a ≡ same → where_unknown (t.known (Csr a)) (if same then Some vector else None) ≡ Some v → v ≡ if_new (t.known (Csr addr)) vector
     go true is n = vector_new (t.known (Csr a)) vector v n ∙ ap (λ (x : ℕ). if_new (t.known (Csr x)) vector) (sym (eqb-true addr a is))
@@ -136,10 +143,10 @@ faults_are_playable played k w s feet causes draws nodes x vectors footprint ali
       aligned = aligned;
       played = played t causes (new_at k w (values_in x)) c;
       values = λ place v new.
-          place_value t f.addr f.vector place v (ap (λ (l : List Entry). started t.known l place) (sym f.log_is) ∙ sym (c.exact place) ∙ new)
-          ∙ ap (λ (y : Values). value_at y place) (sym same);
+          started_value t f.addr f.vector (hart_of k w).pc place v (ap (λ (l : List Entry). started t.known l place) (sym f.log_is) ∙ sym (c.exact place) ∙ new)
+          ∙ ap (λ (y : Values). place_value y (hart_of k w).pc place) (sym same);
       instruction = subst IsInstruction (sym is) (fault_instruction t c.log);
-      control = subst (λ (z : Change). StaysOrTraps z.control) (sym f.change_is) tt;
+      control = subst (λ (z : Change). KeepsSatp z.control) (sym f.change_is) tt;
     }
 
 -- ---- the answer rests on no page table entry

@@ -1,5 +1,5 @@
--- What is found for a leaf is of an instruction that asks for little.
-use Rattle.std.proofs.Common.{◌≡◌, ℕ, Bool, true, false, not, ◌||◌, ◌++◌, List, [], ◌∷◌, Option, Some, None, refl, sym, ◌∙◌, subst, inl, inr}
+-- What is found for a leaf is of an instruction that makes no data access and does not write satp.
+use Rattle.std.proofs.Common.{◌≡◌, ℕ, Bool, true, false, not, ◌&&◌, ◌||◌, eqb, ◌++◌, List, [], ◌∷◌, Option, Some, None, refl, sym, ap, ◌∙◌, subst, inl, inr}
 use Rattle.std.specs.List.{list_all}
 use Rattle.std.proofs.lemmas.Bool.{and_from, and_parts}
 use Rattle.rv_isa.specs.declared.instruction.Instr.{Instr}
@@ -18,7 +18,8 @@ use Rattle.leaf_link.specs.Turns.{Turn}
 use Rattle.leaf_link.specs.Cases.{all_tests, code_at, in_read}
 use Rattle.leaf_link.specs.Domains.{CandidatesAreInDomains}
 use Rattle.leaf_link.specs.Firsts.{in_first_word}
-use Rattle.leaf_link.specs.Placing.{asks_little}
+use Rattle.leaf_link.specs.Placing.{writes_satp}
+use Rattle.leaf_link.specs.Values.{has_address, has_csr_operand}
 use Rattle.leaf_stand.specs.Kinds.{kind_of}
 use Rattle.leaf_stand.specs.Posed.{allows, is_other, is_posable, is_read_as, reads_as}
 use Rattle.leaf_stand.specs.Stands.{turn_of}
@@ -29,25 +30,30 @@ use Rattle.leaf_turn.specs.Finding.{AnswersAreFound}
 use Rattle.leaf_turn.specs.Untranslated.{rows_without}
 use Rattle.leaf_turn.proofs.Untranslated.{rows_are_there}
 
--- an operation that is posed asks for little
-posed_little : (op : Op) → is_other (kind_of op) ≡ false → asks_little (row_of op) ≡ true
-posed_little ops.Lb h = absurd (cc)
-posed_little ops.Lh h = absurd (cc)
-posed_little ops.Lw h = absurd (cc)
-posed_little ops.Lbu h = absurd (cc)
-posed_little ops.Lhu h = absurd (cc)
-posed_little ops.Sb h = absurd (cc)
-posed_little ops.Sh h = absurd (cc)
-posed_little ops.Sw h = absurd (cc)
-posed_little ops.Csrrw h = absurd (cc)
-posed_little ops.Csrrs h = absurd (cc)
-posed_little ops.Csrrc h = absurd (cc)
-posed_little ops.Csrrwi h = absurd (cc)
-posed_little ops.Csrrsi h = absurd (cc)
-posed_little ops.Csrrci h = absurd (cc)
-posed_little ops.Mret h = absurd (cc)
-posed_little ops.Sret h = absurd (cc)
-posed_little _ h = refl
+-- an operation that is posed makes no data access
+posed_inner : (op : Op) → is_other (kind_of op) ≡ false → has_address (row_of op) ≡ false
+posed_inner ops.Lb h = absurd (cc)
+posed_inner ops.Lh h = absurd (cc)
+posed_inner ops.Lw h = absurd (cc)
+posed_inner ops.Lbu h = absurd (cc)
+posed_inner ops.Lhu h = absurd (cc)
+posed_inner ops.Sb h = absurd (cc)
+posed_inner ops.Sh h = absurd (cc)
+posed_inner ops.Sw h = absurd (cc)
+posed_inner _ h = refl
+
+-- and is that of no CSR instruction
+posed_without_csr : (op : Op) → is_other (kind_of op) ≡ false → has_csr_operand (row_of op) ≡ false
+posed_without_csr ops.Csrrw h = absurd (cc)
+posed_without_csr ops.Csrrs h = absurd (cc)
+posed_without_csr ops.Csrrc h = absurd (cc)
+posed_without_csr ops.Csrrwi h = absurd (cc)
+posed_without_csr ops.Csrrsi h = absurd (cc)
+posed_without_csr ops.Csrrci h = absurd (cc)
+posed_without_csr _ h = refl
+
+posed_keeps : (i : Instr) → is_other (kind_of i.op) ≡ false → writes_satp i ≡ false
+posed_keeps i h = ap (λ (b : Bool). b && eqb i.csr 0x180) (posed_without_csr i.op h)
 
 read_as : (o : Option Instr) (op : Op) → in_read o slots.Op (op_number op) ≡ true → is_read_as o op ≡ true
 read_as None op h = absurd (cc h)
@@ -94,7 +100,10 @@ answers_are_found domains st k w s feet leaf kept draws nodes x vectors footprin
       vectors = vectors;
       footprint = footprint;
       fetched = posed.fetched;
+      at = sym stands.pc;
+      plain = plain;
       candidate = c;
       values = least.are_values;
-      little = posed_little op other;
+      keeps = posed_keeps c.instr other;
+      inner = posed_inner op other;
     }

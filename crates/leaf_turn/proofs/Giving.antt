@@ -14,7 +14,7 @@ use Rattle.rv_csr.specs.declared.privilege.Priv.{Priv}
 use Rattle.rv_csr.specs.declared.privilege.Priv.TheVariants.{U, S, M}
 use Rattle.rv_csr.specs.declared.table.Register.{Register}
 use Rattle.rv_csr.specs.declared.table.Register.TheVariants.{Sstatus, Satp, Mstatus, Medeleg, Mhartid, Lazy}
-use Rattle.rv_csr.specs.State.{CsrValues, with_first}
+use Rattle.rv_csr.specs.State.{CsrValues, with_first, with_value}
 use Rattle.rv_csr.specs.Table.{register_at}
 use Rattle.rv_csr.specs.Traps.{takes_trap, trapped_to}
 use Rattle.part_machine.specs.Whole.{Bare, Whole, bare_after, no_hart, with_csr, with_register, fixed_in, hart_of, next_of, record_in, stepped}
@@ -27,7 +27,7 @@ use Rattle.part_state.specs.Probing.{IsProbe}
 use Rattle.part_state.specs.declared.probe.Probe.{Probe}
 use Rattle.part_state.specs.declared.probe.Probe.TheVariants.{Clash, Missing, Outside, Ready}
 use Rattle.leaf_link.specs.Values.{Values}
-use Rattle.leaf_link.specs.Placing.{StaysOrTraps, value_at}
+use Rattle.leaf_link.specs.Placing.{KeepsSatp, IsNotSatp, place_value}
 use Rattle.turn_laws.specs.Ahead.{AreAmong, IsUnderway, LogsAreShort, OneMoreIsGiven, PlacesAreNext, unknown_in}
 use Rattle.turn_laws.specs.Laws.{PlayedStepsAreNext, FixedPartsStay, GivenPlacesAreKnown, GivenTestsAreTests, IsTaken, OthersStay}
 use Rattle.turn_laws.specs.Given.{CanGive, all_given, given_to, known_at, turn_at}
@@ -61,13 +61,13 @@ asked_more k new (e ∷ es) place v w asked lacks is = (asked.0, asked.1, asked_
 -- where the next step lacks a place, the place can start with the answer's value, and then one less is left
 pub record IsGoingOn (k : ℕ) (x : Values) (left : ℕ) (old now : Whole) (place : Place) : Type 0 where
   pub some : 0 < left
-  pub can : CanStart k place (value_at x place) now
-  pub going : AreGoing k x (left - 1) old (place_given k place (value_at x place) now)
+  pub can : CanStart k place (place_value x (hart_of k old).pc place) now
+  pub going : AreGoing k x (left - 1) old (place_given k place (place_value x (hart_of k old).pc place) now)
 
 pub going_on : (k : ℕ) (x : Values) (left : ℕ) (old now : Whole) (place : Place) → PlacesAreNext → OneMoreIsGiven → IsTest old → k < length old.harts → IsPlayable k old x
     → AreGoing k x left old now → next_of k now ≡ Lacks place → IsGoingOn k x left old now place
 going_on k x left old now place next appended test l f g lacks =
-    let value : ℕ = value_at x place in
+    let value : ℕ = place_value x (hart_of k old).pc place in
     let new : Known = new_at k old x in
     let first : next_of k (all_given k g.places old) ≡ Lacks place = ap (λ (w : Whole). next_of k w) (sym g.is) ∙ lacks in
     let u = next f.setting f.feet k old new g.places f.log f.change test l f.aligned f.vectors g.can g.among f.played in
@@ -194,19 +194,27 @@ trap_satp U csrs from cause pc value = refl
 trap_satp S csrs from cause pc value = refl
 trap_satp M csrs from cause pc value = refl
 
-control_satp : (from : Priv) (pc : ℕ) (control : Control) (csrs : CsrValues) → StaysOrTraps control → (csrs_after from pc control csrs).satp ≡ csrs.satp
+write_satp : (register : Register) (value : ℕ) (csrs : CsrValues) → IsNotSatp register → (with_value register value csrs).satp ≡ csrs.satp
+write_satp Sstatus value csrs h = refl
+write_satp Satp value csrs h = absurd h
+write_satp Mstatus value csrs h = refl
+write_satp Medeleg value csrs h = refl
+write_satp Mhartid value csrs h = refl
+write_satp (Lazy register) value csrs h = refl
+
+control_satp : (from : Priv) (pc : ℕ) (control : Control) (csrs : CsrValues) → KeepsSatp control → (csrs_after from pc control csrs).satp ≡ csrs.satp
 control_satp from pc Stay csrs h = refl
-control_satp from pc (Write register value) csrs h = absurd h
+control_satp from pc (Write register value) csrs h = write_satp register value csrs h
 control_satp from pc (Trap cause value) csrs h = trap_satp (takes_trap csrs.medeleg from cause) csrs from cause pc value
-control_satp from pc Mret csrs h = absurd h
-control_satp from pc Sret csrs h = absurd h
+control_satp from pc Mret csrs h = refl
+control_satp from pc Sret csrs h = refl
 
 pub same_change : (a b : List Entry) (c d : Change) → (let r : Answer Entry Change = Does a c in r) ≡ Does b d → c ≡ d
 same_change a b c d e = cc e
 
--- the step of an answer goes on or traps
-stays_or_traps : (k : ℕ) (x : Values) (r : Record) (old new : Whole) → IsPlayable k old x → (t : IsTakenBy k x r old new) → StaysOrTraps t.change.control
-stays_or_traps k x r old new f t = subst (λ (c : Change). StaysOrTraps c.control) (same_change f.log t.log f.change t.change (sym f.played.plays ∙ t.plays)) f.control
+-- the step of an answer writes no satp
+keeps_satp : (k : ℕ) (x : Values) (r : Record) (old new : Whole) → IsPlayable k old x → (t : IsTakenBy k x r old new) → KeepsSatp t.change.control
+keeps_satp k x r old new f t = subst (λ (c : Change). KeepsSatp c.control) (same_change f.log t.log f.change t.change (sym f.played.plays ∙ t.plays)) f.control
 
 pub still : (k : ℕ) (x : Values) (r : Record) (old new : Whole) → OthersStay → IsPlayable k old x → IsTakenBy k x r old new → IsStill old new
 still k x r old new others f t =
@@ -222,7 +230,7 @@ still k x r old new others f t =
       harts = ap (λ (w : Whole). length w.harts) is ∙ length-set given.harts k (bare_after t.change (hart_of k given)) ∙ b.harts;
       satp = λ j.
           ap (λ (w : Whole). (hart_of j w).csrs.satp) is
-          ∙ set_satp given.harts k (bare_after t.change (hart_of k given)) no_hart (control_satp (hart_of k given).privilege (hart_of k given).pc t.change.control (hart_of k given).csrs (stays_or_traps k x r old new f t)) j
+          ∙ set_satp given.harts k (bare_after t.change (hart_of k given)) no_hart (control_satp (hart_of k given).privilege (hart_of k given).pc t.change.control (hart_of k given).csrs (keeps_satp k x r old new f t)) j
           ∙ all_satp k places old j;
     }
 

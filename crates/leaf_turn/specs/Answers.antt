@@ -1,14 +1,15 @@
 -- The answer of a leaf, and the test behind its step.
-use Rattle.std.specs.Prelude.{◌≡◌, ◌%◌, ◌<◌, ◌++◌, ℕ, true, List, [], ◌∷◌, Some, length}
+use Rattle.std.specs.Prelude.{◌≡◌, ◌%◌, ◌<◌, ◌++◌, ℕ, false, List, [], ◌∷◌, Some, length}
 use Rattle.rv_isa.specs.Table.{row_of}
 use Rattle.rv_script.specs.declared.place.Place.{Place}
 use Rattle.rv_script.specs.Folds.{Answer.Does, Answer.Missing as Lacks, Entry, Known, by_known}
 use Rattle.rv_script.specs.Logs.{answer_told, enlarged}
+use Rattle.sv_walk.specs.Translation.{is_translated}
 use Rattle.foot_map.specs.declared.touch.Touch.{Touch}
 use Rattle.foot_map.specs.Races.{IsFootprint}
 use Rattle.rv_hart.specs.declared.record.Change.{Change}
 use Rattle.rv_hart.specs.declared.record.Record.{Record}
-use Rattle.rv_hart.specs.Machine.{script}
+use Rattle.rv_hart.specs.Machine.{data_view, script}
 use Rattle.rv_hart.specs.Whole.{record_of}
 use Rattle.fd_prob.specs.declared.slot.Slot.{Slot}
 use Rattle.tpl_ast.specs.declared.template.Atom.{Atom}
@@ -16,9 +17,9 @@ use Rattle.tpl_admit.specs.Races.{footprints_of}
 use Rattle.part_machine.specs.Whole.{Whole, fixed_in, hart_of, next_of, records_of, stepped}
 use Rattle.part_state.specs.Meaning.{IsTest, place_given}
 use Rattle.part_state.specs.State.{State, Test, tests}
-use Rattle.leaf_link.specs.Values.{Values, new_places}
+use Rattle.leaf_link.specs.Values.{Values, has_address, new_places}
 use Rattle.leaf_link.specs.Candidates.{IsCandidate, accesses_in}
-use Rattle.leaf_link.specs.Placing.{IsInstruction, StaysOrTraps, asks_little, value_at}
+use Rattle.leaf_link.specs.Placing.{IsInstruction, KeepsSatp, place_value, writes_satp}
 use Rattle.leaf_link.specs.Problems.{key_of}
 use Rattle.leaf_link.specs.Ways.{IsFetched}
 use Rattle.turn_laws.specs.Ahead.{AreVectors}
@@ -29,7 +30,7 @@ use Rattle.turn_laws.specs.Played.{IsPlayed}
 abbrev pub new_at : ℕ → Whole → Values → Known
 new_at k w x = new_places (fixed_in (hart_of k w) w.memory) (known_at k w) x
 
--- values are those of a candidate for the next step of a hart, whose instruction asks for nothing behind its source registers but the vector of a trap
+-- values are those of a candidate for the next step of a hart, which is fetched at its pc; no data access is translated, and the instruction is no load or store and does not write satp
 pub record IsFound (k : ℕ) (w : Whole) (x : Values) : Type 0 where
   pub setting : Setting
   pub feet : List Touch
@@ -39,11 +40,14 @@ pub record IsFound (k : ℕ) (w : Whole) (x : Values) : Type 0 where
   pub vectors : AreVectors setting.vectors
   pub footprint : IsFootprint feet (footprints_of (λ j. records_of j w))
   pub fetched : IsFetched (turn_at setting feet k w) walk pa
+  pub at : pa ≡ (hart_of k w).pc
+  pub plain : is_translated (data_view (turn_at setting feet k w).fixed) ≡ false
   pub candidate : IsCandidate (turn_at setting feet k w) leaf (new_at k w x)
   pub values : (s : Slot) → x s ≡ key_of (turn_at setting feet k w) leaf (new_at k w x) candidate s
-  pub little : asks_little (row_of candidate.instr.op) ≡ true
+  pub keeps : writes_satp candidate.instr ≡ false
+  pub inner : has_address (row_of candidate.instr.op) ≡ false
 
--- values are those of a step that a hart can make: it is played on what they start, each new place has its value among them, and the step goes on as it is or traps
+-- values are those of a step that a hart can make: it is played on what they start, each new place has its value among them, and the step writes no satp
 pub record IsPlayable (k : ℕ) (w : Whole) (x : Values) : Type 0 where
   pub setting : Setting
   pub feet : List Touch
@@ -53,9 +57,9 @@ pub record IsPlayable (k : ℕ) (w : Whole) (x : Values) : Type 0 where
   pub footprint : IsFootprint feet (footprints_of (λ j. records_of j w))
   pub aligned : (hart_of k w).pc % 4 ≡ 0
   pub played : IsPlayed (turn_at setting feet k w) (new_at k w x) log change
-  pub values : (place : Place) (v : ℕ) → new_at k w x place ≡ Some v → v ≡ value_at x place
+  pub values : (place : Place) (v : ℕ) → new_at k w x place ≡ Some v → v ≡ place_value x (hart_of k w).pc place
   pub instruction : IsInstruction x
-  pub control : StaysOrTraps change.control
+  pub control : KeepsSatp change.control
 
 -- each place is what the next step lacks when its turn comes, and has its new value
 abbrev pub AreAsked : ℕ → Known → List (Place × ℕ) → Whole → Type 0

@@ -1,6 +1,5 @@
 //! A leaf's turn on a test in the making: what is known where its hart stands, the answer of the leaf, and the step of
-//! an answer, with the places that it starts. Addresses are not translated here, and instructions are those that ask
-//! for nothing behind their source registers but the vector of a trap.
+//! an answer, with the places that it starts. Addresses are not translated here, and no step that is taken writes satp.
 #![tactic(auto)]
 
 mod answer;

@@ -4,7 +4,7 @@ ghost use Rattle.rv_script.specs.declared.place.Place.{Place as APlace};
 ghost use Rattle.rv_hart.specs.Clauses.{IsFitRecord};
 ghost use Rattle.part_state.specs.State.{here};
 ghost use Rattle.leaf_link.specs.Answers.{values_in};
-ghost use Rattle.leaf_link.specs.Placing.{IsInstruction, value_at};
+ghost use Rattle.leaf_link.specs.Placing.{IsInstruction, place_value};
 ghost use Rattle.leaf_link.specs.Values.{instr_in};
 ghost use Rattle.rv_script.specs.Logs.{enlarged};
 ghost use Rattle.leaf_link.specs.Candidates.{registers_from};
@@ -34,13 +34,21 @@ fn instruction(x: &Assignment) -> Instr
     }
 }
 
-/// The value with which an answer starts a place: the fetched word, the value of a source register, or the vector.
-fn value_at(x: &Assignment, place: Place) -> u32
+/// The value with which an answer starts a place, where the hart stands at a pc: the fetched word or the data word, the
+/// value of a source register, or the vector of a trap. A step that reads a CSR takes no trap, so where the vector is 0 the
+/// value of a CSR is the old one.
+fn place_value(x: &Assignment, pc: u32, place: Place) -> u32
     requires { IsInstruction (values_in x.now) }
-    ensures { result ≡ value_at (values_in x.now) place }
+    ensures { result ≡ place_value (values_in x.now) pc place }
 {
     match place {
-        Place::Word(_) => encode(&instruction(x)),
+        Place::Word(addr) => {
+            if addr == pc {
+                encode(&instruction(x))
+            } else {
+                x.value(Slot::DataWord)
+            }
+        }
         Place::Reg(n) => {
             if u32::from(n) == x.value(Slot::Rs1) {
                 x.value(Slot::A)
@@ -48,7 +56,13 @@ fn value_at(x: &Assignment, place: Place) -> u32
                 x.value(Slot::B)
             }
         }
-        Place::Csr(_) => x.value(Slot::Vector),
+        Place::Csr(_) => {
+            if x.value(Slot::Vector) == 0 {
+                x.value(Slot::OldCsr)
+            } else {
+                x.value(Slot::Vector)
+            }
+        }
     }
 }
 
@@ -62,12 +76,13 @@ fn give(part: &mut Part, hart: u8, x: &Assignment) -> Result<(), OutOfMemory>
     places_are_next();
     given_places_are_known();
     part.is_test();
+    let pc = part.hart(hart).pc;
     // A step asks ten questions at most.
     let mut left = 10u8;
     loop {
         match part.probe(hart) {
             Probe::Missing(place) => {
-                part.start_place(hart, place, value_at(x, place))?;
+                part.start_place(hart, place, place_value(x, pc, place))?;
                 left -= 1;
             }
             Probe::Ready(_) | Probe::Outside | Probe::Clash(_) => return Ok(()),

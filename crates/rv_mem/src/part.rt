@@ -76,7 +76,7 @@ impl PartMem {
         Ok(())
     }
 
-    /// The bytes of the known words as runs, each by its first byte and its last, ascending. It asks for each known word
+    /// The bytes of the known words as runs, each by its first byte and its last. It asks for each known word
     /// once whether it is one of RAM.
     pub fn known_runs(&self, alloc: Global) -> Result<Vec<(u32, u32)>, OutOfMemory>
         ensures { IfOk result (λ runs. (x : ℕ) → x < 2 ^ 32 → in_runs runs.items x ≡ is_known (part_at self.now (x / 4))) }

@@ -2,9 +2,10 @@
 //! those of a range that match a pattern, a piece a run but for its hole, the numbers of a second pattern. Each call says
 //! exactly which numbers its result holds (those of a piece in a range, in common with another, which another leaves, or
 //! moved by a distance), how many there are, or which is the first or the last; but `pages_end` may stop early, and
-//! `bits_under` may tell nothing. What is more than one piece is appended to a list, and the contract says how many pieces
-//! of it hold a number. No call's time grows with how many numbers a piece holds, but that of `push_moved_piece` where it
-//! splits a piece; `dom_set`, which keeps lists of pieces, says how many pieces its calls make.
+//! `bits_under`, `is_within` and `wider_hole` may tell nothing where there is something to tell. What is more than one
+//! piece is appended to a list, and the contract says how many pieces of it hold a number. No call's time grows with how
+//! many numbers a piece holds, but that of `push_moved_piece` where it splits a piece; `dom_set`, which keeps lists of
+//! pieces, says how many pieces its calls make.
 #![tactic(auto)]
 
 mod error;

@@ -2,20 +2,13 @@
 //! more is no clause's. Of sums and differences only those in a domain are asked for. They are
 //! found by ranges around the elements and by the low bits of these, each alone. Differences in a domain whose words are
 //! all from -2,048 to 2,047, as those of an immediate, are found by both together: the elements are taken as numbers that
-//! are a power of two apart, and what two of these give is marked, or all where there are too many pairs of them. Pairs
-//! that give nothing but what is marked, or is no word of the domain, are passed over, many at once by their ends and by
-//! what they leave when they are divided by 64. Where many stand close together, pages of bits tell of each number that is
-//! not marked whether two of them give it. It stands on `dom_set` and `lane_bits` alone, and `fd_narrow` cuts domains by it.
+//! are a power of two apart, and `near_marks` marks what two of these give. It stands on `dom_set`, `lane_bits` and
+//! `near_marks` alone, and `fd_narrow` cuts domains by it.
 #![tactic(auto)]
 
-mod close;
-mod grid;
-mod marks;
 mod near;
 mod ranges;
 mod remainders;
-mod rests;
-mod steps;
 mod sums;
 
 pub use dom_set::OutOfMemory;

@@ -5,10 +5,8 @@ ghost use Rattle.set_sums.specs.Spans.{AreCovered, AreKept, AreNegated, AreNegat
 
 use crate::near::is_narrow;
 use dom_set::{OutOfMemory, Set, set_laws};
+use near_marks::WORDS;
 use std::alloc::Global;
-
-/// How many words there are.
-pub const WORDS: u64 = 1 << 32;
 
 /// The first word of the upper half.
 pub const HALF: u32 = 1 << 31;

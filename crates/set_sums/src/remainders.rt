@@ -4,8 +4,9 @@ ghost use Rattle.dom_set.specs.Elements.{is_in, is_matching};
 ghost use Rattle.set_sums.specs.Spans.{HasDifferences};
 ghost use Rattle.set_sums.specs.Remainders.{AreClasses, AreClassesOf, AreSameClasses, HasClasses, HasClassSums, HasRemainders, HasRemaindersBelow};
 
-use crate::ranges::{WORDS, meet};
+use crate::ranges::meet;
 use dom_set::{OutOfMemory, Set, set_laws};
+use near_marks::WORDS;
 use std::alloc::Global;
 
 /// A mask, and the bits under it.

@@ -9,4 +9,4 @@ use Rattle.leaf_pose.proofs.cases.case_of.Goals as goal
 pub returns-clause-fits : goal.returns-clause-fits
 returns-clause-fits c =
     case_same c.args.stand.now c.args.leaf.now c.args.op c.args.way _ c.requires.built c.requires.steered c.requires.aimed c.requires.judged c.requires.between c.number.ensures.number
-    (subst (λ (l : List (List ℕ)). AreDomains (domain_at (turn_of c.args.stand.now) c.args.leaf.now (shape_with c.args.op c.args.way.end)) SLOTS l) (sym c.from_vec.ensures) c.in_ok-doms.ensures.each) c.in_ok-rels.ensures
+    (subst (λ (l : List (List ℕ)). AreDomains (domain_at (turn_of c.args.stand.now) c.args.leaf.now (shape_with c.args.op c.args.way.end) c.args.way.reads) SLOTS l) (sym c.from_vec.ensures) c.in_ok-doms.ensures.each) c.in_ok-rels.ensures

@@ -1,8 +1,9 @@
-use Rattle.std.proofs.Common.{ℕ, ◌-◌, subst, sym, arith}
-use Rattle.part_machine.specs.Whole.{Whole}
+use Rattle.std.proofs.Common.{ℕ, ◌-◌, ◌∙◌, ap, subst, sym, arith}
+use Rattle.part_machine.specs.Whole.{Bare, Whole}
 use Rattle.part_state.specs.Meaning.{CanStart, place_given}
 use Rattle.part_state.specs.State.{here}
 use Rattle.leaf_link.specs.Answers.{values_in}
+use Rattle.leaf_link.specs.Placing.{place_value}
 use Rattle.leaf_turn.proofs.Giving.{AreGoing, all_are_given, begun, going_on, harts_stay, lacks_none, not_missing}
 use Rattle.leaf_turn.proofs.Keeping.{kept_more, kept_same}
 use Rattle.leaf_turn.proofs.taking.give.Goals as goal
@@ -15,8 +16,8 @@ probe-requires c =
     let g = c.loop-place.invariant.going in
     harts_stay c.args.hart (values_in c.args.x.now) (here c.args.part.now) (here c.loop-place.part) c.given_places_are_known.ensures.others g.places g.is c.requires.hart
 
-pub value_at-requires : goal.value_at-requires
-value_at-requires c = c.requires.playable.instruction
+pub place_value-requires : goal.place_value-requires
+place_value-requires c = c.requires.playable.instruction
 
 pub start_place-requires-clause-hart : goal.start_place-requires-clause-hart
 start_place-requires-clause-hart c =
@@ -27,7 +28,8 @@ pub start_place-requires-clause-start : goal.start_place-requires-clause-start
 start_place-requires-clause-start c =
     let on = going_on c.args.hart (values_in c.args.x.now) c.loop-place.left (here c.args.part.now) (here c.loop-place.part) c.in-Missing.place c.places_are_next.ensures.next c.places_are_next.ensures.appended
     c.is_test.ensures c.requires.hart c.requires.playable c.loop-place.invariant.going c.in-Missing.ensures in
-    subst (λ (v : ℕ). CanStart c.args.hart c.in-Missing.place v (here c.loop-place.part)) (sym c.value_at.ensures) on.can
+    let is = c.place_value.ensures ∙ ap (λ (b : Bare). place_value (values_in c.args.x.now) b.pc c.in-Missing.place) c.hart.ensures in
+    subst (λ (v : ℕ). CanStart c.args.hart c.in-Missing.place v (here c.loop-place.part)) (sym is) on.can
 
 pub overflow_sub-left : goal.overflow_sub-left
 overflow_sub-left c =
@@ -47,7 +49,8 @@ pub loop-place-preserved : goal.loop-place-preserved
 loop-place-preserved c =
     let on = going_on c.args.hart (values_in c.args.x.now) c.loop-place.left (here c.args.part.now) (here c.loop-place.part) c.in-Missing.place c.places_are_next.ensures.next c.places_are_next.ensures.appended
     c.is_test.ensures c.requires.hart c.requires.playable c.loop-place.invariant.going c.in-Missing.ensures in
-    let same = subst (λ (v : ℕ). AreGoing c.args.hart (values_in c.args.x.now) (c.loop-place.left - 1) (here c.args.part.now) (place_given c.args.hart c.in-Missing.place v (here c.loop-place.part))) (sym c.value_at.ensures) on.going in
+    let is = c.place_value.ensures ∙ ap (λ (b : Bare). place_value (values_in c.args.x.now) b.pc c.in-Missing.place) c.hart.ensures in
+    let same = subst (λ (v : ℕ). AreGoing c.args.hart (values_in c.args.x.now) (c.loop-place.left - 1) (here c.args.part.now) (place_given c.args.hart c.in-Missing.place v (here c.loop-place.part))) (sym is) on.going in
     record {
       going = subst (λ (w : Whole). AreGoing c.args.hart (values_in c.args.x.now) (c.loop-place.left - 1) (here c.args.part.now) w) (sym c.in_ok-start_place-in-Missing.ensures.now) same;
       kept = kept_more c.args.part.now c.loop-place.part c.start_place.new.self c.loop-place.invariant.kept c.in_ok-start_place-in-Missing.ensures.earlier;

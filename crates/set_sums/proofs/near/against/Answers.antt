@@ -1,5 +1,5 @@
 use Rattle.std.proofs.Common.{arith}
-use Rattle.set_sums.proofs.Marking.{against_at}
+use Rattle.set_sums.proofs.Tracked.{against_at}
 use Rattle.set_sums.proofs.near.against.Goals as goal
 
 pub returns : goal.returns

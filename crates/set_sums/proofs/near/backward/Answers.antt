@@ -1,4 +1,4 @@
-use Rattle.set_sums.proofs.Marking.{backward_more}
+use Rattle.set_sums.proofs.Tracked.{backward_more}
 use Rattle.set_sums.proofs.near.backward.Goals as goal
 
 pub loop-track-preserved : goal.loop-track-preserved

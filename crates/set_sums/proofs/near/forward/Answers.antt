@@ -1,4 +1,4 @@
-use Rattle.set_sums.proofs.Marking.{forward_more}
+use Rattle.set_sums.proofs.Tracked.{forward_more}
 use Rattle.set_sums.proofs.near.forward.Goals as goal
 
 pub loop-track-preserved : goal.loop-track-preserved

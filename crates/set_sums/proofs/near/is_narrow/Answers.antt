@@ -1,6 +1,6 @@
 use Rattle.std.proofs.Common.{arith}
 use Rattle.std.proofs.lemmas.Bool.{leb-true}
-use Rattle.set_sums.proofs.Marking.{narrow_by_first}
+use Rattle.set_sums.proofs.Tracked.{narrow_by_first}
 use Rattle.set_sums.proofs.near.is_narrow.Goals as goal
 
 pub returns-then-from-lt-REACH : goal.returns-then-from-lt-REACH

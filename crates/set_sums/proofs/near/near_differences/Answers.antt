@@ -1,4 +1,4 @@
-use Rattle.set_sums.proofs.Marking.{all_by_tracks}
+use Rattle.set_sums.proofs.Tracked.{all_by_tracks}
 use Rattle.set_sums.proofs.near.near_differences.Goals as goal
 
 pub returns : goal.returns

@@ -1,4 +1,4 @@
-use Rattle.set_sums.proofs.Marking.{near_on}
+use Rattle.set_sums.proofs.Tracked.{near_on}
 use Rattle.set_sums.proofs.near.near_on.Goals as goal
 
 pub returns : goal.returns

@@ -9,13 +9,13 @@ use Rattle.leaf_stand.proofs.stand.Stand.domains.Goals as goal
 pub loop-slot-preserved : goal.loop-slot-preserved
 loop-slot-preserved c = record {
   each =
-      subst (λ (l : List (List ℕ)). (rest : List (List ℕ)) → AreDomains (domain_at (turn_of c.args.self.now) c.args.leaf.now c.args.shape) (drop (c.loop-slot.slot-index + 1) SLOTS) rest → AreDomains (domain_at (turn_of c.args.self.now) c.args.leaf.now c.args.shape) SLOTS (l ++ rest)) (sym c.in_ok-push.ensures.items)
-      (add_domain (λ r set. IsSetOf (domain_at (turn_of c.args.self.now) c.args.leaf.now c.args.shape r) set) c.loop-slot.slot-index _ c.loop-slot.doms.items c.in_ok-domain.field-0 c.loop-slot-test.true c.in_ok-domain.ensures c.loop-slot.invariant.each);
+      subst (λ (l : List (List ℕ)). (rest : List (List ℕ)) → AreDomains (domain_at (turn_of c.args.self.now) c.args.leaf.now c.args.shape c.args.reads) (drop (c.loop-slot.slot-index + 1) SLOTS) rest → AreDomains (domain_at (turn_of c.args.self.now) c.args.leaf.now c.args.shape c.args.reads) SLOTS (l ++ rest)) (sym c.in_ok-push.ensures.items)
+      (add_domain (λ r set. IsSetOf (domain_at (turn_of c.args.self.now) c.args.leaf.now c.args.shape c.args.reads r) set) c.loop-slot.slot-index _ c.loop-slot.doms.items c.in_ok-domain.field-0 c.loop-slot-test.true c.in_ok-domain.ensures c.loop-slot.invariant.each);
   length = ap (λ (l : List (List ℕ)). length l) c.in_ok-push.ensures.items ∙ (length-append c.loop-slot.doms.items (c.in_ok-domain.field-0 ∷ []) ∙ ap (λ (n : ℕ). n + 1) c.loop-slot.invariant.length);
 }
 
 pub returns-clause-each : goal.returns-clause-each
-returns-clause-each c = all_domains (λ r set. IsSetOf (domain_at (turn_of c.args.self.now) c.args.leaf.now c.args.shape r) set) c.loop-slot.slot-index c.loop-slot.doms.items c.loop-slot-test.false c.loop-slot.invariant.each
+returns-clause-each c = all_domains (λ r set. IsSetOf (domain_at (turn_of c.args.self.now) c.args.leaf.now c.args.shape c.args.reads r) set) c.loop-slot.slot-index c.loop-slot.doms.items c.loop-slot-test.false c.loop-slot.invariant.each
 
 pub returns-clause-length : goal.returns-clause-length
 returns-clause-length c = omega (arith, c.loop-slot.invariant.length, c.loop-slot-test.false, c.loop-slot.auto.slot-index-end)

@@ -6,6 +6,6 @@ use Rattle.leaf_stand.proofs.stand.Stand.domains.Given as goal
 
 abbrev pub invariant-loop-slot : goal.invariant-loop-slot
 invariant-loop-slot l = record {
-  each : (rest : List (List ℕ)) → AreDomains (domain_at (turn_of l.self) l.leaf l.shape) (drop l.slot-index SLOTS) rest → AreDomains (domain_at (turn_of l.self) l.leaf l.shape) SLOTS (l.doms.items ++ rest);
+  each : (rest : List (List ℕ)) → AreDomains (domain_at (turn_of l.self) l.leaf l.shape l.reads) (drop l.slot-index SLOTS) rest → AreDomains (domain_at (turn_of l.self) l.leaf l.shape l.reads) SLOTS (l.doms.items ++ rest);
   length : length l.doms.items ≡ l.slot-index;
 }

@@ -1,0 +1,5 @@
+pub mod Grids
+mod Marking
+mod Turning
+mod Leaving
+mod Closing

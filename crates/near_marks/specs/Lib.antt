@@ -1,0 +1,4 @@
+pub mod Near
+pub mod Turned
+pub mod Rests
+pub mod Close

@@ -1,6 +1,0 @@
-use Rattle.std.proofs.Common.{take}
-use Rattle.set_sums.specs.Close.{ArePlaced}
-use Rattle.set_sums.proofs.close.page_of.Given as goal
-
-abbrev pub invariant-loop-steps : goal.invariant-loop-steps
-invariant-loop-steps l = ArePlaced l.page (take l.steps-index l.all) l.fn.low

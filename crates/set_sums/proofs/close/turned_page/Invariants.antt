@@ -1,6 +1,0 @@
-use Rattle.std.proofs.Common.{take}
-use Rattle.set_sums.specs.Close.{AreTurnedOfAll}
-use Rattle.set_sums.proofs.close.turned_page.Given as goal
-
-abbrev pub invariant-loop-steps : goal.invariant-loop-steps
-invariant-loop-steps l = AreTurnedOfAll l.page (take l.steps-index l.all) l.fn.low

@@ -1,8 +1,0 @@
-use Rattle.std.proofs.Common.{List, IsTrue, sym, subst}
-use Rattle.std.proofs.lemmas.List.{take_all}
-use Rattle.set_sums.specs.declared.steps.Steps.{Steps}
-use Rattle.set_sums.specs.Near.{is_at_one}
-use Rattle.set_sums.proofs.grid.hull.Goals as goal
-
-pub returns-clause-around : goal.returns-clause-around
-returns-clause-around c = λ n h. c.loop-steps.invariant.around n (subst (λ (d : List Steps). IsTrue (is_at_one d n)) (sym (take_all c.loop-steps.steps-index c.args.all.now c.loop-steps-test.false)) h)

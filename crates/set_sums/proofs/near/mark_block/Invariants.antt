@@ -1,6 +1,0 @@
-use Rattle.std.proofs.Common.{take}
-use Rattle.set_sums.specs.Near.{AreStillMarked, HaveNear}
-use Rattle.set_sums.proofs.near.mark_block.Given as goal
-
-abbrev pub invariant-loop-first : goal.invariant-loop-first
-invariant-loop-first l = record { marked : HaveNear l.marks (take l.first-index l.firsts) l.others; kept : AreStillMarked l.initial.marks l.marks }

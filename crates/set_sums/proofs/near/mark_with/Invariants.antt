@@ -1,6 +1,0 @@
-use Rattle.std.proofs.Common.{take}
-use Rattle.set_sums.specs.Near.{AreStillMarked, HaveNearWith}
-use Rattle.set_sums.proofs.near.mark_with.Given as goal
-
-abbrev pub invariant-loop-other : goal.invariant-loop-other
-invariant-loop-other l = record { marked : HaveNearWith l.marks l.first (take l.other-index l.others); kept : AreStillMarked l.initial.marks l.marks }

@@ -1,6 +1,0 @@
-use Rattle.std.proofs.Common.{take}
-use Rattle.set_sums.specs.Rests.{HaveRests}
-use Rattle.set_sums.proofs.rests.rests_of.Given as goal
-
-abbrev pub invariant-loop-steps : goal.invariant-loop-steps
-invariant-loop-steps l = HaveRests l.rests (take l.steps-index l.all)

@@ -1,5 +1,0 @@
-use Rattle.set_sums.specs.Rests.{HaveSumsOf}
-use Rattle.set_sums.proofs.rests.sums_of.Given as goal
-
-abbrev pub invariant-loop-rest : goal.invariant-loop-rest
-invariant-loop-rest l = HaveSumsOf l.sums l.firsts l.rest l.others
