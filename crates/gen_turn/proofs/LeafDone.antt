@@ -43,7 +43,7 @@ use Rattle.turn_laws.specs.Laws.{IsStartOn}
 use Rattle.turn_laws.proofs.Places.{known}
 use Rattle.turn_laws.proofs.Starts.{start_then}
 use Rattle.leaf_turn.specs.Answers.{IsFound, new_at}
-use Rattle.leaf_turn.specs.Built.{BuiltLeavesArePosable}
+use Rattle.leaf_turn.specs.Built.{BuiltLeavesArePosable, BuiltLeavesBarSatp}
 use Rattle.leaf_turn.specs.Finding.{AnswersAreFound}
 use Rattle.leaf_turn.specs.Grounds.{declared_set}
 use Rattle.leaf_turn.specs.Wishes.{biases_of, mandatory_of, retires}
@@ -140,7 +140,7 @@ module _ (d : Drafted) (k : ℕ) (g : IsGround d k) (ws : List Wish) (built : Is
     pub found_is : IsFound k d.now (values_in values)
     pub taken : IsLeafTaken k ws answer.dropped (values_in values) d.now after
 
-  module _ (found_law : AnswersAreFound) (posable : BuiltLeavesArePosable) where
+  module _ (found_law : AnswersAreFound) (posable : BuiltLeavesArePosable) (barred : BuiltLeavesBarSatp) where
     answer_made : (e : Drafted) → IsAnswered d k g ws built draws (Taken e) → IsTurn e.now
     answer_made e a = go a.answer.solved refl a.ends
       where
@@ -151,7 +151,7 @@ module _ (d : Drafted) (k : ℕ) (g : IsGround d k) (ws : List Wish) (built : Is
           is = a.is;
           values = x;
           found = is;
-          found_is = found d k g ws built found_law posable draws (Taken e) a x is;
+          found_is = found d k g ws built found_law posable barred draws (Taken e) a x is;
           taken = subst (IsLeafTaken k ws a.answer.dropped (values_in x) d.now) (sym (ap (λ (f : Drafted). f.now) (same_taken e (at_test d ends.0) ends.2))) ends.1;
         }
         go answers.NoneFits is ends = absurd (cc ends)

@@ -1,6 +1,7 @@
 -- A turn of a `do` leaf where no address is translated: its fetch starts nothing, and the leaf is answered where its hart stands.
 use Rattle.std.proofs.Common.{◌≡◌, ℕ, Bool, true, false, if◌then◌else◌, List, [], ◌∷◌, length, None, Some, refl, sym, ap, ◌∙◌, subst}
 use Rattle.std.proofs.lemmas.Bool.{eq-eqb}
+use Rattle.dom_set.proofs.Sets.{is_in-elements}
 use Rattle.rv_mem.specs.Seen.{is_there}
 use Rattle.rv_script.specs.declared.place.Place.{Place}
 use Rattle.rv_script.specs.declared.place.Place.TheVariants.{Reg, Csr, Word}
@@ -29,7 +30,7 @@ use Rattle.leaf_link.specs.Values.{Values}
 use Rattle.leaf_link.specs.Ways.{IsFetched}
 use Rattle.turn_laws.specs.Given.{AreListed, Setting, all_given, given_to}
 use Rattle.leaf_turn.specs.Answers.{IsFound}
-use Rattle.leaf_turn.specs.Built.{BuiltLeavesArePosable}
+use Rattle.leaf_turn.specs.Built.{BuiltLeavesArePosable, BuiltLeavesBarSatp}
 use Rattle.leaf_turn.specs.Finding.{AnswersAreFound}
 use Rattle.leaf_turn.specs.Grounds.{IsSettingOf}
 use Rattle.leaf_turn.specs.Wishes.{biases_of, mandatory_of}
@@ -137,8 +138,12 @@ module _ (d : Drafted) (k : ℕ) (g : IsGround d k) (ws : List Wish) (built : Is
   pub biases_are_plain : AllPlain (biases_of ws)
   biases_are_plain = plain_biases ws built.plain
 
+  -- what the mandatory atoms leave to a source
+  abbrev sources : ℕ → Bool
+  sources = all_tests (turn_with d (λ v. true) k) (mandatory_of ws) vars.A
+
   abbrev setting : Setting
-  setting = setting_of d.template (all_tests (turn_with d (λ v. true) k) (mandatory_of ws) vars.A)
+  setting = setting_of d.template sources
 
   abbrev feet : List Touch
   feet = touches_from 0 d.now.traces
@@ -149,13 +154,13 @@ module _ (d : Drafted) (k : ℕ) (g : IsGround d k) (ws : List Wish) (built : Is
   is_setting : IsSettingOf d.template setting
   is_setting = record { pool = refl; vectors = refl; sets = λ n. refl }
 
-  found_at : AnswersAreFound → BuiltLeavesArePosable → (draws : List ℕ) → IsFetched turn [] pc → is_in_ram (λ n. is_there (d.now.memory n)) pc ≡ true → (answer : LeafAnswer)
+  found_at : AnswersAreFound → BuiltLeavesArePosable → BuiltLeavesBarSatp → (draws : List ℕ) → IsFetched turn [] pc → is_in_ram (λ n. is_there (d.now.memory n)) pc ≡ true → (answer : LeafAnswer)
       → IsTurnLeafAnswer turn pc (mandatory_of ws) (biases_of ws) draws d.nodes answer → (x : Assignment) → answer.solved ≡ answers.Found x → IsFound k d.now (values_in x)
-  found_at law posable draws fetched there answer is x =
-      let st = stand_at d.template k d.now feet in
+  found_at law posable barred draws fetched there answer is x =
+      let st = stand_at d.template k d.now feet sources in
       found_by st k d.now setting feet ws draws d.nodes answer x law built.plain g.untranslated g.vectors footprint there
-      (stands d.template k d.now feet setting g.test g.hart g.untranslated fetched.aligned g.names is_setting footprint)
-      (λ h. fetched) g.words.fixed g.words.known (posable ws built.built st) is
+      (stands d.template k d.now feet sources setting g.test g.hart g.untranslated fetched.aligned g.names is_setting (λ v small. sym (is_in-elements sources v small)) footprint)
+      (λ h. fetched) g.words.fixed g.words.known (posable ws built.built st) (barred ws built.built turn) is
 
-  pub found : AnswersAreFound → BuiltLeavesArePosable → (draws : List ℕ) (r : Turned Drafted) (a : IsAnswered draws r) (x : Assignment) → a.answer.solved ≡ answers.Found x → IsFound k d.now (values_in x)
-  found law posable draws r a x = found_at law posable draws a.fetched a.there a.answer a.is x
+  pub found : AnswersAreFound → BuiltLeavesArePosable → BuiltLeavesBarSatp → (draws : List ℕ) (r : Turned Drafted) (a : IsAnswered draws r) (x : Assignment) → a.answer.solved ≡ answers.Found x → IsFound k d.now (values_in x)
+  found law posable barred draws r a x = found_at law posable barred draws a.fetched a.there a.answer a.is x

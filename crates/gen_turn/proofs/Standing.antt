@@ -1,7 +1,8 @@
 -- Where a hart of a test stands, as plain values.
-use Rattle.std.proofs.Common.{◌≡◌, ℕ, zero, suc, ◌%◌, ◌/◌, ◌<◌, ◌&&◌, ◌||◌, List, [], ◌∷◌, length, Option, None, refl, sym, ap, ◌∙◌, arith}
+use Rattle.std.proofs.Common.{◌≡◌, ℕ, Bool, zero, suc, ◌%◌, ◌/◌, ◌<◌, ◌&&◌, ◌||◌, List, [], ◌∷◌, length, Option, None, refl, sym, ap, ◌∙◌, arith}
 use Rattle.std.specs.Prelude.{slice_get, slice_index_or}
 use Rattle.std.proofs.lemmas.Option.{slice_get_past}
+use Rattle.dom_set.specs.Elements.{elements_of}
 use Rattle.rv_mem.specs.Seen.{known_word}
 use Rattle.foot_map.specs.declared.touch.Touch.{Touch}
 use Rattle.foot_map.specs.Races.{IsFootprint}
@@ -16,7 +17,7 @@ use Rattle.leaf_stand.specs.declared.stand.Name.{Name}
 use Rattle.leaf_stand.specs.declared.stand.Stand.{Stand}
 use Rattle.leaf_stand.specs.Stands.{IsStandOf, set_named, value_named}
 use Rattle.turn_laws.specs.Given.{Setting, turn_at}
-use Rattle.leaf_turn.specs.Grounds.{IsSettingOf, IsUntranslated, declared_set, is_free_fetch}
+use Rattle.leaf_turn.specs.Grounds.{HasSourceSet, IsSettingOf, IsUntranslated, declared_set, is_free_fetch}
 use Rattle.leaf_turn.proofs.Grounding.{stand_tells}
 
 -- ---- the names
@@ -41,7 +42,7 @@ named_sets (o ∷ os) (d ∷ ds) same (suc n) = named_sets os ds (omega (arith, 
 
 -- ---- the stand
 
-module _ (t : Template) (k : ℕ) (w : Whole) (feet : List Touch) where
+module _ (t : Template) (k : ℕ) (w : Whole) (feet : List Touch) (sources : ℕ → Bool) where
   abbrev pub stand_at : Stand
   stand_at = record {
     pc = (hart_of k w).pc;
@@ -51,13 +52,14 @@ module _ (t : Template) (k : ℕ) (w : Whole) (feet : List Touch) where
     word = known_word (w.memory ((hart_of k w).pc / 4));
     fetches = is_free_fetch feet k (hart_of k w).pc && (is_some_word (known_word (w.memory ((hart_of k w).pc / 4))) || in_frames t.pool (hart_of k w).pc);
     pairs = 1;
+    sources = record { ref_ptr = (0, 0); now = elements_of sources };
     vectors = record { ref_ptr = (0, 0); now = t.vectors };
     names = record { ref_ptr = (0, 0); now = names_from w.names t.names };
   }
 
   pub stands : (s : Setting) → IsTest w → k < length w.harts → IsUntranslated k w → (hart_of k w).pc % 4 ≡ 0 → length w.names ≡ length t.names → IsSettingOf t s
-      → IsFootprint feet (footprints_of (λ j. records_of j w)) → IsStandOf stand_at (turn_at s feet k w) [] (hart_of k w).pc
-  stands s test l plain aligned many setting footprint = stand_tells t k w feet stand_at s feet test l plain (record {
+      → HasSourceSet s (elements_of sources) → IsFootprint feet (footprints_of (λ j. records_of j w)) → IsStandOf stand_at (turn_at s feet k w) [] (hart_of k w).pc
+  stands s test l plain aligned many setting has footprint = stand_tells t k w feet stand_at s feet test l plain (record {
     hart = refl;
     aligned = aligned;
     word = refl;
@@ -66,4 +68,4 @@ module _ (t : Template) (k : ℕ) (w : Whole) (feet : List Touch) where
     vectors = refl;
     names = record { values = named_values w.names t.names many; sets = named_sets w.names t.names many };
     footprint = footprint;
-  }) setting footprint
+  }) setting has footprint

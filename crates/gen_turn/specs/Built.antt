@@ -36,7 +36,7 @@ abbrev pub are_ways_built : List (ℕ × Vec Item Global) → Bool
 are_ways_built [] = true
 are_ways_built (w ∷ ws) = is_body_built w.1.items && are_ways_built ws
 
--- no address of a hart is translated, and each leaf of its body is built
+-- no address of a hart is translated where it starts, and each leaf of its body is built, so none is translated later
 abbrev pub are_harts_built : List HartDecl → Bool
 are_harts_built [] = true
 are_harts_built (h ∷ hs) = ((h.start.satp == 0) && is_body_built h.body.items) && are_harts_built hs

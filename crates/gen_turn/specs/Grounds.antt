@@ -34,7 +34,7 @@ pub record IsGround (d : Drafted) (k : ℕ) : Type 0 where
   pub test : IsTest d.now
   pub words : IsOfWords k d.now
 
--- a leaf's atoms are those of a leaf of the template, and bar each operation that isn't posed
+-- a leaf's atoms are those of a leaf of the template, and bar each operation that isn't posed, and writes of satp
 pub record IsBuilt (names : ℕ) (ws : List Wish) : Type 0 where
   pub plain : AllByRecursion IsPlain (atoms_of ws)
   pub built : are_built ws ≡ true

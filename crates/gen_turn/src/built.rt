@@ -59,7 +59,8 @@ fn are_harts_built(harts: &[HartDecl]) -> bool
 }
 
 /// Whether this build takes a template: no address is translated where its harts start, and the atoms of each of its
-/// `do` leaves bar all operations that are not posed.
+/// `do` leaves bar all operations that are not posed, and all CSR instructions or that their CSR is satp. So none is
+/// translated later.
 pub fn is_template_built(t: &Template) -> bool
     ensures { result ≡ is_template_built t.now }
 {

@@ -1,7 +1,7 @@
 //! Leaf turns, labels and choices on the test of a template: what the search for the test works on. A leaf turn answers
 //! the leaf where its hart stands, starts the places of the answer, takes its step, binds names, and lists the biases
-//! that were not kept. Addresses are not translated here, and of `do` leaves only those are taken whose operations are
-//! posed.
+//! that were not kept. Addresses are not translated here, and of `do` leaves only those are taken whose atoms bar all
+//! operations that are not posed, and CSR instructions that could write satp.
 #![tactic(auto)]
 
 mod binding;

@@ -53,3 +53,4 @@ mod Located
 mod SatpKept
 mod FetchedWords
 mod Unfailing
+mod OfOperations

@@ -3,6 +3,7 @@ use Rattle.std.specs.Prelude.{◌≡◌, ℕ, ◌%◌, ◌^◌, ◌<◌, Bool, t
 use Rattle.rv_isa.specs.declared.operation.Op.{Op}
 use Rattle.rv_isa.specs.Encoding.{Fits, word_of}
 use Rattle.rv_isa.specs.Fields.{reads_rs2}
+use Rattle.rv_isa.specs.Numbers.{op_number}
 use Rattle.rv_isa.specs.Table.{row_of}
 use Rattle.rv_script.specs.declared.access.Access.{Access}
 use Rattle.rv_script.specs.declared.place.Place.{Place}
@@ -25,7 +26,7 @@ use Rattle.rv_script.specs.Logs.{entry_place, entry_label, answer_told, labelled
 use Rattle.leaf_link.specs.Turns.{Turn, may_start, is_free_entry}
 use Rattle.leaf_link.specs.Values.{Values, instr_in, has_address, address_if, given_by, old_csr}
 use Rattle.leaf_link.specs.Candidates.{accesses_in}
-use Rattle.leaf_link.specs.Cases.{Shape, Way, uses_address, uses_rs1, uses_rs2, all_tests, fetch_entry}
+use Rattle.leaf_link.specs.Cases.{Shape, Way, uses_address, uses_rs1, uses_rs2, all_tests, fetch_entry, base_domain}
 use Rattle.rv_hart.specs.Rests.{asks_rs1, rest}
 
 -- the translation of the fetch is settled: it asks for known entries alone, and leads to a physical address; the pc is a multiple of 4
@@ -108,3 +109,7 @@ pub record IsWays (t : Turn) (walk : List Entry) (pa : ℕ) (leaf : List Atom) (
   pub does : (x : Values) → IsOf op x → HasAddress op x → (way : Way) → HasItem ways way → FitsWay way x → DoesRest t walk pa leaf (shape_with op way.outcome way.reaches) x
   pub fits : (x : Values) → IsOf op x → HasAddress op x → (outcome : ℕ) (reaches : Bool) → DoesRest t walk pa leaf (shape_with op outcome reaches) x → IsAddressed t leaf (shape_with op outcome reaches) x → HasWay op ways x outcome reaches
   pub asks : (x : Values) → IsOf op x → (way : Way) → HasItem ways way → FitsWay way x → AsksUsed t (shape_with op way.outcome way.reaches) x
+
+-- values in the domains of an operation are of that operation, with fields that fit
+abbrev pub DomainsAreOfOperations : Type 0
+DomainsAreOfOperations = (t : Turn) (pa : ℕ) (leaf : List Atom) (s : Shape) (x : Values) → x slots.Op ≡ op_number s.op → ((slot : Slot) → base_domain t pa leaf s slot (x slot) ≡ true) → IsOf s.op x

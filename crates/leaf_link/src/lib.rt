@@ -23,7 +23,8 @@ pub use leaf_laws::{
     values_are_by_places,
 };
 pub use operation_laws::{
-    accesses_are_exact, operations_are_exact, ways_are_built, ways_are_exact,
+    accesses_are_exact, domains_are_of_operations, operations_are_exact, ways_are_built,
+    ways_are_exact,
 };
 pub use row_laws::rows_serve_leaves;
 pub use truth_laws::{leaves_are_true, met_atoms_are_true, steps_are_fetched};

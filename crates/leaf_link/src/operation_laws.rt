@@ -3,6 +3,7 @@ ghost use Rattle.leaf_link.specs.AllWays.{WaysAreBuilt};
 ghost use Rattle.leaf_link.specs.Controls.{CsrsAreExact, ReturnsAreExact};
 ghost use Rattle.leaf_link.specs.KindLaws.{AddressFenceIsExact, BranchesAreExact, BreakIsExact, CallIsExact, IllegalIsExact, JumpIsExact, JumpRegisterIsExact, PlainIsExact, WaysAreExact};
 ghost use Rattle.leaf_link.specs.Reaching.{LoadsAreExact, StoresAreExact};
+ghost use Rattle.leaf_link.specs.Ways.{DomainsAreOfOperations};
 
 /// Does nothing. Its contract is the law of an operation: where its ways are what the rest of its script does,
 /// what fits the cases of these ways stands one to one for the candidates with this operation.
@@ -14,6 +15,11 @@ pub fn ways_are_exact()
 /// does.
 pub fn ways_are_built()
     ensures { WaysAreBuilt }
+{}
+
+/// Does nothing. Its contract says that values in the domains of an operation are of that operation, with fields that fit it.
+pub fn domains_are_of_operations()
+    ensures { DomainsAreOfOperations }
 {}
 
 /// Does nothing. Its contract says that the problems of register and immediate operations, LUI, AUIPC and FENCE, of

@@ -5,3 +5,5 @@ pub mod Leading
 pub mod Whole
 pub mod Adding
 pub mod Settled
+pub mod Accesses
+pub mod Granting

@@ -45,7 +45,7 @@ use Rattle.leaf_pose.specs.Problems.{ArePivots, PosesLeaf}
 use Rattle.leaf_stand.specs.Stands.{IsStandOf, turn_of}
 use Rattle.leaf_pose.proofs.Leading.{FindsFirst, first_found, none_found}
 use Rattle.leaf_stand.proofs.Lists.{each_domain}
-use Rattle.leaf_stand.proofs.Rows.{built_address, built_csr}
+use Rattle.leaf_stand.proofs.Rows.{built_address}
 use Rattle.leaf_pose.proofs.Shapes.{nothing}
 use Rattle.leaf_stand.proofs.Single.{both_same, domain_in_case}
 use Rattle.leaf_stand.proofs.Fits.{none_yet}
@@ -69,19 +69,10 @@ pivots_are draws slots.OldCsr = refl
 pivots_are draws slots.Vector = refl
 
 -- THE DOMAINS OF FIRST CASES
-first_format_same : (op : Op) (slot : Slot) (v : ℕ) → has_csr (row_of op) ≡ false → in_first_format op slot v ≡ in_format op slot v
-first_format_same op slots.Csr v h = ap (λ (b : Bool). or_no b (is_modelled v) v) h ∙ sym (ap (λ (b : Bool). or_no b (nat_lt v (2 ^ 12)) v) h)
-first_format_same op slots.Op v h = refl
-first_format_same op _ v h = refl
-
-first_word_same : (o : Option ℕ) (op : Op) (slot : Slot) (v : ℕ) → has_csr (row_of op) ≡ false → in_first_word o op slot v ≡ in_word o op slot v
-first_word_same None op slot v h = first_format_same op slot v h
-first_word_same (Some w) op slot v h = refl
-
-first_field : (s : Stand) (t : Turn) (walk : List Entry) (pa : ℕ) → IsStandOf s t walk pa → (leaf : List Atom) (op : Op) (slot : Slot) (u : Var) (v : ℕ) → has_csr (row_of op) ≡ false → same_var vars.Pa u ≡ false
-    → (in_first_word (t.known (Word pa)) op slot v && all_tests t leaf u v) ≡ (in_word s.word op slot v && all_tests (turn_of s) leaf u v)
-first_field s t walk pa h leaf op slot u v c n =
-    both_same _ _ _ _ (first_word_same (t.known (Word pa)) op slot v c ∙ ap (λ (o : Option ℕ). in_word o op slot v) h.word) (all_same s t walk pa h leaf u v n)
+first_field : (s : Stand) (t : Turn) (walk : List Entry) (pa : ℕ) → IsStandOf s t walk pa → (leaf : List Atom) (op : Op) (slot : Slot) (u : Var) (v : ℕ) → same_var vars.Pa u ≡ false
+    → (in_first_word (t.known (Word pa)) op slot v && all_tests t leaf u v) ≡ (in_first_word s.word op slot v && all_tests (turn_of s) leaf u v)
+first_field s t walk pa h leaf op slot u v n =
+    both_same _ _ _ _ (ap (λ (o : Option ℕ). in_first_word o op slot v) h.word) (all_same s t walk pa h leaf u v n)
 
 or_nothing : (b inside : Bool) (v : ℕ) → b ≡ false → or_no b inside v ≡ nat_eq v 0
 or_nothing b inside v h = ap (λ (c : Bool). or_no c inside v) h
@@ -90,12 +81,12 @@ no_walk : (t : Turn) (op : Op) → has_address (row_of op) ≡ false → has_wal
 no_walk t op h = ap (λ (b : Bool). b && is_translated (data_view t.fixed)) h
 
 first_same : (s : Stand) (t : Turn) (walk : List Entry) (pa : ℕ) → IsStandOf s t walk pa → (leaf : List Atom) (op : Op) → is_other (kind_of op) ≡ false → (slot : Slot) (v : ℕ) → first_domain t pa leaf op slot v ≡ first_at (turn_of s) leaf op slot v
-first_same s t walk pa h leaf op n slots.Op v = first_field s t walk pa h leaf op slots.Op vars.Op v (built_csr op n) refl
-first_same s t walk pa h leaf op n slots.Rs1 v = first_field s t walk pa h leaf op slots.Rs1 vars.Rs1 v (built_csr op n) refl
-first_same s t walk pa h leaf op n slots.Rs2 v = first_field s t walk pa h leaf op slots.Rs2 vars.Rs2 v (built_csr op n) refl
-first_same s t walk pa h leaf op n slots.Imm v = first_field s t walk pa h leaf op slots.Imm vars.Imm v (built_csr op n) refl
-first_same s t walk pa h leaf op n slots.Rd v = first_field s t walk pa h leaf op slots.Rd vars.Rd v (built_csr op n) refl
-first_same s t walk pa h leaf op n slots.Csr v = first_field s t walk pa h leaf op slots.Csr vars.Csr v (built_csr op n) refl
+first_same s t walk pa h leaf op n slots.Op v = first_field s t walk pa h leaf op slots.Op vars.Op v refl
+first_same s t walk pa h leaf op n slots.Rs1 v = first_field s t walk pa h leaf op slots.Rs1 vars.Rs1 v refl
+first_same s t walk pa h leaf op n slots.Rs2 v = first_field s t walk pa h leaf op slots.Rs2 vars.Rs2 v refl
+first_same s t walk pa h leaf op n slots.Imm v = first_field s t walk pa h leaf op slots.Imm vars.Imm v refl
+first_same s t walk pa h leaf op n slots.Rd v = first_field s t walk pa h leaf op slots.Rd vars.Rd v refl
+first_same s t walk pa h leaf op n slots.Csr v = first_field s t walk pa h leaf op slots.Csr vars.Csr v refl
 first_same s t walk pa h leaf op n slots.Ea v = both_same _ _ _ _ (or_nothing (has_address (row_of op)) true v (built_address op n)) (all_same s t walk pa h leaf vars.Ea v refl)
 first_same s t walk pa h leaf op n slots.A v = both_same _ _ _ _ refl (all_same s t walk pa h leaf vars.A v refl)
 first_same s t walk pa h leaf op n slots.B v = both_same _ _ _ _ refl (all_same s t walk pa h leaf vars.B v refl)

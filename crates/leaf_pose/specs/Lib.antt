@@ -3,3 +3,4 @@ pub mod Firsts
 pub mod Problems
 pub mod Extras
 pub mod Fetches
+pub mod Csrs

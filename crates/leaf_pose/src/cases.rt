@@ -6,7 +6,7 @@ ghost use Rattle.leaf_link.specs.Cases.{all_judged, case_at, uses};
 ghost use Rattle.rv_isa.specs.Numbers.{op_number};
 ghost use Rattle.leaf_stand.specs.Kinds.{kind_of};
 ghost use Rattle.leaf_pose.specs.Posed.{Adds};
-ghost use Rattle.leaf_stand.specs.Posed.{FitsSame, allows, is_other};
+ghost use Rattle.leaf_stand.specs.Posed.{FitsSame, allows, is_listed};
 ghost use Rattle.leaf_stand.specs.Relations.{are_between, may_aim, may_steer, way_at};
 ghost use Rattle.leaf_stand.specs.Stands.{shape_at, turn_of};
 ghost use Rattle.leaf_stand.specs.Ways.{AreWaysOf, IsWayOf, way_case, way_cases};
@@ -29,7 +29,7 @@ pub fn case_of(
     op: Op,
     way: Way,
 ) -> Result<Case, OutOfMemory>
-    requires built { is_other (kind_of op) ≡ false }
+    requires built { is_listed (kind_of op) ≡ true }
     requires steered { may_steer op way.taken ≡ true }
     requires aimed { may_aim (uses (shape_at (record { op = op; end = way.end })) Var.Target) way.aim ≡ true }
     requires judged { all_judged (shape_at (record { op = op; end = way.end })) leaf.now ≡ true }
@@ -57,7 +57,7 @@ fn push_way(
     op: Op,
     way: Way,
 ) -> Result<(), OutOfMemory>
-    requires built { is_other (kind_of op) ≡ false }
+    requires built { is_listed (kind_of op) ≡ true }
     requires between { are_between leaf.now ≡ true }
     requires allowed { allows stand.now leaf.now op ≡ true }
     requires way { IsWayOf stand.now op way }
@@ -81,7 +81,7 @@ pub fn push_ways(
     op: Op,
     ways: &[Way],
 ) -> Result<(), OutOfMemory>
-    requires built { is_other (kind_of op) ≡ false }
+    requires built { is_listed (kind_of op) ≡ true }
     requires between { are_between leaf.now ≡ true }
     requires allowed { allows stand.now leaf.now op ≡ true }
     requires ways { AreWaysOf stand.now op ways.now }

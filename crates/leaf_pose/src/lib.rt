@@ -3,6 +3,7 @@
 #![tactic(auto)]
 
 mod cases;
+mod csrs;
 mod extras;
 mod fetches;
 mod firsts;

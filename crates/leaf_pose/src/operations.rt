@@ -7,6 +7,7 @@ ghost use Rattle.leaf_stand.specs.Posed.{all_cases, are_posable, is_posable, sta
 ghost use Rattle.leaf_stand.specs.Relations.{are_between};
 
 use crate::cases::push_ways;
+use crate::csrs::push_csrs;
 use crate::shaped::Shaped;
 use dom_set::OutOfMemory;
 use leaf_stand::{Stand, kind_of};
@@ -27,6 +28,10 @@ fn push_operation(
     ensures { OnOk result (Adds stand.now leaf.now shaped.old shaped.new (stand_cases stand.now leaf.now op (stand_ways stand.now op))) }
 {
     if !stand.allows(leaf, op) {
+        return Ok(());
+    }
+    if op.has_csr() {
+        push_csrs(alloc, stand, shaped, leaf, op)?;
         return Ok(());
     }
     let ways = stand.ways_by(kind_of(op));

@@ -46,7 +46,7 @@ fn push_linked(rels: &mut Items<Rel>, both: bool) -> Result<(), OutOfMemory>
 }
 
 /// What the source registers say: known values, and that one register has one value.
-fn push_sources(
+pub fn push_sources(
     alloc: Global,
     stand: &Stand,
     rels: &mut Items<Rel>,

@@ -26,7 +26,7 @@ use Rattle.leaf_stand.specs.declared.shape.End.TheVariants.{Retires, Traps}
 use Rattle.leaf_stand.specs.declared.stand.Stand.{Stand}
 use Rattle.leaf_stand.specs.declared.way.Way.{Way}
 use Rattle.leaf_stand.specs.Kinds.{kind_of}
-use Rattle.leaf_stand.specs.Posed.{IsPartOf, is_other, is_posed_at, stand_cases, stand_ways}
+use Rattle.leaf_stand.specs.Posed.{IsPartOf, is_listed, is_posed_at, stand_cases, stand_ways}
 use Rattle.leaf_stand.specs.Relations.{way_at}
 use Rattle.leaf_stand.specs.Stands.{also_read, shape_at, turn_of}
 use Rattle.leaf_stand.specs.Ways.{AreWaysOf, going, missing, retiring, returning, shape_with, staying, trapping, way_cases, ways_by}
@@ -274,7 +274,7 @@ return_back s leaf op register x f =
     read_here h _ k = k
 
 -- ALL KINDS
-pub are_ways : (s : Stand) (op : Op) → is_other (kind_of op) ≡ false → AreWaysOf s op (ways_by s (kind_of op))
+pub are_ways : (s : Stand) (op : Op) → is_listed (kind_of op) ≡ true → AreWaysOf s op (ways_by s (kind_of op))
 are_ways s ops.Beq h = branch_parts s ops.Beq (branching_beq s)
 are_ways s ops.Bne h = branch_parts s ops.Bne (branching_bne s)
 are_ways s ops.Blt h = branch_parts s ops.Blt (branching_blt s)
@@ -380,7 +380,7 @@ sret_back s leaf true x f = same_back s leaf ops.Sret (trapping causes.Illegal �
 sret_back s leaf false x f = granted_back s leaf ops.Sret Sepc (is_posed_at s leaf (shape_at (shape_with ops.Sret Retires))) x f
 
 -- what fits the ways of the code fits those of the definition
-pub ways_there : (s : Stand) (leaf : List Atom) (op : Op) → is_other (kind_of op) ≡ false → (x : Values) → Fits (way_cases s leaf op (ways_by s (kind_of op))) x → Fits (stand_cases s leaf op (stand_ways s op)) x
+pub ways_there : (s : Stand) (leaf : List Atom) (op : Op) → is_listed (kind_of op) ≡ true → (x : Values) → Fits (way_cases s leaf op (ways_by s (kind_of op))) x → Fits (stand_cases s leaf op (stand_ways s op)) x
 ways_there s leaf ops.Beq h x f = branching_there s leaf ops.Beq x (branching_beq s) f
 ways_there s leaf ops.Bne h x f = branching_there s leaf ops.Bne x (branching_bne s) f
 ways_there s leaf ops.Blt h x f = branching_there s leaf ops.Blt x (branching_blt s) f
@@ -412,7 +412,7 @@ ways_there s leaf ops.SfenceVma h x f = fence_there s leaf (is_withheld Tvm (tur
 ways_there s leaf ops.Lui h x f = same_there s leaf ops.Lui (ways_by s (kind_of ops.Lui)) x f
 ways_there s leaf op h x f = same_there s leaf op (retiring ∷ []) x f
 
-pub ways_back : (s : Stand) (leaf : List Atom) (op : Op) → is_other (kind_of op) ≡ false → (x : Values) → Fits (stand_cases s leaf op (stand_ways s op)) x → Fits (way_cases s leaf op (ways_by s (kind_of op))) x
+pub ways_back : (s : Stand) (leaf : List Atom) (op : Op) → is_listed (kind_of op) ≡ true → (x : Values) → Fits (stand_cases s leaf op (stand_ways s op)) x → Fits (way_cases s leaf op (ways_by s (kind_of op))) x
 ways_back s leaf ops.Beq h x f = branching_back s leaf ops.Beq x (branching_beq s) f
 ways_back s leaf ops.Bne h x f = branching_back s leaf ops.Bne x (branching_bne s) f
 ways_back s leaf ops.Blt h x f = branching_back s leaf ops.Blt x (branching_blt s) f

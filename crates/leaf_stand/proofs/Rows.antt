@@ -1,13 +1,14 @@
 -- What operations that are built are not.
-use Rattle.std.proofs.Common.{◌≡◌, ℕ, false, refl}
+use Rattle.std.proofs.Common.{◌≡◌, ℕ, true, false, refl}
 use Rattle.rv_isa.specs.declared.operation.Op.{Op}
-use Rattle.rv_isa.specs.declared.operation.Op.TheVariants.{Lb, Lh, Lw, Lbu, Lhu, Sb, Sh, Sw, Csrrw, Csrrs, Csrrc, Csrrwi, Csrrsi, Csrrci}
-use Rattle.rv_isa.specs.Fields.{has_csr}
+use Rattle.rv_isa.specs.declared.operation.Op.TheVariants.{Lb, Lh, Lw, Lbu, Lhu, Sb, Sh, Sw, Csrrw, Csrrs, Csrrc}
 use Rattle.rv_isa.specs.Table.{row_of}
 use Rattle.leaf_link.specs.Turns.{is_narrow}
 use Rattle.leaf_link.specs.Values.{has_address}
+use Rattle.leaf_stand.specs.declared.kind.Kind.{Kind}
+use Rattle.leaf_stand.specs.declared.kind.Kind.TheVariants.{Csr, Other, Plain}
 use Rattle.leaf_stand.specs.Kinds.{kind_of}
-use Rattle.leaf_stand.specs.Posed.{is_other}
+use Rattle.leaf_stand.specs.Posed.{is_listed, is_other}
 
 pub built_address : (op : Op) → is_other (kind_of op) ≡ false → has_address (row_of op) ≡ false
 built_address Lb h = absurd (cc h)
@@ -20,17 +21,18 @@ built_address Sh h = absurd (cc h)
 built_address Sw h = absurd (cc h)
 built_address _ h = refl
 
-pub built_narrow : (op : Op) (addr : ℕ) → is_other (kind_of op) ≡ false → is_narrow (row_of op) addr ≡ false
+pub built_narrow : (op : Op) (addr : ℕ) → is_listed (kind_of op) ≡ true → is_narrow (row_of op) addr ≡ false
 built_narrow Csrrw addr h = absurd (cc h)
 built_narrow Csrrs addr h = absurd (cc h)
 built_narrow Csrrc addr h = absurd (cc h)
 built_narrow _ addr h = refl
 
-pub built_csr : (op : Op) → is_other (kind_of op) ≡ false → has_csr (row_of op) ≡ false
-built_csr Csrrw h = absurd (cc h)
-built_csr Csrrs h = absurd (cc h)
-built_csr Csrrc h = absurd (cc h)
-built_csr Csrrwi h = absurd (cc h)
-built_csr Csrrsi h = absurd (cc h)
-built_csr Csrrci h = absurd (cc h)
-built_csr _ h = refl
+-- what stands in a list is built
+pub listed_built : (op : Op) → is_listed (kind_of op) ≡ true → is_other (kind_of op) ≡ false
+listed_built op h = of_kind (kind_of op) h
+  where
+    of_kind : (kind : Kind) → is_listed kind ≡ true → is_other kind ≡ false
+    of_kind Csr h = absurd (cc h)
+    of_kind Other h = absurd (cc h)
+    of_kind Plain h = refl
+    of_kind _ h = refl

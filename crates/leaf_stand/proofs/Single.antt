@@ -42,13 +42,13 @@ use Rattle.leaf_stand.specs.declared.way.Aim.{Aim}
 use Rattle.leaf_stand.specs.declared.way.Aim.TheVariants.{Anywhere, Aligned, Misaligned}
 use Rattle.leaf_stand.specs.declared.way.Way.{Way}
 use Rattle.leaf_stand.specs.Kinds.{kind_of}
-use Rattle.leaf_stand.specs.Posed.{FitsSame, is_other}
+use Rattle.leaf_stand.specs.Posed.{FitsSame, is_listed}
 use Rattle.leaf_stand.specs.Relations.{AreRelations, IsTargetSet, are_between, atom_rel, atom_rels, differ_rel, has_slot, held_rel, is_aimed, is_between, is_steered, linked_rel, may_aim, may_steer, same_rel, slot_of, source_rels, taken_rel, target_rel, target_test, way_at}
 use Rattle.leaf_stand.specs.Sets.{AreDomains, IsSetOf}
 use Rattle.leaf_stand.specs.Stands.{also_at, also_by, domain_at, held, shape_at, turn_of}
 use Rattle.leaf_stand.specs.Ways.{shape_with}
 use Rattle.leaf_stand.proofs.Lists.{each_domain}
-use Rattle.leaf_stand.proofs.Rows.{built_address, built_narrow}
+use Rattle.leaf_stand.proofs.Rows.{built_address, built_narrow, listed_built}
 
 pub and_true : (a : Bool) → (a && true) ≡ a
 and_true true = refl
@@ -59,7 +59,7 @@ or_true true b h = refl
 or_true false b h = h
 
 -- DOMAINS
-own_domain : (s : Stand) (leaf : List Atom) (op : Op) (end : End) (slot : Slot) (v : ℕ) → (base_domain (turn_of s) 0 leaf (shape_at (shape_with op end)) slot v && also_at (turn_of s) end slot v) ≡ domain_at (turn_of s) leaf (shape_with op end) None slot v
+pub own_domain : (s : Stand) (leaf : List Atom) (op : Op) (end : End) (slot : Slot) (v : ℕ) → (base_domain (turn_of s) 0 leaf (shape_at (shape_with op end)) slot v && also_at (turn_of s) end slot v) ≡ domain_at (turn_of s) leaf (shape_with op end) None slot v
 own_domain s leaf op Retires slots.Op v = and_true _
 own_domain s leaf op Retires slots.Rs1 v = and_true _
 own_domain s leaf op Retires slots.Rs2 v = and_true _
@@ -186,12 +186,12 @@ atoms_same x pc sh n e (atom ∷ leaf) j b =
     list_all-append (holds sh.op x) (atom_rel atom) (atom_rels leaf) ∙ both_same _ _ _ _ (atom_holds x pc sh n e atom js.0 bs.0) (atoms_same x pc sh n e leaf js.1 bs.1)
 
 -- RELATIONS OF SOURCES
-held_same : (o : Option (Option ℕ)) (v : ℕ) → agrees o v ≡ is_held (held o) v
+pub held_same : (o : Option (Option ℕ)) (v : ℕ) → agrees o v ≡ is_held (held o) v
 held_same None v = refl
 held_same (Some None) v = refl
 held_same (Some (Some w)) v = refl
 
-link_same : (p q : Bool) → (not p || q) ≡ (if p then q else true)
+pub link_same : (p q : Bool) → (not p || q) ≡ (if p then q else true)
 link_same true q = refl
 link_same false q = refl
 
@@ -199,7 +199,7 @@ three : (a b c : Bool) → (a && (b && (c && true))) ≡ ((a && true) && (b && (
 three true b c = refl
 three false b c = refl
 
-sources_same : (o : Op) (x : Assignment) (regs : List (Option ℕ)) (u1 u2 a b c w e : Bool) → is_held_by x slots.Rs1 slots.A regs ≡ a → is_held_by x slots.Rs2 slots.B regs ≡ b → is_linked_by x ≡ c → w ≡ true → e ≡ true
+pub sources_same : (o : Op) (x : Assignment) (regs : List (Option ℕ)) (u1 u2 a b c w e : Bool) → is_held_by x slots.Rs1 slots.A regs ≡ a → is_held_by x slots.Rs2 slots.B regs ≡ b → is_linked_by x ≡ c → w ≡ true → e ≡ true
     → list_all (holds o x) (held_rel u1 slots.Rs1 slots.A regs ++ (held_rel u2 slots.Rs2 slots.B regs ++ linked_rel (u1 && u2))) ≡ (unless u1 (a && w) && (unless u2 b && (unless (u1 && u2) c && e)))
 sources_same o x regs true true a b c w e ha hb hc hw he = rw (ha, hb, hc, hw, he) (three a b c)
 sources_same o x regs true false a b c w e ha hb hc hw he = rw (ha, hw, he) (ap (λ (y : Bool). y && true) (sym (and_true a)))
@@ -207,14 +207,14 @@ sources_same o x regs false true a b c w e ha hb hc hw he = rw (hb, he) refl
 sources_same o x regs false false a b c w e ha hb hc hw he = sym he
 
 -- a register that is not known may be started
-open_source : (s : Stand) (op : Op) (x : Assignment) → is_other (kind_of op) ≡ false → value_of x slots.Op ≡ op_number op → may_be_source (turn_of s) (instr_in (values_in x)) ≡ true
+open_source : (s : Stand) (op : Op) (x : Assignment) → is_listed (kind_of op) ≡ true → value_of x slots.Op ≡ op_number op → may_be_source (turn_of s) (instr_in (values_in x)) ≡ true
 open_source s op x p e =
     let o : (instr_in (values_in x)).op ≡ op = ap op_numbered e ∙ read op in
     let n : is_narrow (row_of (instr_in (values_in x)).op) (instr_in (values_in x)).csr ≡ false = ap (λ (q : Op). is_narrow (row_of q) (instr_in (values_in x)).csr) o ∙ built_narrow op (instr_in (values_in x)).csr p in
     ap (λ (b : Bool). not b || is_small (turn_of s).sources) n
 
-no_address : (op : Op) (end : End) (b : Bool) → is_other (kind_of op) ≡ false → unless (uses_address (shape_at (shape_with op end))) b ≡ true
-no_address op end b p = ap (λ (y : Bool). unless (y && uses_rs1 (shape_at (shape_with op end))) b) (built_address op p)
+no_address : (op : Op) (end : End) (b : Bool) → is_listed (kind_of op) ≡ true → unless (uses_address (shape_at (shape_with op end))) b ≡ true
+no_address op end b p = ap (λ (y : Bool). unless (y && uses_rs1 (shape_at (shape_with op end))) b) (built_address op (listed_built op p))
 
 -- RELATIONS OF WAYS
 taken_same : (op : Op) (x : Assignment) (taken : Option Bool) → may_steer op taken ≡ true → list_all (holds op x) (taken_rel taken) ≡ is_steered op taken (values_in x)
@@ -272,7 +272,7 @@ in_order true true false a false = refl
 in_order true true true a t = and_flip a t
 
 -- ALL RELATIONS
-sources_hold_same : (s : Stand) (op : Op) (end : End) (x : Assignment) → is_other (kind_of op) ≡ false → value_of x slots.Op ≡ op_number op
+sources_hold_same : (s : Stand) (op : Op) (end : End) (x : Assignment) → is_listed (kind_of op) ≡ true → value_of x slots.Op ≡ op_number op
     → list_all (holds op x) (source_rels (shape_at (shape_with op end)) s.registers) ≡ sources_hold (turn_of s) (shape_at (shape_with op end)) (values_in x)
 sources_hold_same s op end x p e =
     let sh = shape_at (shape_with op end) in
@@ -280,7 +280,7 @@ sources_hold_same s op end x p e =
     (held_same (slice_get s.registers (value_of x slots.Rs1)) (value_of x slots.A)) (held_same (slice_get s.registers (value_of x slots.Rs2)) (value_of x slots.B)) (link_same (value_of x slots.Rs1 == value_of x slots.Rs2) (value_of x slots.A == value_of x slots.B))
     (or_true (is_some_word (held (slice_get s.registers (value_of x slots.Rs1)))) _ (open_source s op x p e)) (no_address op end (nat_eq ((value_of x slots.A + value_of x slots.Imm) % 2 ^ 32) (value_of x slots.Ea)) p)
 
-relations_same : (s : Stand) (leaf : List Atom) (op : Op) (way : Way) (rels : List Rel) (x : Assignment) → is_other (kind_of op) ≡ false → may_steer op way.taken ≡ true
+relations_same : (s : Stand) (leaf : List Atom) (op : Op) (way : Way) (rels : List Rel) (x : Assignment) → is_listed (kind_of op) ≡ true → may_steer op way.taken ≡ true
     → may_aim (uses (shape_at (shape_with op way.end)) vars.Target) way.aim ≡ true → all_judged (shape_at (shape_with op way.end)) leaf ≡ true → are_between leaf ≡ true
     → AreRelations s leaf (shape_with op way.end) way rels → value_of x slots.Op ≡ op_number op
     → list_all (holds op x) rels ≡ (case_at (turn_of s) 0 leaf op (way_at s op way)).holds (values_in x)
@@ -307,7 +307,7 @@ or_none : (a : Bool) → (a || false) ≡ true → a ≡ true
 or_none true h = refl
 or_none false h = h
 
-pub case_same : (s : Stand) (leaf : List Atom) (op : Op) (way : Way) (c : ACase) → is_other (kind_of op) ≡ false → may_steer op way.taken ≡ true
+pub case_same : (s : Stand) (leaf : List Atom) (op : Op) (way : Way) (c : ACase) → is_listed (kind_of op) ≡ true → may_steer op way.taken ≡ true
     → may_aim (uses (shape_at (shape_with op way.end)) vars.Target) way.aim ≡ true → all_judged (shape_at (shape_with op way.end)) leaf ≡ true → are_between leaf ≡ true
     → c.op ≡ op_number op → AreDomains (domain_at (turn_of s) leaf (shape_with op way.end) way.reads) SLOTS c.doms → AreRelations s leaf (shape_with op way.end) way c.rels
     → FitsSame (c ∷ []) (case_at (turn_of s) 0 leaf op (way_at s op way) ∷ [])

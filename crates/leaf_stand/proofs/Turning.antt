@@ -1,9 +1,11 @@
 -- The cases of a stand are those of every turn that it tells.
 use Rattle.std.proofs.Common.{◌≡◌, ℕ, ◌⊎◌, Bool, true, false, ◌&&◌, ◌||◌, List, [], ◌∷◌, Option, Some, None, refl, sym, ap, ◌∙◌, subst, inl, inr, ◌^◌}
-use Rattle.std.specs.Prelude.{not, if◌then◌else◌, nat_eq, nat_lt}
+use Rattle.std.specs.Prelude.{not, if◌then◌else◌, length, nat_eq, nat_le, nat_lt}
 use Rattle.std.specs.List.{list_all}
 use Rattle.std.proofs.lemmas.Bool.{and_from, and_parts}
+use Rattle.std.specs.Option.{unwrap_or}
 use Rattle.dom_set.specs.Elements.{is_in}
+use Rattle.dom_set.proofs.Sets.{elements_same}
 use Rattle.rv_isa.specs.declared.operation.Op.{Op}
 use Rattle.rv_isa.specs.declared.operation.Op.TheVariants as ops
 use Rattle.rv_isa.specs.Table.{row_of}
@@ -14,13 +16,21 @@ use Rattle.rv_csr.specs.declared.status.Flag.{Flag}
 use Rattle.rv_csr.specs.declared.status.Flag.TheVariants.{Tsr, Tvm}
 use Rattle.rv_csr.specs.declared.table.LazyRegister.TheVariants.{Mepc, Sepc}
 use Rattle.rv_csr.specs.Table.{is_legal_at}
+use Rattle.rv_csr.specs.declared.access.CsrAccess.{CsrAccess}
+use Rattle.rv_csr.specs.declared.access.CsrAccess.TheVariants.{Granted, Denied, Outside as NotModelled}
+use Rattle.rv_csr.specs.declared.table.Register.{Register}
+use Rattle.rv_csr.specs.declared.table.Register.TheVariants.{Lazy, Medeleg, Mhartid, Mstatus, Satp, Sstatus}
+use Rattle.rv_csr.specs.Access.{access_of}
+use Rattle.rv_csr.specs.State.{CsrValues, first_values, value_of}
+use Rattle.rv_isa.specs.declared.instruction.Instr.{Instr}
 use Rattle.rv_csr.specs.Privilege.{is_machine, is_supervisor}
 use Rattle.rv_csr.specs.Status.{is_set}
 use Rattle.rv_csr.specs.Causes.{number_of}
 use Rattle.rv_csr.specs.Traps.{takes_trap, vector_register}
 use Rattle.rv_script.specs.declared.place.Place.TheVariants.{Csr, Reg, Word}
 use Rattle.rv_script.specs.Folds.{Entry}
-use Rattle.rv_hart.specs.Privileged.{call_cause, is_withheld, lazy_address}
+use Rattle.rv_hart.specs.Fixed.{fixed_csrs}
+use Rattle.rv_hart.specs.Privileged.{call_cause, is_withheld, lazy_address, reads_csr}
 use Rattle.addr_rows.specs.Walks.{EntryRow}
 use Rattle.tpl_ast.specs.Leaves.{same_var}
 use Rattle.tpl_ast.specs.declared.template.Atom.{Atom}
@@ -31,13 +41,12 @@ use Rattle.tpl_admit.specs.Truth.{is_shared}
 use Rattle.fd_prob.specs.declared.problem.Case.{Case as ACase}
 use Rattle.fd_prob.specs.declared.slot.Slot.{Slot}
 use Rattle.fd_prob.specs.declared.slot.Slot.TheVariants as slots
-use Rattle.rv_isa.proofs.Numbers.{read}
-use Rattle.rv_isa.specs.Numbers.{op_numbered, op_number}
+use Rattle.rv_isa.specs.Numbers.{op_number}
 use Rattle.leaf_link.specs.Turns.{Turn, holds_address, is_narrow, is_small, may_be_old, may_be_source}
 use Rattle.leaf_link.specs.Values.{Values, instr_in}
 use Rattle.leaf_link.specs.Cases.{Case, Fits, FitsCase, Shape as AShape, Way as AWay, all_relate, all_tests, atoms_hold, base_domain, case_at, case_if, cases_of, domain, in_word, is_held, is_posed, is_some_word, is_value_named, or_no, shape_of, sources_hold, target_at, tests, unless, uses, uses_address, uses_rs1, uses_rs2, value_at}
 use Rattle.leaf_link.specs.Kinds.{always, branch_goes, far_is_target, forks, is_vector, near_is_target, retires, retires_when, traps, traps_when, vector_alone, vector_at}
-use Rattle.leaf_link.specs.Controls.{is_old, is_old_value, return_ways}
+use Rattle.leaf_link.specs.Controls.{access_in, csr_ways, grants, is_denied, is_legal_write, is_old, is_old_value, is_read_old, operand_in, return_ways, writes_in}
 use Rattle.leaf_link.specs.Answers.{values_in}
 use Rattle.leaf_link.specs.AllWays.{ways_of}
 use Rattle.leaf_link.specs.Problems.{cases_over}
@@ -45,8 +54,7 @@ use Rattle.leaf_stand.specs.declared.stand.Stand.{Stand}
 use Rattle.leaf_stand.specs.Kinds.{kind_of}
 use Rattle.leaf_stand.specs.Posed.{FitsSame, all_cases, allows, is_other, is_posable, is_posed_at, stand_cases, stand_ways}
 use Rattle.leaf_stand.specs.Stands.{IsStandOf, turn_of}
-use Rattle.leaf_stand.proofs.Rows.{built_narrow}
-use Rattle.leaf_stand.proofs.Single.{both_same, or_true}
+use Rattle.leaf_stand.proofs.Single.{both_same}
 use Rattle.leaf_stand.proofs.Fits.{fits_either, fits_left, fits_right, in_word_reads, stand_allowed}
 
 -- ATOMS
@@ -92,16 +100,18 @@ base_same s t walk pa h leaf sh slots.OldCsr v = refl
 base_same s t walk pa h leaf sh slots.Vector v = refl
 
 -- RELATIONS
-open_source : (t : Turn) (op : Op) (x : Values) → is_other (kind_of op) ≡ false → x slots.Op ≡ op_number op → may_be_source t (instr_in x) ≡ true
-open_source t op x p e =
-    let o : (instr_in x).op ≡ op = ap op_numbered e ∙ read op in
-    let n : is_narrow (row_of (instr_in x).op) (instr_in x).csr ≡ false = ap (λ (q : Op). is_narrow (row_of q) (instr_in x).csr) o ∙ built_narrow op (instr_in x).csr p in
-    ap (λ (b : Bool). not b || is_small t.sources) n
+small_same : (s : Stand) (t : Turn) (walk : List Entry) (pa : ℕ) → IsStandOf s t walk pa → is_small t.sources ≡ is_small (turn_of s).sources
+unfolding is_small
+small_same s t walk pa h = ap (λ (l : List ℕ). nat_le (length l) 4096) (elements_same t.sources (turn_of s).sources h.sources)
 
-sources_agree : (s : Stand) (t : Turn) (walk : List Entry) (pa : ℕ) → IsStandOf s t walk pa → (sh : AShape) (x : Values) → is_other (kind_of sh.op) ≡ false → x slots.Op ≡ op_number sh.op → sources_hold t sh x ≡ sources_hold (turn_of s) sh x
-sources_agree s t walk pa h sh x p e =
+source_same : (s : Stand) (t : Turn) (walk : List Entry) (pa : ℕ) → IsStandOf s t walk pa → (x : Values) → may_be_source t (instr_in x) ≡ may_be_source (turn_of s) (instr_in x)
+source_same s t walk pa h x = ap (λ (b : Bool). not (is_narrow (row_of (instr_in x).op) (instr_in x).csr) || b) (small_same s t walk pa h)
+
+sources_agree : (s : Stand) (t : Turn) (walk : List Entry) (pa : ℕ) → IsStandOf s t walk pa → (sh : AShape) (x : Values) → sources_hold t sh x ≡ sources_hold (turn_of s) sh x
+sources_agree s t walk pa h sh x =
     both_same _ _ _ _
-    (ap (λ (b : Bool). unless (uses_rs1 sh) b) (both_same _ _ _ _ (ap (λ (o : Option ℕ). is_held o (x slots.A)) (h.registers (x slots.Rs1))) (or_true (is_some_word (t.known (Reg (x slots.Rs1)))) _ (open_source t sh.op x p e) ∙ sym (or_true (is_some_word ((turn_of s).known (Reg (x slots.Rs1)))) _ (open_source (turn_of s) sh.op x p e)))))
+    (ap (λ (b : Bool). unless (uses_rs1 sh) b) (both_same _ _ _ _ (ap (λ (o : Option ℕ). is_held o (x slots.A)) (h.registers (x slots.Rs1)))
+    (ap (λ (o : Option ℕ). is_some_word o || may_be_source t (instr_in x)) (h.registers (x slots.Rs1)) ∙ ap (λ (b : Bool). is_some_word ((turn_of s).known (Reg (x slots.Rs1))) || b) (source_same s t walk pa h x))))
     (both_same _ _ _ _ (ap (λ (o : Option ℕ). unless (uses_rs2 sh) (is_held o (x slots.B))) (h.registers (x slots.Rs2))) refl)
 
 pub atoms_agree : (s : Stand) (t : Turn) (walk : List Entry) (pa : ℕ) → IsStandOf s t walk pa → (leaf : List Atom) (sh : AShape) (x : Values) → atoms_hold t leaf sh x ≡ atoms_hold (turn_of s) leaf sh x
@@ -198,6 +208,42 @@ refusal_same s t walk pa h addr false false e = granted_same s t walk pa h addr
 refusal_same s t walk pa h addr true false e = absurd (cc e)
 refusal_same s t walk pa h addr false true e = absurd (cc e)
 
+-- CSR INSTRUCTIONS
+access_same : (s : Stand) (t : Turn) (walk : List Entry) (pa : ℕ) → IsStandOf s t walk pa → (i : Instr) → access_in (turn_of s).fixed i ≡ access_in t.fixed i
+access_same s t walk pa h i = sym (ap (λ (m : ℕ). access_of m i.csr t.fixed.privilege (writes_in i)) h.mstatus ∙ ap (λ (p : Priv). access_of s.csrs.mstatus i.csr p (writes_in i)) h.privilege)
+
+fixed_same : (s : Stand) (t : Turn) (walk : List Entry) (pa : ℕ) → IsStandOf s t walk pa → fixed_csrs (turn_of s).fixed ≡ fixed_csrs t.fixed
+fixed_same s t walk pa h =
+    sym (ap (λ (n : ℕ). first_values t.fixed.number n t.fixed.medeleg t.fixed.satp) h.mstatus ∙ ap (λ (n : ℕ). first_values t.fixed.number s.csrs.mstatus n t.fixed.satp) h.medeleg
+    ∙ ap (λ (n : ℕ). first_values t.fixed.number s.csrs.mstatus s.csrs.medeleg n) h.satp ∙ ap (λ (n : ℕ). first_values n s.csrs.mstatus s.csrs.medeleg s.csrs.satp) h.number)
+
+read_old_same : (s : Stand) (t : Turn) (walk : List Entry) (pa : ℕ) → IsStandOf s t walk pa → (register : Register) (v : ℕ) → is_read_old (turn_of s) register v ≡ is_read_old t register v
+read_old_same s t walk pa h (Lazy lazy) v = old_same s t walk pa h (lazy_address lazy) v
+read_old_same s t walk pa h Mstatus v = ap (λ (c : CsrValues). nat_eq v (unwrap_or (value_of c Mstatus) 0)) (fixed_same s t walk pa h)
+read_old_same s t walk pa h Sstatus v = ap (λ (c : CsrValues). nat_eq v (unwrap_or (value_of c Sstatus) 0)) (fixed_same s t walk pa h)
+read_old_same s t walk pa h Medeleg v = ap (λ (c : CsrValues). nat_eq v (unwrap_or (value_of c Medeleg) 0)) (fixed_same s t walk pa h)
+read_old_same s t walk pa h Satp v = ap (λ (c : CsrValues). nat_eq v (unwrap_or (value_of c Satp) 0)) (fixed_same s t walk pa h)
+read_old_same s t walk pa h Mhartid v = ap (λ (c : CsrValues). nat_eq v (unwrap_or (value_of c Mhartid) 0)) (fixed_same s t walk pa h)
+
+grants_same : (s : Stand) (t : Turn) (walk : List Entry) (pa : ℕ) → IsStandOf s t walk pa → (access : CsrAccess) (i : Instr) (old operand : ℕ) → grants (turn_of s) access i old operand ≡ grants t access i old operand
+grants_same s t walk pa h (Granted register) i old operand = ap (λ (b : Bool). (if reads_csr i then b else nat_eq old 0) && is_legal_write i register old operand) (read_old_same s t walk pa h register old)
+grants_same s t walk pa h Denied i old operand = refl
+grants_same s t walk pa h NotModelled i old operand = refl
+
+csr_same : (s : Stand) (t : Turn) (walk : List Entry) (pa : ℕ) → IsStandOf s t walk pa → (op : Op) → AreSameWays (csr_ways (turn_of s) op) (csr_ways t op)
+csr_same s t walk pa h op = (
+  traps_same s t walk pa h causes.Illegal (λ x. is_denied (access_in (turn_of s).fixed (instr_in x))) (λ x. is_denied (access_in t.fixed (instr_in x))) (λ x. ap is_denied (access_same s t walk pa h (instr_in x))),
+  (
+    record {
+      outcome = refl;
+      reaches = refl;
+      also = λ slot v. refl;
+      holds = λ x. ap (λ (a : CsrAccess). grants (turn_of s) a (instr_in x) (x slots.OldCsr) (operand_in (row_of op) x)) (access_same s t walk pa h (instr_in x)) ∙ grants_same s t walk pa h (access_in t.fixed (instr_in x)) (instr_in x) (x slots.OldCsr) (operand_in (row_of op) x);
+    },
+    record {},
+  ),
+)
+
 pub ways_same : (s : Stand) (t : Turn) (walk : List Entry) (pa : ℕ) → IsStandOf s t walk pa → (leaf : List Atom) (loads stores : List EntryRow) (op : Op) → is_other (kind_of op) ≡ false → AreSameWays (stand_ways s op) (ways_of t walk pa leaf loads stores op)
 ways_same s t walk pa h leaf loads stores ops.Jal n = forks_same s t walk pa h (near_is_target s.pc) (near_is_target t.fixed.pc) (near_same s t walk pa h)
 ways_same s t walk pa h leaf loads stores ops.Jalr n = forks_same s t walk pa h far_is_target far_is_target (λ x. refl)
@@ -218,12 +264,12 @@ ways_same s t walk pa h leaf loads stores ops.Lhu n = absurd (cc n)
 ways_same s t walk pa h leaf loads stores ops.Sb n = absurd (cc n)
 ways_same s t walk pa h leaf loads stores ops.Sh n = absurd (cc n)
 ways_same s t walk pa h leaf loads stores ops.Sw n = absurd (cc n)
-ways_same s t walk pa h leaf loads stores ops.Csrrw n = absurd (cc n)
-ways_same s t walk pa h leaf loads stores ops.Csrrs n = absurd (cc n)
-ways_same s t walk pa h leaf loads stores ops.Csrrc n = absurd (cc n)
-ways_same s t walk pa h leaf loads stores ops.Csrrwi n = absurd (cc n)
-ways_same s t walk pa h leaf loads stores ops.Csrrsi n = absurd (cc n)
-ways_same s t walk pa h leaf loads stores ops.Csrrci n = absurd (cc n)
+ways_same s t walk pa h leaf loads stores ops.Csrrw n = csr_same s t walk pa h ops.Csrrw
+ways_same s t walk pa h leaf loads stores ops.Csrrs n = csr_same s t walk pa h ops.Csrrs
+ways_same s t walk pa h leaf loads stores ops.Csrrc n = csr_same s t walk pa h ops.Csrrc
+ways_same s t walk pa h leaf loads stores ops.Csrrwi n = csr_same s t walk pa h ops.Csrrwi
+ways_same s t walk pa h leaf loads stores ops.Csrrsi n = csr_same s t walk pa h ops.Csrrsi
+ways_same s t walk pa h leaf loads stores ops.Csrrci n = csr_same s t walk pa h ops.Csrrci
 ways_same s t walk pa h leaf loads stores ops.Mret n = return_same s t walk pa h (lazy_address Mepc) (is_machine s.privilege) (is_machine t.fixed.privilege) (ap is_machine (sym h.privilege))
 ways_same s t walk pa h leaf loads stores ops.Sret n = refusal_same s t walk pa h (lazy_address Sepc) (is_withheld Tsr (turn_of s).fixed) (is_withheld Tsr t.fixed) (withheld_same s t walk pa h Tsr)
 ways_same s t walk pa h leaf loads stores ops.SfenceVma n = fence_same s t walk pa h (is_withheld Tvm (turn_of s).fixed) (is_withheld Tvm t.fixed) (withheld_same s t walk pa h Tvm)
@@ -244,7 +290,7 @@ domain_agrees s t walk pa h leaf op a b w slot v =
 holds_agree : (s : Stand) (t : Turn) (walk : List Entry) (pa : ℕ) → IsStandOf s t walk pa → (leaf : List Atom) (op : Op) (a b : AWay) → IsSameWay a b → is_other (kind_of op) ≡ false → (x : Values) → x slots.Op ≡ op_number op
     → (case_at (turn_of s) 0 leaf op a).holds x ≡ (case_at t pa leaf op b).holds x
 holds_agree s t walk pa h leaf op a b w n x e =
-    both_same _ _ _ _ (ap (λ (sh : AShape). sources_hold (turn_of s) sh x) (shapes_same op a b w) ∙ sym (sources_agree s t walk pa h (shape_of op b) x n e))
+    both_same _ _ _ _ (ap (λ (sh : AShape). sources_hold (turn_of s) sh x) (shapes_same op a b w) ∙ sym (sources_agree s t walk pa h (shape_of op b) x))
     (both_same _ _ _ _ (ap (λ (sh : AShape). atoms_hold (turn_of s) leaf sh x) (shapes_same op a b w) ∙ sym (atoms_agree s t walk pa h leaf (shape_of op b) x)) (w.holds x))
 
 pub posed_agrees : (s : Stand) (t : Turn) (walk : List Entry) (pa : ℕ) → IsStandOf s t walk pa → (leaf : List Atom) (op : Op) (a b : AWay) → IsSameWay a b → is_posed_at s leaf (shape_of op a) ≡ is_posed t walk pa leaf (shape_of op b)

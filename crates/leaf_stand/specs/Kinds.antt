@@ -4,7 +4,7 @@ use Rattle.rv_isa.specs.declared.operation.Op.TheVariants as ops
 use Rattle.leaf_stand.specs.declared.kind.Kind.{Kind}
 use Rattle.leaf_stand.specs.declared.kind.Kind.TheVariants as kinds
 
--- loads, stores and CSR instructions are not built
+-- loads and stores are not built
 abbrev pub kind_of : Op → Kind
 kind_of ops.Jal = kinds.Jump
 kind_of ops.Jalr = kinds.JumpRegister
@@ -24,12 +24,12 @@ kind_of ops.Sh = kinds.Other
 kind_of ops.Sw = kinds.Other
 kind_of ops.Ecall = kinds.Call
 kind_of ops.Ebreak = kinds.Break
-kind_of ops.Csrrw = kinds.Other
-kind_of ops.Csrrs = kinds.Other
-kind_of ops.Csrrc = kinds.Other
-kind_of ops.Csrrwi = kinds.Other
-kind_of ops.Csrrsi = kinds.Other
-kind_of ops.Csrrci = kinds.Other
+kind_of ops.Csrrw = kinds.Csr
+kind_of ops.Csrrs = kinds.Csr
+kind_of ops.Csrrc = kinds.Csr
+kind_of ops.Csrrwi = kinds.Csr
+kind_of ops.Csrrsi = kinds.Csr
+kind_of ops.Csrrci = kinds.Csr
 kind_of ops.Mret = kinds.MachineReturn
 kind_of ops.Sret = kinds.SupervisorReturn
 kind_of ops.SfenceVma = kinds.AddressFence

@@ -19,7 +19,7 @@ use Rattle.leaf_link.specs.Cases.{Case, Fits, Shape as AShape, Way as AWay, all_
 use Rattle.leaf_link.specs.Answers.{values_in}
 use Rattle.leaf_link.specs.AllWays.{ways_of}
 use Rattle.leaf_stand.specs.declared.kind.Kind.{Kind}
-use Rattle.leaf_stand.specs.declared.kind.Kind.TheVariants.{Other}
+use Rattle.leaf_stand.specs.declared.kind.Kind.TheVariants.{Csr, Other}
 use Rattle.leaf_stand.specs.declared.stand.Stand.{Stand}
 use Rattle.leaf_stand.specs.declared.way.Way.{Way}
 use Rattle.leaf_stand.specs.Kinds.{kind_of}
@@ -43,6 +43,12 @@ allows s leaf op = reads_as s.word op && all_tests (turn_of s) leaf vars.Op (op_
 abbrev pub is_other : Kind → Bool
 is_other Other = true
 is_other kind = false
+
+-- the ways of its steps rest on neither registers nor memory, so that they stand in a list
+abbrev pub is_listed : Kind → Bool
+is_listed Csr = false
+is_listed Other = false
+is_listed kind = true
 
 -- the operation is built, or not allowed
 abbrev pub is_posable : Stand → List Atom → Op → Bool

@@ -1,5 +1,6 @@
 -- What is known where a leaf is solved, as the turn of the definitions.
-use Rattle.std.specs.Prelude.{◌≡◌, ℕ, Bool, true, false, nat_eq, List, [], Option, Some, None, slice_get}
+use Rattle.std.specs.Prelude.{◌≡◌, ℕ, ◌<◌, ◌^◌, Bool, true, false, ◌||◌, nat_eq, List, [], Option, Some, None, slice_get}
+use Rattle.dom_set.specs.Elements.{is_in}
 use Rattle.rv_csr.specs.Causes.{number_of}
 use Rattle.rv_csr.specs.State.{CsrValues, lazy_value}
 use Rattle.rv_csr.specs.Table.{register_at}
@@ -61,10 +62,10 @@ turn_of s = record {
   names = λ n. value_named (slice_get s.names.now n);
   sets = λ n. set_named (slice_get s.names.now n);
   others = [];
-  sources = λ v. true;
+  sources = λ v. is_in s.sources.now v;
 }
 
--- the stand tells what a turn is: its pc, privilege, registers and CSRs, the word at the pc, the vectors and the names, and whether the fetch may be made
+-- the stand tells what a turn is: its pc, privilege, registers and CSRs, the word at the pc, the vectors, the names and the sources, and whether the fetch may be made
 pub record IsStandOf (s : Stand) (t : Turn) (walk : List Entry) (pa : ℕ) : Type 0 where
   pub pc : t.fixed.pc ≡ s.pc
   pub privilege : t.fixed.privilege ≡ s.privilege
@@ -78,6 +79,9 @@ pub record IsStandOf (s : Stand) (t : Turn) (walk : List Entry) (pa : ℕ) : Typ
   pub sets : (n : ℕ) → t.sets n ≡ set_named (slice_get s.names.now n)
   pub fetches : may_fetch t walk pa ≡ s.fetches
   pub pairs : data_pairs t ≡ s.pairs
+  pub satp : t.fixed.satp ≡ s.csrs.satp
+  pub number : t.fixed.number ≡ s.csrs.hart
+  pub sources : (v : ℕ) → v < 2 ^ 32 → t.sources v ≡ is_in s.sources.now v
 
 -- HOW A STEP ENDS
 abbrev pub outcome_at : End → ℕ
@@ -86,6 +90,10 @@ outcome_at (Traps cause) = number_of cause
 
 abbrev pub shape_at : Shape → AShape
 shape_at s = record { op = s.op; outcome = outcome_at s.end; reaches = false }
+
+abbrev pub is_retired : End → Bool
+is_retired Retires = true
+is_retired (Traps cause) = false
 
 -- what an end says of single variables
 abbrev pub also_at : Turn → End → Slot → ℕ → Bool
@@ -114,3 +122,8 @@ domain_at t leaf s reads slots.DataWord v = nat_eq v 0
 domain_at t leaf s reads slots.OldCsr v = old_at t reads v
 domain_at t leaf s reads slots.Vector v = also_at t s.end slots.Vector v
 domain_at t leaf s reads slot v = base_domain t 0 leaf (shape_at s) slot v
+
+-- the same, where whatever is read may have any value
+abbrev pub open_at : Turn → List Atom → Shape → Slot → ℕ → Bool
+open_at t leaf s slots.OldCsr v = is_retired s.end || nat_eq v 0
+open_at t leaf s slot v = domain_at t leaf s None slot v

@@ -58,6 +58,7 @@ ways_by s kinds.Illegal = trapping causes.Illegal ∷ []
 ways_by s kinds.AddressFence = if is_withheld Tvm (turn_of s).fixed then trapping causes.Illegal ∷ [] else retiring ∷ []
 ways_by s kinds.MachineReturn = if is_machine s.privilege then returning Mepc ∷ [] else trapping causes.Illegal ∷ []
 ways_by s kinds.SupervisorReturn = if is_withheld Tsr (turn_of s).fixed then trapping causes.Illegal ∷ [] else returning Sepc ∷ []
+ways_by s kinds.Csr = []
 ways_by s kinds.Other = []
 
 -- the way is one of the operation's

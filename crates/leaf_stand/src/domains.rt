@@ -10,7 +10,7 @@ ghost use Rattle.tpl_ast.specs.Leaves.{same_var};
 ghost use Rattle.leaf_link.specs.Kinds.{is_vector};
 ghost use Rattle.leaf_stand.specs.Sets.{AreDomains, IsSetOf, in_spans};
 ghost use Rattle.leaf_stand.specs.Posed.{allows, is_posed_at};
-ghost use Rattle.leaf_stand.specs.Stands.{also_at, domain_at, old_at, shape_at, turn_of};
+ghost use Rattle.leaf_stand.specs.Stands.{also_at, domain_at, old_at, open_at, shape_at, turn_of};
 
 use crate::atoms::all_judged;
 use crate::formats::{Spans, field, field_of};
@@ -137,6 +137,23 @@ impl Stand<'_> {
             Slot::DataWord => Spans::one(0).set(alloc),
             Slot::OldCsr => self.old(alloc, reads),
             Slot::Vector => self.ends(alloc, shape.end),
+        }
+    }
+
+    /// The domain of a variable, where a step that retires may read any value of a CSR.
+    pub fn open_domain(
+        &self,
+        alloc: Global,
+        leaf: &[Atom],
+        shape: Shape,
+        slot: Slot,
+    ) -> Result<Set, OutOfMemory>
+        requires { has_address (row_of shape.op) ≡ false }
+        ensures { IfOk result (IsSetOf (open_at (turn_of self.now) leaf.now shape slot)) }
+    {
+        match (slot, shape.end) {
+            (Slot::OldCsr, End::Retires) => Spans::up_to(u32::MAX).set(alloc),
+            _ => self.domain(alloc, leaf, shape, None, slot),
         }
     }
 

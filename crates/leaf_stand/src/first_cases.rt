@@ -1,9 +1,12 @@
 // First cases of operations: what counts for the space of a problem and for the order of its assignments.
 
-ghost use Rattle.std.specs.Prelude.{◌≡◌, ℕ, ◌&&◌, true, false, length, IfOk};
+ghost use Rattle.std.specs.Prelude.{◌≡◌, ℕ, ◌&&◌, nat_eq, true, false, length, IfOk};
+ghost use Rattle.std.specs.List.{list_any};
+ghost use Rattle.dom_set.specs.Elements.{is_within};
+ghost use Rattle.rv_csr.specs.Table.{address_of};
 ghost use Rattle.tpl_ast.specs.Leaves.{same_var};
-ghost use Rattle.leaf_link.specs.Cases.{all_tests, in_word, or_no};
-ghost use Rattle.leaf_link.specs.Firsts.{IsDomain};
+ghost use Rattle.leaf_link.specs.Cases.{all_tests, or_no};
+ghost use Rattle.leaf_link.specs.Firsts.{IsDomain, in_first_word, is_modelled};
 ghost use Rattle.fd_prob.specs.Fitting.{IsCase};
 ghost use Rattle.leaf_stand.specs.FirstCases.{AreFirstDomains, IsFirstCase, first_at};
 ghost use Rattle.leaf_stand.specs.Sets.{IsSetOf};
@@ -14,11 +17,43 @@ use crate::shape::has_old;
 use crate::stand::Stand;
 use dom_set::{OutOfMemory, Set};
 use fd_prob::{Case, Items, Rel, SLOTS, Slot};
+use rv_csr::{REGISTERS, Register, row_of};
 use rv_isa::Op;
 use std::alloc::Global;
 use tpl_ast::{Atom, Var};
 
+/// The addresses of CSRs, as ranges.
+fn addresses(alloc: Global, registers: &[Register]) -> Result<Vec<(u32, u32)>, OutOfMemory>
+    ensures { IfOk result (λ pairs. (v : ℕ) → is_within pairs.items v ≡ list_any (λ register. nat_eq (address_of register) v) registers.now) }
+{
+    let mut pairs = Vec::new(alloc);
+    for register in registers {
+        let address = u32::from(row_of(*register).address());
+        pairs.push((address, address))?;
+    }
+    Ok(pairs)
+}
+
+/// The addresses of the modelled CSRs.
+fn modelled(alloc: Global) -> Result<Set, OutOfMemory>
+    ensures { IfOk result (IsSetOf is_modelled) }
+{
+    let pairs = addresses(alloc, &REGISTERS)?;
+    Set::from_ranges(alloc, &pairs, 1)
+}
+
 impl Stand<'_> {
+    /// The values of a field, by the known word or the format; of the CSR the modelled ones.
+    fn first_fields(&self, alloc: Global, op: Op, slot: Slot) -> Result<Set, OutOfMemory>
+        ensures { IfOk result (IsSetOf (in_first_word self.now.word op slot)) }
+    {
+        if self.word.is_none() && op.has_csr() && matches!(slot, Slot::Csr) {
+            modelled(alloc)
+        } else {
+            self.fields(alloc, op, slot)
+        }
+    }
+
     /// The values of a field that pass the atoms on it.
     fn first_field(
         &self,
@@ -29,9 +64,9 @@ impl Stand<'_> {
         var: Var,
     ) -> Result<Set, OutOfMemory>
         requires { same_var Var.Pa var ≡ false }
-        ensures { IfOk result (IsSetOf (λ v. in_word self.now.word op slot v && all_tests (turn_of self.now) leaf.now var v)) }
+        ensures { IfOk result (IsSetOf (λ v. in_first_word self.now.word op slot v && all_tests (turn_of self.now) leaf.now var v)) }
     {
-        let values = self.fields(alloc, op, slot)?;
+        let values = self.first_fields(alloc, op, slot)?;
         self.passing(alloc, values, leaf, var)
     }
 

@@ -22,6 +22,8 @@ pub enum Kind {
     Break,
     /// ILLEGAL: the words 0 and 2^32 - 1, which raise an illegal instruction.
     Illegal,
+    /// CSRRW, CSRRS, CSRRC and their forms with an immediate.
+    Csr,
     /// MRET.
     MachineReturn,
     /// SRET.
@@ -43,7 +45,7 @@ pub fn kind_of(op: Op) -> Kind
         Op::Lb | Op::Lh | Op::Lw | Op::Lbu | Op::Lhu | Op::Sb | Op::Sh | Op::Sw => Kind::Other,
         Op::Ecall => Kind::Call,
         Op::Ebreak => Kind::Break,
-        Op::Csrrw | Op::Csrrs | Op::Csrrc | Op::Csrrwi | Op::Csrrsi | Op::Csrrci => Kind::Other,
+        Op::Csrrw | Op::Csrrs | Op::Csrrc | Op::Csrrwi | Op::Csrrsi | Op::Csrrci => Kind::Csr,
         Op::Mret => Kind::MachineReturn,
         Op::Sret => Kind::SupervisorReturn,
         Op::SfenceVma => Kind::AddressFence,
@@ -65,6 +67,7 @@ pub fn is_posed(op: Op) -> bool
         | Kind::Call
         | Kind::Break
         | Kind::Illegal
+        | Kind::Csr
         | Kind::MachineReturn
         | Kind::SupervisorReturn
         | Kind::AddressFence => true,

@@ -167,7 +167,8 @@ impl Stand<'_> {
                     &SUPERVISOR_RETURNS
                 }
             }
-            Kind::Other => &[],
+            // Those of CSR instructions rest on registers.
+            Kind::Csr | Kind::Other => &[],
         }
     }
 

@@ -24,6 +24,8 @@ pub struct Stand<'t> {
     pub fetches: bool,
     /// How many pairs of page table entries the translation of a data access may start; 1 where there is none.
     pub pairs: u64,
+    /// The values that the atoms leave to a source register.
+    pub sources: &'t Set,
     /// The addresses that vectors may be started with.
     pub vectors: &'t Set,
     /// The names, by their places in the template.

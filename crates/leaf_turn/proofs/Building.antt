@@ -1,57 +1,64 @@
--- Leaves that are built can be posed.
+-- Leaves that are built can be posed, and bar writes of satp.
 use Rattle.std.proofs.Common.{◌≡◌, ℕ, Bool, true, false, not, ◌&&◌, ◌||◌, ◌++◌, if◌then◌else◌, List, [], ◌∷◌, refl}
 use Rattle.std.specs.List.{list_all, list_any}
 use Rattle.std.proofs.lemmas.Bool.{and_from, and_parts}
 use Rattle.rv_isa.specs.declared.operation.Op.{Op}
 use Rattle.rv_isa.specs.declared.operation.TheConstants.{OPS}
 use Rattle.rv_isa.specs.Numbers.{op_number}
+use Rattle.rv_isa.specs.Table.{row_of}
 use Rattle.tpl_ast.specs.declared.template.Atom.{Atom}
 use Rattle.tpl_ast.specs.declared.template.Atom.TheVariants as atoms
+use Rattle.tpl_ast.specs.declared.template.Var.{Var}
 use Rattle.tpl_ast.specs.declared.template.Var.TheVariants as vars
 use Rattle.tpl_ast.specs.declared.template.Wish.{Wish}
 use Rattle.tpl_admit.specs.Admitting.{fixes_outcome}
 use Rattle.leaf_link.specs.Turns.{Turn}
 use Rattle.leaf_link.specs.Cases.{all_tests, tests}
+use Rattle.leaf_link.specs.Values.{has_csr_operand}
 use Rattle.leaf_stand.specs.declared.stand.Stand.{Stand}
 use Rattle.leaf_stand.specs.Kinds.{kind_of}
 use Rattle.leaf_stand.specs.Posed.{allows, is_other, is_posable, reads_as}
 use Rattle.leaf_stand.specs.Stands.{turn_of}
-use Rattle.leaf_turn.specs.Built.{BuiltLeavesArePosable, is_built, let_op, lets_op}
+use Rattle.leaf_pose.proofs.Whole.{every_op}
+use Rattle.leaf_turn.specs.Built.{BuiltLeavesArePosable, BuiltLeavesBarSatp, all_let, is_built, lets, may_be_satp}
 use Rattle.leaf_turn.specs.Wishes.{mandatory_of, retires, unbiased}
+use Rattle.leaf_turn.proofs.Each.{every}
 
 -- what passes an atom's test is let through
-lets : (t : Turn) (atom : Atom) (n : ℕ) → tests t atom vars.Op n ≡ true → lets_op atom n ≡ true
-lets t (atoms.In v set) n h = h
-lets t (atoms.NotIn v set) n h = h
-lets t (atoms.Is v name) n h = refl
-lets t (atoms.Same v u) n h = refl
-lets t (atoms.Differ v u) n h = refl
-lets t atoms.Taken n h = refl
-lets t atoms.NotTaken n h = refl
-lets t atoms.Shared n h = refl
+its_test : (t : Turn) (atom : Atom) (u : Var) (n : ℕ) → tests t atom u n ≡ true → lets atom u n ≡ true
+its_test t (atoms.In v set) u n h = h
+its_test t (atoms.NotIn v set) u n h = h
+its_test t (atoms.Is v name) u n h = refl
+its_test t (atoms.Same v w) u n h = refl
+its_test t (atoms.Differ v w) u n h = refl
+its_test t atoms.Taken u n h = refl
+its_test t atoms.NotTaken u n h = refl
+its_test t atoms.Shared u n h = refl
 
-first_tests : (t : Turn) (xs ys : List Atom) (n : ℕ) → all_tests t (xs ++ ys) vars.Op n ≡ true → all_tests t xs vars.Op n ≡ true
-first_tests t [] ys n h = refl
-first_tests t (x ∷ xs) ys n h = let p = and_parts _ _ h in and_from _ _ p.0 (first_tests t xs ys n p.1)
+first_tests : (t : Turn) (xs ys : List Atom) (u : Var) (n : ℕ) → all_tests t (xs ++ ys) u n ≡ true → all_tests t xs u n ≡ true
+first_tests t [] ys u n h = refl
+first_tests t (x ∷ xs) ys u n h = let p = and_parts _ _ h in and_from _ _ p.0 (first_tests t xs ys u n p.1)
 
-let_through : (t : Turn) (ws : List Wish) (n : ℕ) → all_tests t (unbiased ws) vars.Op n ≡ true → let_op ws n ≡ true
-let_through t [] n h = refl
-let_through t (w ∷ ws) n h = go w.prefer h (let_through t ws n)
+through_unbiased : (t : Turn) (ws : List Wish) (u : Var) (n : ℕ) → all_tests t (unbiased ws) u n ≡ true → all_let ws u n ≡ true
+through_unbiased t [] u n h = refl
+through_unbiased t (w ∷ ws) u n h = go w.prefer h (through_unbiased t ws u n)
   where
-    go : (b : Bool) → all_tests t (if b then unbiased ws else w.atom ∷ unbiased ws) vars.Op n ≡ true → (all_tests t (unbiased ws) vars.Op n ≡ true → let_op ws n ≡ true) → ((b || lets_op w.atom n) && let_op ws n) ≡ true
+    go : (b : Bool) → all_tests t (if b then unbiased ws else w.atom ∷ unbiased ws) u n ≡ true → (all_tests t (unbiased ws) u n ≡ true → all_let ws u n ≡ true) → ((b || lets w.atom u n) && all_let ws u n) ≡ true
     go true h rest = rest h
-    go false h rest = let p = and_parts _ _ h in and_from _ _ (lets t w.atom n p.0) (rest p.1)
+    go false h rest = let p = and_parts _ _ h in and_from _ _ (its_test t w.atom u n p.0) (rest p.1)
 
-posable : (other through allowed : Bool) → (not other || not through) ≡ true → (allowed ≡ true → through ≡ true) → (not other || not allowed) ≡ true
-posable false through allowed h k = refl
-posable true true allowed h k = absurd (cc)
-posable true false true h k = let e = k refl in absurd (cc)
-posable true false false h k = refl
+let_through : (t : Turn) (ws : List Wish) (u : Var) (n : ℕ) → all_tests t (mandatory_of ws) u n ≡ true → all_let ws u n ≡ true
+let_through t ws u n h = through_unbiased t ws u n (first_tests t (unbiased ws) (if list_any fixes_outcome ws then [] else retires ∷ []) u n h)
+
+posable : (other satp through allowed : Bool) → ((not other && not satp) || not through) ≡ true → (allowed ≡ true → through ≡ true) → (not other || not allowed) ≡ true
+posable false satp through allowed h k = refl
+posable true satp true allowed h k = absurd (cc h)
+posable true satp false true h k = absurd (cc (k refl))
+posable true satp false false h k = refl
 
 one_posable : (ws : List Wish) (st : Stand) (op : Op) → is_built ws op ≡ true → is_posable st (mandatory_of ws) op ≡ true
-one_posable ws st op h = posable (is_other (kind_of op)) (let_op ws (op_number op)) (allows st (mandatory_of ws) op) h (λ allowed.
-    let p = and_parts (reads_as st.word op) (all_tests (turn_of st) (mandatory_of ws) vars.Op (op_number op)) allowed in
-    let_through (turn_of st) ws (op_number op) (first_tests (turn_of st) (unbiased ws) (if list_any fixes_outcome ws then [] else retires ∷ []) (op_number op) p.1))
+one_posable ws st op h = posable (is_other (kind_of op)) (may_be_satp ws op) (all_let ws vars.Op (op_number op)) (allows st (mandatory_of ws) op) h (λ allowed.
+    let_through (turn_of st) ws vars.Op (op_number op) (and_parts (reads_as st.word op) (all_tests (turn_of st) (mandatory_of ws) vars.Op (op_number op)) allowed).1)
 
 all_posable : (ws : List Wish) (st : Stand) (ops : List Op) → list_all (is_built ws) ops ≡ true → list_all (is_posable st (mandatory_of ws)) ops ≡ true
 all_posable ws st [] h = refl
@@ -59,3 +66,18 @@ all_posable ws st (op ∷ ops) h = let p = and_parts _ _ h in and_from _ _ (one_
 
 pub built_leaves_are_posable : BuiltLeavesArePosable
 built_leaves_are_posable ws h st = all_posable ws st OPS h
+
+-- ---- and bar writes of satp
+
+barred : (posed operand satp through tested : Bool) → ((posed && not (operand && satp)) || not through) ≡ true → operand ≡ true → through ≡ true → (tested ≡ true → satp ≡ true) → tested ≡ false
+barred posed operand satp through false h is met k = refl
+barred posed false satp through true h is met k = absurd (cc is)
+barred posed true satp false true h is met k = absurd (cc met)
+barred posed true false true true h is met k = absurd (cc (k refl))
+barred true true true true true h is met k = absurd (cc h)
+barred false true true true true h is met k = absurd (cc h)
+
+pub built_leaves_bar_satp : BuiltLeavesBarSatp
+built_leaves_bar_satp ws h t op is through =
+    barred (not (is_other (kind_of op))) (has_csr_operand (row_of op)) (all_let ws vars.Csr 0x180) (all_let ws vars.Op (op_number op)) (all_tests t (mandatory_of ws) vars.Csr 0x180)
+    (every (is_built ws) OPS h op (every_op op)) is (let_through t ws vars.Op (op_number op) through) (let_through t ws vars.Csr 0x180)

@@ -149,7 +149,23 @@ faults_are_playable played k w s feet causes draws nodes x vectors footprint ali
       control = subst (λ (z : Change). KeepsSatp z.control) (sym f.change_is) tt;
     }
 
--- ---- the answer rests on no page table entry
+-- ---- the answer rests on no source and no page table entry
+
+-- the same turn with other sources
+abbrev pub with_sources : (ℕ → Bool) → Turn → Turn
+with_sources sources t = record {
+  fixed = t.fixed;
+  known = t.known;
+  feet = t.feet;
+  pool = t.pool;
+  tables = t.tables;
+  flags = t.flags;
+  vectors = t.vectors;
+  names = t.names;
+  sets = t.sets;
+  others = t.others;
+  sources = sources;
+}
 
 -- the same turn with nothing for page table entries
 abbrev bare : Turn → Turn
@@ -250,10 +266,10 @@ module _ (t : Turn) (plain : is_translated (fetch_view t.fixed) ≡ false) (caus
   answer_moves draws nodes answers.NoneFits (few, none) = (same_space nodes (subst (λ (n : ℕ). n ≤ nodes) (one_pair (bare t) plain) few), λ new c. none new (to_bare new c))
   answer_moves draws nodes answers.Spent many = subst (λ (n : ℕ). nodes < n) (one_pair (bare t) plain ∙ sym (one_pair t plain)) many
 
-  -- the answer of a problem that was posed where the hart stands, outside of RAM
-  pub fault_answered : (st : Stand) (draws : List ℕ) (listed : Bool) (p : Problem) (nodes : ℕ) (answer : Solved) → FaultAnswersAreExact → IsStandOf st t [] st.pc → is_in_ram t.fixed.ram t.fixed.pc ≡ false
+  -- the answer of a problem that was posed where the hart stands, outside of RAM, whatever sources the stand has
+  pub fault_answered : (st : Stand) (sources : ℕ → Bool) (draws : List ℕ) (listed : Bool) (p : Problem) (nodes : ℕ) (answer : Solved) → FaultAnswersAreExact → IsStandOf st (with_sources sources t) [] st.pc → is_in_ram t.fixed.ram t.fixed.pc ≡ false
       → PosesFault st [] [] draws FetchAccess listed p → causes 1 ≡ listed → IsAnswer p nodes answer → IsFaultAnswer t causes draws nodes answer
-  fault_answered st draws listed p nodes answer exact stands outside poses lists is =
+  fault_answered st sources draws listed p nodes answer exact stands outside poses lists is =
       let u : Turn = bare t in
       let settled : fetch_script u ≡ Done (Fails FetchAccess) =
       without u.fixed.ram (fetch_view u.fixed) ForFetch u.fixed.pc plain ∙ ap (λ (b : Bool). Done (if b then At u.fixed.pc else Fails (access_cause ForFetch))) outside in

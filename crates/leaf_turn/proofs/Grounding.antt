@@ -11,7 +11,10 @@ use Rattle.leaf_link.specs.Ways.{IsFetched}
 use Rattle.leaf_turn.proofs.Untranslated.{plain_fetch}
 use Rattle.std.proofs.lemmas.List.{get_or_past}
 use Rattle.std.proofs.lemmas.Option.{slice_get_past}
+use Rattle.tpl_ast.specs.declared.template.Atom.{Atom}
+use Rattle.tpl_ast.specs.declared.template.Atom.TheVariants as atoms
 use Rattle.tpl_ast.specs.declared.template.Template.{Template}
+use Rattle.tpl_ast.specs.declared.template.Var.{Var}
 use Rattle.part_machine.specs.Whole.{Whole}
 use Rattle.leaf_stand.specs.declared.stand.Name.{Name}
 use Rattle.leaf_stand.specs.Stands.{set_named, value_named}
@@ -27,11 +30,11 @@ use Rattle.tpl_admit.specs.Races.{footprints_of}
 use Rattle.part_machine.specs.Whole.{Bare, hart_of, records_of}
 use Rattle.part_state.specs.Meaning.{IsTest}
 use Rattle.leaf_link.specs.Turns.{Turn, in_frames}
-use Rattle.leaf_link.specs.Cases.{is_some_word}
+use Rattle.leaf_link.specs.Cases.{all_tests, is_some_word, tests}
 use Rattle.leaf_stand.specs.declared.stand.Stand.{Stand}
 use Rattle.leaf_stand.specs.Stands.{IsStandOf, csr_held, held}
 use Rattle.turn_laws.specs.Given.{Setting, turn_at}
-use Rattle.leaf_turn.specs.Grounds.{AreNamesOf, IsSettingOf, IsUntranslated, declared_set, is_free_fetch}
+use Rattle.leaf_turn.specs.Grounds.{AreNamesOf, HasSourceSet, IsSettingOf, IsUntranslated, declared_set, is_free_fetch}
 use Rattle.leaf_turn.proofs.Freedom.{same_freedom}
 
 pub all_names : (t : Template) (w : Whole) (names : List Name) (count : ℕ) → length w.names ≡ length t.names → length names ≡ count → length t.names ≤ count
@@ -76,8 +79,8 @@ unless_so true x y h = absurd (cc)
 unless_so false x y h = refl
 
 pub stand_tells : (t : Template) (k : ℕ) (w : Whole) (own : List Touch) (st : Stand) (s : Setting) (feet : List Touch) → IsTest w → k < length w.harts → IsUntranslated k w
-    → IsMadeOf t k w own st → IsSettingOf t s → IsFootprint feet (footprints_of (λ j. records_of j w)) → IsStandOf st (turn_at s feet k w) [] st.pc
-stand_tells t k w own st s feet test l plain m setting footprint =
+    → IsMadeOf t k w own st → IsSettingOf t s → HasSourceSet s st.sources.now → IsFootprint feet (footprints_of (λ j. records_of j w)) → IsStandOf st (turn_at s feet k w) [] st.pc
+stand_tells t k w own st s feet test l plain m setting sources footprint =
     let h : Bare = record { pc = st.pc; privilege = st.privilege; regs = st.registers; csrs = st.csrs } in
     let is : hart_of k w ≡ h = sym m.hart in
     let turn : Turn = turn_at s feet k w in
@@ -100,6 +103,9 @@ stand_tells t k w own st s feet test l plain m setting footprint =
           ∙ ap (λ (p : List ℕ). is_free_fetch own k st.pc && (is_some_word st.word || in_frames p st.pc)) setting.pool
           ∙ sym m.fetches;
       pairs = unless_so (is_translated (data_view turn.fixed)) _ 1 (and_false _ _ (ap (λ (n : ℕ). leb 0x8000_0000 n) plain)) ∙ sym m.pairs;
+      satp = ap (λ (b : Bare). b.csrs.satp) is;
+      number = ap (λ (b : Bare). b.csrs.hart) is;
+      sources = sources;
     }
   where
     free_at : ℕ → Bool
@@ -127,8 +133,32 @@ data_untranslated k w s feet plain = and_false _ _ (ap (λ (n : ℕ). leb 0x8000
 
 -- ---- a template's setting
 
-abbrev pub setting_at : Template → Setting
-setting_at t = record { pool = t.pool; tables = t.tables; flags = t.flags; vectors = t.vectors; sets = λ n. declared_set (slice_get t.names n); sources = λ v. true }
+abbrev pub setting_at : Template → (ℕ → Bool) → Setting
+setting_at t sources = record { pool = t.pool; tables = t.tables; flags = t.flags; vectors = t.vectors; sets = λ n. declared_set (slice_get t.names n); sources = sources }
 
-pub setting_is : (t : Template) → IsSettingOf t (setting_at t)
-setting_is t = record { pool = refl; vectors = refl; sets = λ n. refl }
+pub setting_is : (t : Template) (sources : ℕ → Bool) → IsSettingOf t (setting_at t sources)
+setting_is t sources = record { pool = refl; vectors = refl; sets = λ n. refl }
+
+-- ---- the same setting with other sources
+
+abbrev pub sourced : (ℕ → Bool) → Setting → Setting
+sourced sources s = record { pool = s.pool; tables = s.tables; flags = s.flags; vectors = s.vectors; sets = s.sets; sources = sources }
+
+pub sourced_is : (t : Template) (sources : ℕ → Bool) (s : Setting) → IsSettingOf t s → IsSettingOf t (sourced sources s)
+sourced_is t sources s h = record { pool = h.pool; vectors = h.vectors; sets = h.sets }
+
+-- what passes atoms doesn't rest on them
+pub tests_apart : (sources : ℕ → Bool) (s : Setting) (feet : List Touch) (k : ℕ) (w : Whole) (leaf : List Atom) (u : Var) (v : ℕ) → all_tests (turn_at (sourced sources s) feet k w) leaf u v ≡ all_tests (turn_at s feet k w) leaf u v
+tests_apart sources s feet k w [] u v = refl
+tests_apart sources s feet k w (atom ∷ leaf) u v =
+    ap (λ (b : Bool). b && all_tests (turn_at (sourced sources s) feet k w) leaf u v) (one atom) ∙ ap (λ (b : Bool). tests (turn_at s feet k w) atom u v && b) (tests_apart sources s feet k w leaf u v)
+  where
+    one : (a : Atom) → tests (turn_at (sourced sources s) feet k w) a u v ≡ tests (turn_at s feet k w) a u v
+    one (atoms.In x set) = refl
+    one (atoms.NotIn x set) = refl
+    one (atoms.Is x name) = refl
+    one (atoms.Same x y) = refl
+    one (atoms.Differ x y) = refl
+    one atoms.Taken = refl
+    one atoms.NotTaken = refl
+    one atoms.Shared = refl

@@ -7,6 +7,7 @@ pub mod Grounding
 pub mod Operations
 pub mod Retiring
 pub mod Adding
+pub mod Each
 pub mod Finding
 pub mod Knowing
 pub mod Plainness

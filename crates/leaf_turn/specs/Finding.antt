@@ -1,5 +1,8 @@
 -- That what is found for a leaf can be taken.
 use Rattle.std.specs.Prelude.{◌≡◌, ℕ, ◌%◌, ◌++◌, Bool, true, false, List, []}
+use Rattle.rv_isa.specs.declared.operation.Op.{Op}
+use Rattle.rv_isa.specs.Numbers.{op_number}
+use Rattle.rv_isa.specs.Table.{row_of}
 use Rattle.sv_walk.specs.Translation.{is_translated}
 use Rattle.foot_map.specs.declared.touch.Touch.{Touch}
 use Rattle.foot_map.specs.Races.{IsFootprint}
@@ -7,13 +10,16 @@ use Rattle.rv_hart.specs.Machine.{data_view, fetch_view}
 use Rattle.fd_prob.specs.declared.problem.Assignment.{Assignment}
 use Rattle.fd_solve.specs.declared.answers.Solved.TheVariants as answers
 use Rattle.tpl_ast.specs.declared.template.Atom.{Atom}
+use Rattle.tpl_ast.specs.declared.template.Var.TheVariants as vars
 use Rattle.tpl_admit.specs.Races.{footprints_of}
 use Rattle.part_machine.specs.Whole.{Whole, hart_of, records_of}
 use Rattle.leaf_link.specs.Answers.{values_in}
+use Rattle.leaf_link.specs.Cases.{all_tests}
 use Rattle.leaf_link.specs.FetchAnswers.{IsFaultAnswer}
 use Rattle.leaf_link.specs.Firsts.{IsTurnAnswer}
 use Rattle.leaf_link.specs.KindLaws.{IsPosed}
-use Rattle.leaf_link.specs.Values.{Values}
+use Rattle.leaf_link.specs.Turns.{Turn}
+use Rattle.leaf_link.specs.Values.{Values, has_csr_operand}
 use Rattle.leaf_stand.specs.declared.stand.Stand.{Stand}
 use Rattle.leaf_stand.specs.Posed.{are_posable}
 use Rattle.leaf_stand.specs.Stands.{IsStandOf}
@@ -21,12 +27,16 @@ use Rattle.turn_laws.specs.Ahead.{AreVectors}
 use Rattle.turn_laws.specs.Given.{Setting, turn_at}
 use Rattle.leaf_turn.specs.Answers.{IsFound, IsPlayable}
 
--- what is found for a leaf's atoms and the biases that are kept, where the atoms bar each operation that isn't posed
+-- atoms bar writes of satp: of each CSR instruction they bar the operation, or that its CSR is satp
+abbrev pub BarSatp : Turn → List Atom → Type 0
+BarSatp t leaf = (op : Op) → has_csr_operand (row_of op) ≡ true → all_tests t leaf vars.Op (op_number op) ≡ true → all_tests t leaf vars.Csr 0x180 ≡ false
+
+-- what is found for a leaf's atoms and the biases that are kept, where the atoms bar each operation that isn't posed, and writes of satp
 abbrev pub AnswersAreFound : Type 0
 AnswersAreFound =
     (st : Stand) (k : ℕ) (w : Whole) (s : Setting) (feet : List Touch) (leaf kept : List Atom) (draws : List ℕ) (nodes : ℕ) (x : Assignment)
     → AreVectors s.vectors → IsFootprint feet (footprints_of (λ j. records_of j w)) → is_translated (data_view (turn_at s feet k w).fixed) ≡ false
-    → IsStandOf st (turn_at s feet k w) [] st.pc → are_posable st leaf ≡ true → IsPosed (turn_at s feet k w) [] st.pc (leaf ++ kept)
+    → IsStandOf st (turn_at s feet k w) [] st.pc → are_posable st leaf ≡ true → BarSatp (turn_at s feet k w) leaf → IsPosed (turn_at s feet k w) [] st.pc (leaf ++ kept)
     → IsTurnAnswer (turn_at s feet k w) st.pc (leaf ++ kept) draws nodes (answers.Found x) → IsFound k w (values_in x)
 
 -- what is found is a step that the hart can make

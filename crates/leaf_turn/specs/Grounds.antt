@@ -1,6 +1,7 @@
 -- What a template lets steps start, and a hart whose addresses are not translated.
 use Rattle.std.specs.Prelude.{◌≡◌, ℕ, ◌^◌, ◌<◌, Bool, not, ◌&&◌, nat_eq, List, [], Option, Some, None, slice_get, slice_index_or}
 use Rattle.std.specs.List.{list_any}
+use Rattle.dom_set.specs.Elements.{is_in}
 use Rattle.rv_csr.specs.State.{CsrValues}
 use Rattle.rv_script.specs.declared.access.Role.TheVariants.{Fetch}
 use Rattle.rv_script.specs.Bytes.{covers}
@@ -23,7 +24,7 @@ pub record AreNamesOf (t : Template) (w : Whole) (names : List Name) : Type 0 wh
   pub values : (n : ℕ) → slice_index_or w.names n None ≡ value_named (slice_get names n)
   pub sets : (n : ℕ) → declared_set (slice_get t.names n) ≡ set_named (slice_get names n)
 
--- what a template lets a step start where no address is translated and no CSR is written, and the sets of its names
+-- what a template lets a step start where no address is translated, and the sets of its names; what a source may be started with is said of each leaf apart
 pub record IsSettingOf (t : Template) (s : Setting) : Type 0 where
   pub pool : s.pool ≡ t.pool
   pub vectors : s.vectors ≡ t.vectors
@@ -43,3 +44,7 @@ pub record AreFixedWords (csrs : CsrValues) : Type 0 where
   pub medeleg : csrs.medeleg < 2 ^ 32
   pub satp : csrs.satp < 2 ^ 32
   pub number : csrs.hart < 2 ^ 32
+
+-- an untouched source may have just the words of the set
+abbrev pub HasSourceSet : Setting → List ℕ → Type 0
+HasSourceSet s set = (v : ℕ) → v < 2 ^ 32 → s.sources v ≡ is_in set v

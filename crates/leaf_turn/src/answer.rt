@@ -15,6 +15,7 @@ ghost use Rattle.leaf_turn.specs.Wishes.{biases_of, mandatory_of};
 ghost use Rattle.fd_prob.specs.declared.problem.Assignment.{Assignment as AnAssignment};
 ghost use Rattle.fd_solve.specs.declared.answers.Solved.TheVariants.{Found};
 ghost use Rattle.leaf_link.specs.Answers.{values_in};
+ghost use Rattle.leaf_link.specs.Cases.{HasSources};
 ghost use Rattle.turn_laws.specs.Ahead.{AreVectors};
 ghost use Rattle.leaf_turn.specs.Answers.{IsFound};
 ghost use Rattle.rv_script.specs.Folds.{Entry};
@@ -35,7 +36,7 @@ use crate::OutOfMemory;
 use crate::built::built_leaves_are_posable;
 use crate::known::known_is_words;
 use crate::laws::{answers_are_found, rows_are_there};
-use crate::stand::{names_of, stand_of};
+use crate::stand::{names_of, sources_of, stand_of};
 use crate::wishes::{biases_of, mandatory_of};
 use fd_prob::Extra;
 use fd_solve::{LeafAnswer, solve_leaf};
@@ -85,7 +86,8 @@ pub fn answer_of(
 }
 
 /// The answer of a `do` leaf where a hart of a test stands, in RAM and without translation, with the leaf's biases. The
-/// leaf's atoms bar each operation that is not posed. The first two draws are for the entries of its fetch, the
+/// leaf's atoms bar each operation that is not posed, and writes of satp; the mandatory ones say what an untouched source
+/// may have. The first two draws are for the entries of its fetch, the
 /// others for the variables in their order. Dropped biases are told by their positions among the leaf's biases, from 0.
 pub fn leaf_answer(
     alloc: Global,
@@ -104,7 +106,7 @@ pub fn leaf_answer(
     requires plain { AllByRecursion IsPlain (atoms_of wishes.now) }
     requires built { are_built wishes.now ≡ true }
     requires vectors { AreVectors t.now.vectors }
-    ensures answer { IfOk result (λ answer. (s : Setting) (feet : List ATouch) → IsSettingOf t.now s → IsFootprint feet (footprints_of (λ k. records_of k (here part.now))) → IsTurnLeafAnswer (turn_at s feet hart (here part.now)) (hart_of hart (here part.now)).pc (mandatory_of wishes.now) (biases_of wishes.now) draws.now nodes answer) }
+    ensures answer { IfOk result (λ answer. (s : Setting) (feet : List ATouch) → IsSettingOf t.now s → HasSources (turn_at s feet hart (here part.now)) (mandatory_of wishes.now) → IsFootprint feet (footprints_of (λ k. records_of k (here part.now))) → IsTurnLeafAnswer (turn_at s feet hart (here part.now)) (hart_of hart (here part.now)).pc (mandatory_of wishes.now) (biases_of wishes.now) draws.now nodes answer) }
     ensures found { IfOk result (λ answer. (x : AnAssignment) → answer.solved ≡ Found x → IsFound hart (here part.now) (values_in x)) }
 {
     leaves_are_between();
@@ -114,6 +116,7 @@ pub fn leaf_answer(
     let atoms = mandatory_of(alloc, wishes)?;
     let biases = biases_of(alloc, wishes)?;
     let names = names_of(alloc, part, t)?;
-    let stand = stand_of(part, hart, t, &names);
+    let sources = sources_of(alloc, part, hart, t, &names, &atoms)?;
+    let stand = stand_of(part, hart, t, &names, &sources);
     answer_of(alloc, &stand, &atoms, &biases, draws, nodes)
 }

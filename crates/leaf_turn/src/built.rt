@@ -1,39 +1,77 @@
 // Which leaves are built.
 ghost use Rattle.std.specs.Prelude.{◌≡◌};
 ghost use Rattle.std.specs.List.{list_all};
-ghost use Rattle.leaf_turn.specs.Built.{BuiltLeavesArePosable, are_built, is_built, let_op, lets_op};
+ghost use Rattle.tpl_ast.specs.Leaves.{same_var, var_number};
+ghost use Rattle.leaf_turn.specs.Built.{BuiltLeavesArePosable, BuiltLeavesBarSatp, all_let, are_built, is_built, lets, may_be_satp};
 
 use leaf_pose::is_posed;
 use rv_isa::{OPS, Op};
 use tpl_ast::{Atom, Var, Wish};
 
-/// Whether an atom lets the operation be the one with a number.
-fn lets_op(atom: &Atom, number: u32) -> bool
-    ensures { result ≡ lets_op atom.now number }
+/// The address of satp (Privileged, 2.2).
+const SATP: u32 = 0x180;
+
+/// The place of a variable in their order.
+fn var_number(var: Var) -> u8
+    ensures { result ≡ var_number var }
+{
+    match var {
+        Var::Op => 0,
+        Var::Rs1 => 1,
+        Var::Rs2 => 2,
+        Var::Rd => 3,
+        Var::Imm => 4,
+        Var::Csr => 5,
+        Var::Ea => 6,
+        Var::A => 7,
+        Var::B => 8,
+        Var::Pa => 9,
+        Var::Target => 10,
+        Var::Outcome => 11,
+    }
+}
+
+/// Whether two variables are one.
+fn same_var(var: Var, other: Var) -> bool
+    ensures { result ≡ same_var var other }
+{
+    var_number(var) == var_number(other)
+}
+
+/// Whether an atom lets a variable have a value. Only its sets are looked at.
+fn lets(atom: &Atom, var: Var, value: u32) -> bool
+    ensures { result ≡ lets atom.now var value }
 {
     match atom {
-        Atom::In(Var::Op, set) => set.has(number),
-        Atom::NotIn(Var::Op, set) => !set.has(number),
+        Atom::In(of, set) if same_var(*of, var) => set.has(value),
+        Atom::NotIn(of, set) if same_var(*of, var) => !set.has(value),
         _ => true,
     }
 }
 
 /// Whether all atoms that have to hold do.
-fn let_op(wishes: &[Wish], number: u32) -> bool
-    ensures { result ≡ let_op wishes.now number }
+fn all_let(wishes: &[Wish], var: Var, value: u32) -> bool
+    ensures { result ≡ all_let wishes.now var value }
 {
     for wish in wishes {
-        if !wish.prefer && !lets_op(&wish.atom, number) {
+        if !wish.prefer && !lets(&wish.atom, var, value) {
             return false;
         }
     }
     true
 }
 
+/// Whether an operation is that of a CSR instruction, and the atoms that have to hold let its CSR be satp.
+fn may_be_satp(wishes: &[Wish], op: Op) -> bool
+    ensures { result ≡ may_be_satp wishes.now op }
+{
+    op.has_csr() && all_let(wishes, Var::Csr, SATP)
+}
+
 fn is_built(wishes: &[Wish], op: Op) -> bool
     ensures { result ≡ is_built wishes.now op }
 {
-    is_posed(op) || !let_op(wishes, u32::from(op.number()))
+    (is_posed(op) && !may_be_satp(wishes, op)) || !all_let(wishes, Var::Op, u32::from(op.number()))
 }
 
 /// Whether each of the operations is built.
@@ -48,14 +86,17 @@ fn each_is_built(wishes: &[Wish], ops: &[Op]) -> bool
     true
 }
 
-/// Whether the atoms of a leaf bar each operation that is not posed.
+/// Whether the atoms of a leaf bar each operation that is not posed, and of each CSR instruction either the operation or
+/// that its CSR is satp. So no step of such a leaf writes satp, and where no address is translated none is afterwards.
 pub fn are_built(wishes: &[Wish]) -> bool
     ensures { result ≡ are_built wishes.now }
 {
     each_is_built(wishes, &OPS)
 }
 
-/// Does nothing. Its contract says that the atoms of a leaf that is built can be posed wherever a hart stands.
+/// Does nothing. Its contract says that the atoms of a leaf that is built can be posed wherever a hart stands, and bar
+/// writes of satp.
 pub fn built_leaves_are_posable()
-    ensures { BuiltLeavesArePosable }
+    ensures posable { BuiltLeavesArePosable }
+    ensures satp { BuiltLeavesBarSatp }
 {}

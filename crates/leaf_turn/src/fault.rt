@@ -54,9 +54,9 @@ pub fn fault_answer(
     answers_are_playable();
     known_is_words(part, hart);
     let names = names_of(alloc, part, t)?;
-    let stand = stand_of(part, hart, t, &names);
-    // No page table entry is started where no address is translated.
+    // A fetch asks for no source, and no page table entry is started where no address is translated.
     let none = Set::new(alloc);
+    let stand = stand_of(part, hart, t, &names, &none);
     let listed = causes.has(1);
     let problem = fault_problem(
         alloc,

@@ -17,7 +17,7 @@ pub fn rows_are_there()
 }
 
 /// Does nothing. Its contract says that what is found for a leaf, with the biases that are kept, is the values of a
-/// candidate that can be taken, where the leaf's atoms bar each operation that is not posed.
+/// candidate that can be taken, where the leaf's atoms bar each operation that is not posed, and writes of satp.
 pub fn answers_are_found()
     ensures { AnswersAreFound }
 {

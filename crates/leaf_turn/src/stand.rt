@@ -9,19 +9,21 @@ ghost use Rattle.tpl_admit.specs.Races.{footprints_of};
 ghost use Rattle.part_machine.specs.Whole.{records_of};
 ghost use Rattle.part_state.specs.State.{here};
 ghost use Rattle.leaf_link.specs.Turns.{in_frames};
-ghost use Rattle.leaf_link.specs.Cases.{is_some_word};
+ghost use Rattle.dom_set.specs.Elements.{is_in};
+ghost use Rattle.leaf_link.specs.Cases.{all_tests, is_some_word};
 ghost use Rattle.leaf_stand.specs.Stands.{IsStandOf};
 ghost use Rattle.turn_laws.specs.Given.{Setting, turn_at};
-ghost use Rattle.leaf_turn.specs.Grounds.{AreNamesOf, IsSettingOf, IsUntranslated, is_free_fetch};
+ghost use Rattle.leaf_turn.specs.Grounds.{AreNamesOf, HasSourceSet, IsSettingOf, IsUntranslated, is_free_fetch};
 
 use crate::OutOfMemory;
+use dom_set::Set;
 use foot_map::FootMap;
 use leaf_pose::{Name, Stand};
 use part_state::Part;
 use rv_mem::{Seen, Words};
 use rv_script::Role;
 use std::alloc::Global;
-use tpl_ast::Template;
+use tpl_ast::{Atom, Template, Var};
 
 /// The names of a template, with the values that they have in a test.
 pub fn names_of<'t>(
@@ -85,12 +87,19 @@ fn word_at(part: &Part, addr: u32) -> Option<u32>
     }
 }
 
-/// What is known where a hart stands whose addresses are not translated.
-pub fn stand_of<'t>(part: &Part, hart: u8, t: &'t Template, names: &'t [Name<'t>]) -> Stand<'t>
+/// What is known where a hart stands whose addresses are not translated, and the words that an untouched source may be
+/// started with.
+pub fn stand_of<'t>(
+    part: &Part,
+    hart: u8,
+    t: &'t Template,
+    names: &'t [Name<'t>],
+    sources: &'t Set,
+) -> Stand<'t>
     requires hart { hart < length part.now.now.harts }
     requires untranslated { IsUntranslated hart (here part.now) }
     requires names { AreNamesOf t.now (here part.now) names.now }
-    ensures stand { (s : Setting) (feet : List ATouch) → IsSettingOf t.now s → IsFootprint feet (footprints_of (λ k. records_of k (here part.now))) → IsStandOf result (turn_at s feet hart (here part.now)) [] result.pc }
+    ensures stand { (s : Setting) (feet : List ATouch) → IsSettingOf t.now s → HasSourceSet s sources.now → IsFootprint feet (footprints_of (λ k. records_of k (here part.now))) → IsStandOf result (turn_at s feet hart (here part.now)) [] result.pc }
     // there are such footprints
     ensures feet { (feet : List ATouch) × IsFootprint feet (footprints_of (λ k. records_of k (here part.now))) }
     // where the pc is in RAM, its fetch is settled
@@ -107,7 +116,28 @@ pub fn stand_of<'t>(part: &Part, hart: u8, t: &'t Template, names: &'t [Name<'t>
         word,
         fetches: may_fetch(part.feet(), hart, state.pc, word, t.pool.as_slice()),
         pairs: 1,
+        sources,
         vectors: &t.vectors,
         names,
     }
+}
+
+/// The words that the atoms of a leaf leave to a source register where a hart stands whose addresses are not translated.
+pub fn sources_of(
+    alloc: Global,
+    part: &Part,
+    hart: u8,
+    t: &Template,
+    names: &[Name],
+    atoms: &[Atom],
+) -> Result<Set, OutOfMemory>
+    requires hart { hart < length part.now.now.harts }
+    requires untranslated { IsUntranslated hart (here part.now) }
+    requires names { AreNamesOf t.now (here part.now) names.now }
+    ensures { IfOk result (λ sources. (s : Setting) (feet : List ATouch) → IsSettingOf t.now s → IsFootprint feet (footprints_of (λ k. records_of k (here part.now))) → (v : ℕ) → v < 2 ^ 32 → all_tests (turn_at s feet hart (here part.now)) atoms.now Var.A v ≡ is_in sources v) }
+{
+    // What passes atoms does not rest on the sources.
+    let none = Set::new(alloc);
+    let stand = stand_of(part, hart, t, names, &none);
+    Ok(stand.passing(alloc, Set::all(alloc)?, atoms, Var::A)?)
 }

@@ -134,6 +134,7 @@ fn stand_of<'t>(
         word: word_of(rt, known),
         fetches: !known.contains("unfetched"),
         pairs: 1,
+        sources: vectors,
         vectors,
         names,
     }

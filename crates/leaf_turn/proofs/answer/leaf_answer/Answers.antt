@@ -1,8 +1,12 @@
-use Rattle.std.proofs.Common.{◌≡◌, ◌∙◌, true, All, List, Vec, Global, ap, map, subst, sym}
+use Rattle.std.proofs.Common.{◌≡◌, ◌∙◌, true, All, List, Vec, Global, ap, map, refl, subst, sym}
 use Rattle.std.proofs.lemmas.Result.{IfOk-weaker}
 use Rattle.tpl_ast.specs.declared.template.Atom.{Atom}
+use Rattle.tpl_ast.specs.declared.template.Var.TheVariants as vars
+use Rattle.dom_set.specs.Elements.{is_in}
+use Rattle.leaf_link.specs.Cases.{all_tests}
 use Rattle.leaf_stand.specs.Relations.{are_between}
 use Rattle.part_state.specs.State.{here}
+use Rattle.turn_laws.specs.Given.{turn_at}
 use Rattle.leaf_turn.proofs.Plainness.{biases_between, plain_mandatory}
 use Rattle.leaf_turn.proofs.Wholly.{answered, found_by}
 use Rattle.leaf_turn.proofs.Grounding.{setting_at, setting_is}
@@ -10,32 +14,35 @@ use Rattle.leaf_turn.proofs.answer.leaf_answer.Goals as goal
 
 pub answer_of-requires-clause-between : goal.answer_of-requires-clause-between
 answer_of-requires-clause-between c =
-    subst (λ (l : List Atom). are_between l ≡ true) (sym c.deref-2.ensures.value) (subst (λ (l : List Atom). are_between l ≡ true) (sym c.in_ok-atoms.ensures) (c.leaves_are_between.ensures _ (plain_mandatory c.args.wishes.now c.requires.plain)))
+    subst (λ (l : List Atom). are_between l ≡ true) (sym c.deref-4.ensures.value) (subst (λ (l : List Atom). are_between l ≡ true) (sym c.in_ok-atoms.ensures) (c.leaves_are_between.ensures _ (plain_mandatory c.args.wishes.now c.requires.plain)))
 
 pub answer_of-requires-clause-biases : goal.answer_of-requires-clause-biases
 answer_of-requires-clause-biases c =
-    subst (λ (bs : List (Vec Atom Global)). All (λ b. are_between b.items ≡ true) bs) (sym c.deref-3.ensures.value) (biases_between c.leaves_are_between.ensures c.args.wishes.now c.in_ok-biases.biases.items c.requires.plain c.in_ok-biases.ensures)
+    subst (λ (bs : List (Vec Atom Global)). All (λ b. are_between b.items ≡ true) bs) (sym c.deref-5.ensures.value) (biases_between c.leaves_are_between.ensures c.args.wishes.now c.in_ok-biases.biases.items c.requires.plain c.in_ok-biases.ensures)
 
 pub returns-clause-answer : goal.returns-clause-answer
 returns-clause-answer c = IfOk-weaker c.answer_of.result _ _
-    (λ answer answers s feet setting footprint.
-    answered c.stand_of-stand.result c.args.hart (here c.args.part.now) s feet c.args.wishes.now c.deref-2.result.now (map (λ b. b.items) c.deref-3.result.now) c.args.draws.now c.args.nodes answer
-    (c.deref-2.ensures.value ∙ c.in_ok-atoms.ensures) (ap (λ (bs : List (Vec Atom Global)). map (λ b. b.items) bs) c.deref-3.ensures.value ∙ c.in_ok-biases.ensures)
-    c.requires.plain c.requires.untranslated c.requires.there (c.stand_of-stand.ensures.stand s feet setting footprint) (c.stand_of-stand.ensures.fetched s feet)
+    (λ answer answers s feet setting has footprint.
+    answered c.stand_of-stand.result c.args.hart (here c.args.part.now) s feet c.args.wishes.now c.deref-4.result.now (map (λ b. b.items) c.deref-5.result.now) c.args.draws.now c.args.nodes answer
+    (c.deref-4.ensures.value ∙ c.in_ok-atoms.ensures) (ap (λ (bs : List (Vec Atom Global)). map (λ b. b.items) bs) c.deref-5.ensures.value ∙ c.in_ok-biases.ensures)
+    c.requires.plain c.requires.untranslated c.requires.there
+    (c.stand_of-stand.ensures.stand s feet setting (λ v small. has v ∙ ap (λ (l : List Atom). all_tests (turn_at s feet c.args.hart (here c.args.part.now)) l vars.A v) (sym (c.deref-2.ensures.value ∙ c.in_ok-atoms.ensures)) ∙ c.in_ok-sources.ensures s feet setting footprint v small) footprint)
+    (c.stand_of-stand.ensures.fetched s feet)
     c.known_is_words.ensures.fixed c.known_is_words.ensures.words answers)
     c.answer_of.ensures
 
 pub returns-clause-found : goal.returns-clause-found
 returns-clause-found c = IfOk-weaker c.answer_of.result _ _
     (λ answer answers x found.
-    let s = setting_at c.args.t.now in
-    let setting = setting_is c.args.t.now in
+    let s = setting_at c.args.t.now (is_in c.in_ok-sources.sources) in
+    let setting = setting_is c.args.t.now (is_in c.in_ok-sources.sources) in
     let feet = c.stand_of-stand.ensures.feet in
-    let stands = c.stand_of-stand.ensures.stand s feet.0 setting feet.1 in
+    let stands = c.stand_of-stand.ensures.stand s feet.0 setting (λ v small. refl) feet.1 in
     found_by c.stand_of-stand.result c.args.hart (here c.args.part.now) s feet.0 c.args.wishes.now c.args.draws.now c.args.nodes answer x c.answers_are_found.ensures c.requires.plain c.requires.untranslated
-    c.requires.vectors feet.1 c.requires.there stands (c.stand_of-stand.ensures.fetched s feet.0) c.known_is_words.ensures.fixed c.known_is_words.ensures.words (c.built_leaves_are_posable.ensures c.args.wishes.now c.requires.built c.stand_of-stand.result)
-    (answered c.stand_of-stand.result c.args.hart (here c.args.part.now) s feet.0 c.args.wishes.now c.deref-2.result.now (map (λ b. b.items) c.deref-3.result.now) c.args.draws.now c.args.nodes answer
-    (c.deref-2.ensures.value ∙ c.in_ok-atoms.ensures) (ap (λ (bs : List (Vec Atom Global)). map (λ b. b.items) bs) c.deref-3.ensures.value ∙ c.in_ok-biases.ensures)
+    c.requires.vectors feet.1 c.requires.there stands (c.stand_of-stand.ensures.fetched s feet.0) c.known_is_words.ensures.fixed c.known_is_words.ensures.words (c.built_leaves_are_posable.ensures.posable c.args.wishes.now c.requires.built c.stand_of-stand.result)
+    (c.built_leaves_are_posable.ensures.satp c.args.wishes.now c.requires.built (turn_at s feet.0 c.args.hart (here c.args.part.now)))
+    (answered c.stand_of-stand.result c.args.hart (here c.args.part.now) s feet.0 c.args.wishes.now c.deref-4.result.now (map (λ b. b.items) c.deref-5.result.now) c.args.draws.now c.args.nodes answer
+    (c.deref-4.ensures.value ∙ c.in_ok-atoms.ensures) (ap (λ (bs : List (Vec Atom Global)). map (λ b. b.items) bs) c.deref-5.ensures.value ∙ c.in_ok-biases.ensures)
     c.requires.plain c.requires.untranslated c.requires.there stands (c.stand_of-stand.ensures.fetched s feet.0)
     c.known_is_words.ensures.fixed c.known_is_words.ensures.words answers)
     found)

@@ -1,5 +1,8 @@
-use Rattle.leaf_turn.proofs.Building.{built_leaves_are_posable}
+use Rattle.leaf_turn.proofs.Building.{built_leaves_are_posable, built_leaves_bar_satp}
 use Rattle.leaf_turn.proofs.built.built_leaves_are_posable.Goals as goal
 
-pub returns : goal.returns
-returns c = built_leaves_are_posable
+pub returns-clause-posable : goal.returns-clause-posable
+returns-clause-posable c = built_leaves_are_posable
+
+pub returns-clause-satp : goal.returns-clause-satp
+returns-clause-satp c = built_leaves_bar_satp

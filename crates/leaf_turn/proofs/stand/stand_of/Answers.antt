@@ -8,7 +8,7 @@ use Rattle.leaf_turn.proofs.Grounding.{fetch_is_settled, stand_tells}
 use Rattle.leaf_turn.proofs.stand.stand_of.Goals as goal
 
 pub returns-clause-stand : goal.returns-clause-stand
-returns-clause-stand c = λ s feet setting footprint.
+returns-clause-stand c = λ s feet setting sources footprint.
     stand_tells c.args.t.now c.args.hart (here c.args.part.now) c.feet.result.now _ s feet c.is_test.ensures c.requires.hart c.requires.untranslated (record {
       hart = c.hart-state.ensures;
       aligned = c.hart-state.result.now.aligned;
@@ -18,7 +18,7 @@ returns-clause-stand c = λ s feet setting footprint.
       vectors = refl;
       names = c.requires.names;
       footprint = c.feet.ensures;
-    }) setting footprint
+    }) setting sources footprint
 
 pub returns-clause-fetched : goal.returns-clause-fetched
 returns-clause-fetched c = λ s feet there.

@@ -1,0 +1,4 @@
+pub mod Accessed
+pub mod Using
+pub mod Refusing
+pub mod Counted
