@@ -25,6 +25,8 @@ struct Times {
     lost: [u32; 14],
     /// Up to when each relation knows which values are left.
     asked: Vec<u32>,
+    /// When each relation had taken what it took when it was last asked.
+    done: Vec<u32>,
     now: u32,
     /// Whether a variable has lost its last value.
     ended: bool,
@@ -38,6 +40,14 @@ fn is_done_at_once(rel: &Rel, before: &[u64; 14]) -> bool {
         Rel::Sum(s, t, _) => before[s.number()] == 1 || before[t.number()] == 1,
         Rel::Target(..) => before[Slot::A.number()] == 1 || before[Slot::Imm.number()] == 1,
         _ => false,
+    }
+}
+
+/// The time of a relation, 0 where it has none.
+fn time_of(times: &[u32], number: usize) -> u32 {
+    match times.get(number) {
+        Some(time) => *time,
+        None => 0,
     }
 }
 
@@ -57,29 +67,38 @@ impl Times {
             }
         }
         let mut asked = Vec::new(alloc);
+        let mut done = Vec::new(alloc);
         for number in 0..count {
             asked.push(if number < known { 1 } else { 0 })?;
+            done.push(0)?;
         }
         Ok(Times {
             lost,
             asked,
+            done,
             now: 2,
             ended: false,
         })
     }
 
-    /// Whether the relation may look at a variable that lost values which it does not know of.
-    fn is_touched(&self, rel: &Rel, number: usize) -> bool {
-        let asked = match self.asked.get(number) {
-            Some(time) => *time,
-            None => 0,
-        };
+    /// Whether the relation may look at a variable that lost values later than then.
+    fn has_lost_since(&self, rel: &Rel, time: u32) -> bool {
         for place in 0..14 {
-            if self.lost[place] > asked && mentions(rel, SLOTS[place]) {
+            if self.lost[place] > time && mentions(rel, SLOTS[place]) {
                 return true;
             }
         }
         false
+    }
+
+    /// Whether the relation may look at a variable that lost values which it does not know of.
+    fn is_touched(&self, rel: &Rel, number: usize) -> bool {
+        self.has_lost_since(rel, time_of(&self.asked, number))
+    }
+
+    /// Whether, since the relation was last asked, no other one took values from a variable at which it may look.
+    fn is_left_alone(&self, rel: &Rel, number: usize) -> bool {
+        !self.has_lost_since(rel, time_of(&self.done, number))
     }
 
     /// Notes what a relation took away, by the sizes of domains before it was asked and after.
@@ -98,6 +117,9 @@ impl Times {
         }
         if number < self.asked.len() {
             self.asked[number] = time;
+        }
+        if number < self.done.len() {
+            self.done[number] = self.now;
         }
     }
 }
@@ -185,7 +207,7 @@ impl Domains {
             return Ok(());
         }
         let before = self.sizes(rel);
-        self.narrow_by(alloc, op, rel)?;
+        self.narrow_by(alloc, op, rel, times.is_left_alone(rel, number))?;
         times.note(rel, number, &before, &self.sizes(rel));
         Ok(())
     }
@@ -201,14 +223,21 @@ impl Domains {
         sizes
     }
 
-    /// Takes from the domains what one relation rules out.
-    fn narrow_by(&mut self, alloc: Global, op: Op, rel: &Rel) -> Result<(), OutOfMemory>
+    /// Takes from the domains what one relation rules out; `alone` says that since it was last asked no other one took values
+    /// from its variables.
+    fn narrow_by(
+        &mut self,
+        alloc: Global,
+        op: Op,
+        rel: &Rel,
+        alone: bool,
+    ) -> Result<(), OutOfMemory>
         ensures { OnOk result (Leaves (λ x. IsTrue (holds op x rel.now)) self.old self.new) }
     {
         match rel {
             Rel::Same(s, t) => self.narrow_same(alloc, *s, *t),
             Rel::Differ(s, t) => self.narrow_different(alloc, *s, *t),
-            Rel::Sum(s, t, sum) => self.narrow_sum(alloc, *s, *t, *sum),
+            Rel::Sum(s, t, sum) => self.narrow_sum(alloc, *s, *t, *sum, alone),
             Rel::Taken(taken) => self.narrow_taken(alloc, op, *taken),
             Rel::Holds {
                 index,

@@ -58,6 +58,24 @@ impl Domains {
         self.cut(alloc, s, &parts)
     }
 
+    /// Cuts a variable to what leads to the sum when the other is added, but for an immediate whose sum was asked before and
+    /// was left alone since: then each of its values leads from a value of the other to one of the sum, and these were kept.
+    fn narrow_touched(
+        &mut self,
+        alloc: Global,
+        s: Slot,
+        t: Slot,
+        sum: Slot,
+        alone: bool,
+    ) -> Result<(), OutOfMemory>
+        ensures { OnOk result (Leaves (λ x. IsTrue (is_sum x s t sum)) self.old self.new) }
+    {
+        if alone && s == Slot::Imm {
+            return Ok(());
+        }
+        self.narrow_part(alloc, s, t, sum)
+    }
+
     /// The first two of three variables add up to the third.
     fn narrow_parts(
         &mut self,
@@ -65,21 +83,24 @@ impl Domains {
         s: Slot,
         t: Slot,
         sum: Slot,
+        alone: bool,
     ) -> Result<(), OutOfMemory>
         ensures { OnOk result (Leaves (λ x. IsTrue (is_sum x s t sum)) self.old self.new) }
     {
         self.narrow_total(alloc, s, t, sum)?;
-        self.narrow_part(alloc, s, t, sum)?;
-        self.narrow_part(alloc, t, s, sum)
+        self.narrow_touched(alloc, s, t, sum, alone)?;
+        self.narrow_touched(alloc, t, s, sum, alone)
     }
 
-    /// The first two variables add up to the third, modulo 2^32.
+    /// The first two variables add up to the third, modulo 2^32; `alone` says that this was asked before, and that since then
+    /// nothing else took values from the three.
     pub(crate) fn narrow_sum(
         &mut self,
         alloc: Global,
         s: Slot,
         t: Slot,
         sum: Slot,
+        alone: bool,
     ) -> Result<(), OutOfMemory>
         ensures { OnOk result (Leaves (λ x. IsTrue (is_sum x s t sum)) self.old self.new) }
     {
@@ -90,7 +111,7 @@ impl Domains {
         } else if s == t {
             self.narrow_doubled(alloc, s, sum)
         } else {
-            self.narrow_parts(alloc, s, t, sum)
+            self.narrow_parts(alloc, s, t, sum, alone)
         }
     }
 }
