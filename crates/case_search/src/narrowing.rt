@@ -6,7 +6,7 @@ ghost use Rattle.case_search.specs.Equivalent.{IsEquivalent};
 use crate::stronger::{can_be_stronger, stronger};
 use dom_set::OutOfMemory;
 use fd_narrow::{Domains, Losses};
-use fd_prob::{Case, Items};
+use fd_prob::{Case, Items, Rel};
 use std::alloc::Global;
 
 /// A case with at most one relation of rows.
@@ -20,6 +20,17 @@ fn with_one_row(alloc: Global, case: &Case) -> Result<Case, OutOfMemory>
     }
     let same = case.copy(alloc)?;
     Ok(same)
+}
+
+/// How many of the first relations, `known`, are not of rows. Where relations of rows are joined, these stay the first ones.
+pub(crate) fn known_others(rels: &[Rel], known: usize) -> usize {
+    let mut count: usize = 0;
+    for (number, rel) in rels.iter().enumerate() {
+        if number < known && !matches!(rel, Rel::Rows(_)) {
+            count = count.saturating_add(1);
+        }
+    }
+    count
 }
 
 /// The case with relations from which more follows at once.
@@ -78,8 +89,14 @@ pub fn narrow_again(
     requires { IsCase case }
     ensures { IfOk result (IsEquivalent case) }
 {
-    if case.has_several_rows() || can_be_stronger(&case) {
+    if can_be_stronger(&case) {
         return narrow_case(alloc, &case);
+    }
+    if case.has_several_rows() {
+        let others = known_others(case.rels.as_slice(), known);
+        let joined = with_one_row(alloc, &case)?;
+        let narrow = with_narrow_domains(alloc, joined, others, losses)?;
+        return Ok(narrow);
     }
     with_narrow_domains(alloc, case, known, losses)
 }

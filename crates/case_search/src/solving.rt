@@ -4,6 +4,7 @@ ghost use Rattle.fd_prob.specs.Fitting.{IsCase};
 ghost use Rattle.case_search.specs.Search.{IsMadeOf, LeastOrNone};
 
 use crate::classes::are_contradictory;
+use crate::narrowing::known_others;
 use crate::search::{search, with_value};
 use crate::stronger::{can_be_stronger, stronger};
 use dom_set::OutOfMemory;
@@ -86,8 +87,14 @@ pub fn solve_again(
     requires { IsCase case.now }
     ensures { IfOk result (LeastOrNone pivots.now (IsMadeOf case.now)) }
 {
-    if case.has_several_rows() || can_be_stronger(case) || are_contradictory(case.rels.as_slice()) {
+    if can_be_stronger(case) || are_contradictory(case.rels.as_slice()) {
         return solve_case(alloc, case, pivots);
+    }
+    if case.has_several_rows() {
+        let others = known_others(case.rels.as_slice(), known);
+        let joined = case.joined(alloc)?;
+        let least = least_of(alloc, &joined, pivots, others, losses)?;
+        return Ok(least);
     }
     least_of(alloc, case, pivots, known, losses)
 }

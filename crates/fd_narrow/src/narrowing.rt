@@ -43,6 +43,22 @@ fn is_done_at_once(rel: &Rel, before: &[u64; 14]) -> bool {
     }
 }
 
+/// Whether the relation is one of a sum: ranges that it cuts at their ends may rule each other out number by number.
+fn is_of_sum(rel: &Rel) -> bool {
+    matches!(rel, Rel::Sum(..) | Rel::Target(..))
+}
+
+/// Whether some variable lost as large a part of its values as would leave none after so many passes as there are at most.
+fn has_lost_much(before: &[u64; 14], after: &[u64; 14]) -> bool {
+    for place in 0..14 {
+        let lost = before[place].saturating_sub(after[place]);
+        if lost > 0 && lost.saturating_mul(PASSES as u64) >= before[place] {
+            return true;
+        }
+    }
+    false
+}
+
 /// The time of a relation, 0 where it has none.
 fn time_of(times: &[u32], number: usize) -> u32 {
     match times.get(number) {
@@ -101,8 +117,15 @@ impl Times {
         !self.has_lost_since(rel, time_of(&self.done, number))
     }
 
+    /// Whether a relation of a sum that was just asked again, though no other one took values from its variables, took so
+    /// little that it is not asked once more for that alone.
+    fn is_creeping(&self, rel: &Rel, number: usize, before: &[u64; 14], after: &[u64; 14]) -> bool {
+        is_of_sum(rel) && self.is_left_alone(rel, number) && !has_lost_much(before, after)
+    }
+
     /// Notes what a relation took away, by the sizes of domains before it was asked and after.
     fn note(&mut self, rel: &Rel, number: usize, before: &[u64; 14], after: &[u64; 14]) {
+        let is_over = is_done_at_once(rel, before) || self.is_creeping(rel, number, before, after);
         let mut time = self.now;
         let next = self.now.saturating_add(1);
         for place in 0..14 {
@@ -112,7 +135,7 @@ impl Times {
                 self.ended = self.ended || after[place] == 0;
             }
         }
-        if is_done_at_once(rel, before) {
+        if is_over {
             time = self.now;
         }
         if number < self.asked.len() {

@@ -18,7 +18,7 @@ use Rattle.leaf_link.specs.Fetches.{fetch_places}
 use Rattle.leaf_link.specs.Turns.{Turn}
 use Rattle.leaf_link.specs.Values.{Values, new_places}
 use Rattle.leaf_turn.specs.Answers.{IsPlayable, TakingsAreOne}
-use Rattle.leaf_turn.specs.Built.{BuiltLeavesArePosable, BuiltLeavesBarSatp}
+use Rattle.leaf_turn.specs.Built.{BuiltLeavesBarSatp}
 use Rattle.leaf_turn.specs.Finding.{AnswersAreFound, FaultsArePlayable, FoundArePlayable}
 use Rattle.leaf_turn.specs.Wishes.{biases_of, mandatory_of}
 use Rattle.gen_search.specs.Laws.{HasOneAnswer}
@@ -39,7 +39,7 @@ one_taken law k ws dropped x old one other test l can a b =
     (with_names (names_bound (λ v. value_of v (moment_at k x (same.0 i) old)) dropped 0 ws (same.1 i).names) (same.1 i)))
     ∙ sym b.is
 
-module _ (leaves : LeafAnswersAgree) (fetches : FetchAnswersAgree) (faults : FaultAnswersAgree) (takings : TakingsAreOne) (found_law : AnswersAreFound) (posable : BuiltLeavesArePosable) (barred : BuiltLeavesBarSatp) (are_playable : FoundArePlayable) (faults_playable : FaultsArePlayable) where
+module _ (leaves : LeafAnswersAgree) (fetches : FetchAnswersAgree) (faults : FaultAnswersAgree) (takings : TakingsAreOne) (found_law : AnswersAreFound) (barred : BuiltLeavesBarSatp) (are_playable : FoundArePlayable) (faults_playable : FaultsArePlayable) where
   -- answers that say the same make one test
   one_ending : (d : Drafted) (k : ℕ) (g : IsGround d k) (ws : List Wish) (dropped drops : List (ℕ × Bool)) (places : Values → Known) (s u : Solved) (one other : Turned Drafted)
       → ((x : Assignment) → s ≡ answers.Found x → IsPlayable k d.now (values_in x)) → AreSame places s u → dropped ≡ drops → EndsAs d k ws dropped s one → EndsAs d k ws drops u other → one ≡ other
@@ -59,13 +59,13 @@ module _ (leaves : LeafAnswersAgree) (fetches : FetchAnswersAgree) (faults : Fau
   one_ending d k g ws dropped drops places answers.Spent (answers.Found y) one other can same listed ends ends_so = absurd same
   one_ending d k g ws dropped drops places answers.Spent answers.NoneFits one other can same listed ends ends_so = absurd same
 
-  module _ (d : Drafted) (k : ℕ) (g : IsGround d k) (ws : List Wish) (built : IsBuilt (length d.template.names) ws) (draws : List ℕ) (one other : Turned Drafted) where
+  module _ (d : Drafted) (k : ℕ) (g : IsGround d k) (ws : List Wish) (built : IsBuilt k (length d.template.names) ws) (draws : List ℕ) (one other : Turned Drafted) where
     one_answer : IsAnswered d k g ws built draws one → IsAnswered d k g ws built draws other → one ≡ other
     one_answer a b =
         let t : Turn = turn d k g ws built in
         let agree = leaves t [] (pc d k g ws built) (mandatory_of ws) (biases_of ws) draws d.nodes a.answer b.answer (posed d k g ws built a.fetched) (biases_are_plain d k g ws built) a.is b.is in
         one_ending d k g ws a.answer.dropped b.answer.dropped (new_places t.fixed t.known) a.answer.solved b.answer.solved one other
-        (λ x is. are_playable k d.now (values_in x) (found d k g ws built found_law posable barred draws one a x is)) agree.0 agree.1 a.ends b.ends
+        (λ x is. are_playable k d.now (values_in x) (found d k g ws built found_law barred draws one a x is)) agree.0 agree.1 a.ends b.ends
 
     one_end : (s u : Solved) → AreSame (fetch_places (turn d k g ws built)) s u → GoesOn d k ws draws s one → GoesOn d k ws draws u other → one ≡ other
     one_end (answers.Found x) (answers.Found y) same a b = one_answer (answered d k g ws built draws (values_in x) one a) (answered d k g ws built draws (values_in y) other b)

@@ -62,6 +62,7 @@ module _ (t : Template) (nodes : ℕ) where
     few = g.few;
     names = same.names ∙ g.names;
     few_names = g.few_names;
+    frames = g.frames;
     vectors = g.vectors;
     untranslated = same.satp k ∙ g.untranslated;
     test = same.test g.test;

@@ -28,7 +28,7 @@ use Rattle.gen_turn.specs.Turns.{EndsAs, IsFailed, IsLeafTaken}
 use Rattle.gen_turn.proofs.Failing.{plain}
 use Rattle.gen_turn.proofs.Listing.{place_of_step}
 use Rattle.gen_turn.proofs.StepDone.{AreListedBehind, IsStepDone, dropped_after, names_after, record_done, same_taken, step_done}
-use Rattle.gen_turn.proofs.WordCounts.{one_word, words_in}
+use Rattle.gen_turn.proofs.WordCounts.{two_words, words_in}
 
 -- the step was made, and its fetch failed with a listed cause
 pub record IsFaultDone (sets : ℕ → List ℕ) (k : ℕ) (causes : List ℕ) (old after : Whole) : Type 0 where
@@ -63,8 +63,8 @@ module _ (d : Drafted) (k : ℕ) (g : IsGround d k) (causes draws : List ℕ) wh
         none_new (t.known (Word a)) u
         (sym (l.taken.places.listed (Word a) ∙ answer.1.is.exact (Word a) ∙ ap (λ (es : List Entry). started t.known es (Word a)) trap.log_is) ∙ h)
 
-    few_words : words_in l.taken.places.places ≤ 1
-    few_words = one_word k 0 l.taken.places.places d.now g.test g.hart refl l.taken.places.can (λ a u h. absurd (no_word a u h))
+    few_words : words_in l.taken.places.places ≤ 2
+    few_words = two_words k 0 0 l.taken.places.places d.now g.test g.hart refl refl l.taken.places.can (λ a u h. absurd (no_word a u h))
 
     nothing_listed : AreListedBehind k d.now after.dropped
     nothing_listed harts few small = (

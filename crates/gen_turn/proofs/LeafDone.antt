@@ -34,16 +34,16 @@ use Rattle.leaf_link.specs.Answers.{values_in}
 use Rattle.leaf_link.specs.Candidates.{IsCandidate, accesses_in, all_met, is_met, is_named, moment_of, registers_from}
 use Rattle.leaf_link.specs.Extras.{IsTurnLeafAnswer}
 use Rattle.leaf_link.specs.Firsts.{IsTurnAnswer}
-use Rattle.leaf_link.specs.Placing.{NewWordsAreFetched}
+use Rattle.leaf_link.specs.Placing.{AreTwoWords, NewWordsAreTwo}
 use Rattle.leaf_link.specs.Turns.{Turn}
 use Rattle.leaf_link.specs.Values.{Values}
 use Rattle.leaf_link.specs.Ways.{IsFetched}
-use Rattle.turn_laws.specs.Given.{given_to, known_at, turn_at}
+use Rattle.turn_laws.specs.Given.{known_at, turn_at}
 use Rattle.turn_laws.specs.Laws.{IsStartOn}
 use Rattle.turn_laws.proofs.Places.{known}
 use Rattle.turn_laws.proofs.Starts.{start_then}
 use Rattle.leaf_turn.specs.Answers.{IsFound, new_at}
-use Rattle.leaf_turn.specs.Built.{BuiltLeavesArePosable, BuiltLeavesBarSatp}
+use Rattle.leaf_turn.specs.Built.{BuiltLeavesBarSatp}
 use Rattle.leaf_turn.specs.Finding.{AnswersAreFound}
 use Rattle.leaf_turn.specs.Grounds.{declared_set}
 use Rattle.leaf_turn.specs.Wishes.{biases_of, mandatory_of, retires}
@@ -60,7 +60,7 @@ use Rattle.gen_turn.proofs.SmallValues.{value_small}
 use Rattle.gen_turn.proofs.Settling.{IsAnswered, answered, found}
 use Rattle.gen_turn.proofs.StepDone.{AreListedBehind, IsStepDone, same_taken}
 use Rattle.gen_turn.proofs.StepDone as steps
-use Rattle.gen_turn.proofs.WordCounts.{one_word, words_in}
+use Rattle.gen_turn.proofs.WordCounts.{two_words, words_in}
 
 -- ---- what the end knows of a test before it
 
@@ -129,7 +129,7 @@ registers_same f g first (suc n) same = λ i. same (Reg first) i ∷ registers_s
 
 -- ---- what a turn that is taken was made of
 
-module _ (d : Drafted) (k : ℕ) (g : IsGround d k) (ws : List Wish) (built : IsBuilt (length d.template.names) ws) (draws : List ℕ) where
+module _ (d : Drafted) (k : ℕ) (g : IsGround d k) (ws : List Wish) (built : IsBuilt k (length d.template.names) ws) (draws : List ℕ) where
   -- its leaf was answered where the hart stands, and the step of the answer was taken
   pub record IsTurn (after : Whole) : Type 0 where
     pub fetched : IsFetched (turn_of d (mandatory_of ws) k) [] (hart_of k d.now).pc
@@ -140,7 +140,7 @@ module _ (d : Drafted) (k : ℕ) (g : IsGround d k) (ws : List Wish) (built : Is
     pub found_is : IsFound k d.now (values_in values)
     pub taken : IsLeafTaken k ws answer.dropped (values_in values) d.now after
 
-  module _ (found_law : AnswersAreFound) (posable : BuiltLeavesArePosable) (barred : BuiltLeavesBarSatp) where
+  module _ (found_law : AnswersAreFound) (barred : BuiltLeavesBarSatp) where
     answer_made : (e : Drafted) → IsAnswered d k g ws built draws (Taken e) → IsTurn e.now
     answer_made e a = go a.answer.solved refl a.ends
       where
@@ -151,7 +151,7 @@ module _ (d : Drafted) (k : ℕ) (g : IsGround d k) (ws : List Wish) (built : Is
           is = a.is;
           values = x;
           found = is;
-          found_is = found d k g ws built found_law posable barred draws (Taken e) a x is;
+          found_is = found d k g ws built found_law barred draws (Taken e) a x is;
           taken = subst (IsLeafTaken k ws a.answer.dropped (values_in x) d.now) (sym (ap (λ (f : Drafted). f.now) (same_taken e (at_test d ends.0) ends.2))) ends.1;
         }
         go answers.NoneFits is ends = absurd (cc ends)
@@ -167,7 +167,7 @@ module _ (d : Drafted) (k : ℕ) (g : IsGround d k) (ws : List Wish) (built : Is
 
 -- ---- what it did
 
-module _ (met_are_true : MetAreTrue) (are_fetched : StepsAreFetched) (words_are_fetched : NewWordsAreFetched) (d : Drafted) (k : ℕ) (ws : List Wish) (ground : IsGround d k) (built : IsBuilt (length d.template.names) ws) (draws : List ℕ) (after : Whole)
+module _ (met_are_true : MetAreTrue) (are_fetched : StepsAreFetched) (words_are_two : NewWordsAreTwo) (d : Drafted) (k : ℕ) (ws : List Wish) (ground : IsGround d k) (built : IsBuilt k (length d.template.names) ws) (draws : List ℕ) (after : Whole)
     (turn : IsTurn d k ground ws built draws after) where
   abbrev old : Whole
   old = d.now
@@ -224,18 +224,16 @@ module _ (met_are_true : MetAreTrue) (are_fetched : StepsAreFetched) (words_are_
     listed_between harts k (length (records_of k old)) ws few small built.short t pc draws d.nodes (mandatory_of ws) (record { atoms = turn.is.0; dropped = turn.answer.dropped }) turn.is.1,
   )
 
-  -- the fetched word alone is new
+  -- the fetched word and that of the data access alone are new
 
-  few_words : words_in es ≤ 1
-  few_words = one_word k turn.found_is.pa es old ground.test ground.hart aligned l.taken.places.can only_fetched
+  few_words : words_in es ≤ 2
+  few_words = two_words k turn.found_is.pa two.other es old ground.test ground.hart aligned two.aligned l.taken.places.can (λ a u h. two.either a u (sym (l.taken.places.listed (Word a)) ∙ h))
     where
       aligned : turn.found_is.pa % 4 ≡ 0
       aligned = offset_kept _ _ _ _ _ turn.found_is.walk turn.found_is.pa turn.found_is.fetched.translates ∙ turn.found_is.fetched.aligned
 
-      only_fetched : (a u : ℕ) → given_to es (Word a) ≡ Some u → a ≡ turn.found_is.pa
-      only_fetched a u h =
-          words_are_fetched (turn_at turn.found_is.setting turn.found_is.feet k old) turn.found_is.walk turn.found_is.pa turn.found_is.leaf (new_at k old x) turn.found_is.fetched turn.found_is.candidate turn.found_is.inner a u
-          (sym (l.taken.places.listed (Word a)) ∙ h)
+      two : AreTwoWords (new_at k old x) turn.found_is.pa
+      two = words_are_two (turn_at turn.found_is.setting turn.found_is.feet k old) turn.found_is.walk turn.found_is.pa turn.found_is.leaf (new_at k old x) turn.found_is.fetched turn.found_is.plain turn.found_is.candidate
 
   -- the candidate
 

@@ -14,8 +14,8 @@ use Rattle.part_state.specs.Meaning.{IsTest}
 use Rattle.part_state.specs.State.{data_of, whole}
 use Rattle.part_state.proofs.States.{whole_again}
 use Rattle.leaf_link.specs.Admitted.{MetAreTrue, StepsAreFetched}
-use Rattle.leaf_link.specs.Placing.{NewWordsAreFetched}
-use Rattle.leaf_turn.specs.Built.{BuiltLeavesArePosable, BuiltLeavesBarSatp}
+use Rattle.leaf_link.specs.Placing.{NewWordsAreTwo}
+use Rattle.leaf_turn.specs.Built.{BuiltLeavesBarSatp}
 use Rattle.leaf_turn.specs.Finding.{AnswersAreFound}
 use Rattle.leaf_turn.specs.Grounds.{declared_set}
 use Rattle.gen_search.specs.declared.draws.Tally.{Tally}
@@ -128,10 +128,10 @@ EndsInWay t all k todo s (GaveUp u) = Unit {0}
 one_piece : (p : Tagged) (l : LaidOut) (ps : List Tagged) → l ≡ record { pieces = ps; left = Some [] } → ◌≡◌ {A = LaidOut} (record { pieces = p ∷ l.pieces; left = l.left }) (record { pieces = p ∷ ps; left = Some [] })
 one_piece p l ps h = ap (λ (m : LaidOut). record { pieces = p ∷ m.pieces; left = m.left }) h
 
-module _ (met_are_true : MetAreTrue) (are_fetched : StepsAreFetched) (words_are_fetched : NewWordsAreFetched) (found_law : AnswersAreFound) (posable : BuiltLeavesArePosable) (barred : BuiltLeavesBarSatp) (still : StillAllows can_be_taken draft_rules) (t : Template) (turns : ℕ) where
-  done_by : (s : Shown) (k : ℕ) (ws : Vec Wish Global) (can : IsGround (draft_of s) k × IsBuilt (length s.template.names) ws.items) (e : Drafted) (draws : List ℕ) → IsDone (draft_of s) k ws.items draws (Taken e) → IsLeafDone (sets_of s.template) k ws.items (whole s.now) e.now
+module _ (met_are_true : MetAreTrue) (are_fetched : StepsAreFetched) (words_are_two : NewWordsAreTwo) (found_law : AnswersAreFound) (barred : BuiltLeavesBarSatp) (still : StillAllows can_be_taken draft_rules) (t : Template) (turns : ℕ) where
+  done_by : (s : Shown) (k : ℕ) (ws : Vec Wish Global) (can : IsGround (draft_of s) k × IsBuilt k (length s.template.names) ws.items) (e : Drafted) (draws : List ℕ) → IsDone (draft_of s) k ws.items draws (Taken e) → IsLeafDone (sets_of s.template) k ws.items (whole s.now) e.now
   done_by s k ws can e draws is =
-      leaf_done met_are_true are_fetched words_are_fetched (draft_of s) k ws.items can.0 can.1 draws e.now (turn_made (draft_of s) k can.0 ws.items can.1 draws found_law posable barred e is)
+      leaf_done met_are_true are_fetched words_are_two (draft_of s) k ws.items can.0 can.1 draws e.now (turn_made (draft_of s) k can.0 ws.items can.1 draws found_law barred e is)
 
   -- behind a turn that is taken is the test that it made
   taken_is : (next : Shown) (e : Drafted) → Taken next ≡ turn_shown (Taken e) → IsTest e.now → whole next.now ≡ e.now

@@ -1,10 +1,11 @@
 -- The leaves and labels of a template that is built can be taken on the test that begins as it says.
-use Rattle.std.proofs.Common.{◌≡◌, ℕ, suc, ◌+◌, ◌<◌, ◌&&◌, Bool, true, List, [], ◌∷◌, ◌++◌, length, map, leb, None, refl, sym, ap, ◌∙◌, subst, arith}
+use Rattle.std.proofs.Common.{◌≡◌, ℕ, suc, ◌+◌, ◌<◌, ◌%◌, ◌&&◌, Bool, true, false, eqb, List, [], ◌∷◌, ◌++◌, length, map, leb, None, refl, sym, ap, ◌∙◌, subst, arith}
 use Rattle.std.specs.Prelude.{Vec, slice_index_or}
 use Rattle.std.specs.Global.{Global}
 use Rattle.std.specs.List.{AllByRecursion}
-use Rattle.std.proofs.lemmas.Bool.{and_parts, eqb-true, leb-true, ltb-true}
+use Rattle.std.proofs.lemmas.Bool.{and_parts, eqb-true, leb-true, ltb-true, ne_eqb}
 use Rattle.std.proofs.lemmas.List.{length-replicate}
+use Rattle.std.proofs.lemmas.List.Elements.{All-from_recursion}
 use Rattle.tpl_ast.specs.declared.template.HartDecl.{HartDecl}
 use Rattle.tpl_ast.specs.declared.template.Item.{Item}
 use Rattle.tpl_ast.specs.declared.template.Item.TheFolds.{fold-roll-Item, ind-Item, map-Item}
@@ -17,7 +18,7 @@ use Rattle.tpl_ast.specs.declared.template.Template.{Template}
 use Rattle.tpl_ast.specs.declared.template.Wish.{Wish}
 use Rattle.tpl_ast.specs.Choices.{all_true, all_ways, weight_of}
 use Rattle.tpl_ast.specs.Leaves.{is_leaf}
-use Rattle.tpl_ast.specs.Templates.{IsBody, KeepsLimits, are_weights, stands, stands_in}
+use Rattle.tpl_ast.specs.Templates.{IsBody, IsFrame, KeepsLimits, are_weights, stands, stands_in}
 use Rattle.tpl_ast.proofs.Proved.{Proved, items_of}
 use Rattle.tpl_ast.specs.declared.template.HartState.{HartState}
 use Rattle.tpl_ast.specs.Laws.{LeavesAreKnown, TemplatesKeepLimits}
@@ -26,6 +27,7 @@ use Rattle.part_machine.specs.Whole.{Whole}
 use Rattle.part_state.specs.Beginning.{IsBegun, start_in}
 use Rattle.part_state.specs.Meaning.{IsTest}
 use Rattle.tpl_admit.specs.Starts.{no_state}
+use Rattle.data_bytes.specs.Frames.{AreFrames}
 use Rattle.gen_search.specs.Ready.{AreAllowed, AreReady, joined, joined_ways, parts_in, parts_of}
 use Rattle.gen_search.specs.Search.{all_items, of_hart}
 use Rattle.leaf_turn.specs.Built.{are_built}
@@ -36,12 +38,12 @@ use Rattle.gen_turn.proofs.FirstWords.{first_words}
 
 -- ---- a choice
 
-ways_are : (g : ℕ × Vec Item Global → ℕ × Vec Bool Global) → ((w : ℕ × Vec Item Global) → (g w).1.items ≡ map is_item_built w.1.items) → (ws : List (ℕ × Vec Item Global)) → all_ways (map g ws) ≡ are_ways_built ws
-ways_are g inner [] = refl
-ways_are g inner (w ∷ ws) = λ i. all_true (inner w i) && ways_are g inner ws i
+ways_are : (alone : Bool) (g : ℕ × Vec Item Global → ℕ × Vec Bool Global) → ((w : ℕ × Vec Item Global) → (g w).1.items ≡ map (is_item_built alone) w.1.items) → (ws : List (ℕ × Vec Item Global)) → all_ways (map g ws) ≡ are_ways_built alone ws
+ways_are alone g inner [] = refl
+ways_are alone g inner (w ∷ ws) = λ i. all_true (inner w i) && ways_are alone g inner ws i
 
-pub choose_built : (line : ℕ) (ways : Vec (ℕ × Vec Item Global) Global) → is_item_built (views.Choose line ways) ≡ are_ways_built ways.items
-choose_built line ways = ap is_item_built (sym (variants.rolls-Choose line ways)) ∙ fold-roll-Item Bool built_in (layers.Choose line ways) ∙ ways_are _ (λ w. refl) ways.items
+pub choose_built : (alone : Bool) (line : ℕ) (ways : Vec (ℕ × Vec Item Global) Global) → is_item_built alone (views.Choose line ways) ≡ are_ways_built alone ways.items
+choose_built alone line ways = ap (is_item_built alone) (sym (variants.rolls-Choose line ways)) ∙ fold-roll-Item Bool (built_in alone) (layers.Choose line ways) ∙ ways_are alone _ (λ w. refl) ways.items
 
 -- ---- one item
 
@@ -49,14 +51,14 @@ allowed_append : (can : ℕ → Item → Type 0) (k : ℕ) (xs ys : List Item) �
 allowed_append can k [] ys a b = b
 allowed_append can k (x ∷ xs) ys a b = (a.0, allowed_append can k xs ys a.1 b)
 
-module _ (can : ℕ → Item → Type 0) (k n : ℕ)
-    (leaf_can : (line : ℕ) (ws : Vec Wish Global) → is_leaf n ws.items ≡ true → are_built ws.items ≡ true → can k (variants.Leaf line ws))
+module _ (can : ℕ → Item → Type 0) (k n : ℕ) (alone : Bool)
+    (leaf_can : (line : ℕ) (ws : Vec Wish Global) → is_leaf n ws.items ≡ true → are_built alone ws.items ≡ true → can k (variants.Leaf line ws))
     (fault_can : (line : ℕ) (causes : List ℕ) → can k (variants.FetchFault line causes))
     (label_can : (name : ℕ) → name < n → can k (variants.Label name)) where
   abbrev Ready : Item → Type 0
-  Ready i = stands n i ≡ true → is_item_built i ≡ true → AreAllowed can k (parts_of i)
+  Ready i = stands n i ≡ true → is_item_built alone i ≡ true → AreAllowed can k (parts_of i)
 
-  items_ready : (es : List (Proved Ready)) → all_true (map (stands n) (items_of es)) ≡ true → all_true (map is_item_built (items_of es)) ≡ true → AreAllowed can k (joined (map parts_of (items_of es)))
+  items_ready : (es : List (Proved Ready)) → all_true (map (stands n) (items_of es)) ≡ true → all_true (map (is_item_built alone) (items_of es)) ≡ true → AreAllowed can k (joined (map parts_of (items_of es)))
   items_ready [] h b = tt
   items_ready (e ∷ es) h b =
       let stand = and_parts _ _ h in
@@ -64,7 +66,7 @@ module _ (can : ℕ → Item → Type 0) (k n : ℕ)
       allowed_append can k (parts_of e.0) (joined (map parts_of (items_of es))) (e.1 stand.0 built.0) (items_ready es stand.1 built.1)
 
   ways_ready : (f g : ℕ × Vec Item Global → ℕ × Vec Bool Global) (p : ℕ × Vec Item Global → ℕ × Vec (List Item) Global) (h : ℕ × Vec (Proved Ready) Global → ℕ × Vec Item Global)
-      → ((v : ℕ × Vec Item Global) → (f v).1.items ≡ map (stands n) v.1.items) → ((v : ℕ × Vec Item Global) → (g v).1.items ≡ map is_item_built v.1.items) → ((v : ℕ × Vec Item Global) → (p v).1.items ≡ map parts_of v.1.items)
+      → ((v : ℕ × Vec Item Global) → (f v).1.items ≡ map (stands n) v.1.items) → ((v : ℕ × Vec Item Global) → (g v).1.items ≡ map (is_item_built alone) v.1.items) → ((v : ℕ × Vec Item Global) → (p v).1.items ≡ map parts_of v.1.items)
       → ((w : ℕ × Vec (Proved Ready) Global) → (h w).1.items ≡ items_of w.1.items)
       → (ws : List (ℕ × Vec (Proved Ready) Global)) → all_ways (map f (map h ws)) ≡ true → all_ways (map g (map h ws)) ≡ true → AreAllowed can k (joined_ways (map p (map h ws)))
   ways_ready f g p h fs gs ps hs [] stand built = tt
@@ -73,13 +75,13 @@ module _ (can : ℕ → Item → Type 0) (k n : ℕ)
       let b = and_parts _ _ built in
       let own = items_ready w.1.items
       (sym (ap all_true (fs (h w) ∙ ap (map (stands n)) (hs w))) ∙ a.0)
-      (sym (ap all_true (gs (h w) ∙ ap (map is_item_built) (hs w))) ∙ b.0) in
+      (sym (ap all_true (gs (h w) ∙ ap (map (is_item_built alone)) (hs w))) ∙ b.0) in
       allowed_append can k (joined (p (h w)).1.items) (joined_ways (map p (map h ws)))
       (subst (λ (xs : List (List Item)). AreAllowed can k (joined xs)) (sym (ps (h w) ∙ ap (map parts_of) (hs w))) own)
       (ways_ready f g p h fs gs ps hs ws a.1 b.1)
 
   choice_ready : (f g : ℕ × Vec Item Global → ℕ × Vec Bool Global) (p : ℕ × Vec Item Global → ℕ × Vec (List Item) Global) (h : ℕ × Vec (Proved Ready) Global → ℕ × Vec Item Global)
-      → ((v : ℕ × Vec Item Global) → (f v).1.items ≡ map (stands n) v.1.items) → ((v : ℕ × Vec Item Global) → (g v).1.items ≡ map is_item_built v.1.items) → ((v : ℕ × Vec Item Global) → (p v).1.items ≡ map parts_of v.1.items)
+      → ((v : ℕ × Vec Item Global) → (f v).1.items ≡ map (stands n) v.1.items) → ((v : ℕ × Vec Item Global) → (g v).1.items ≡ map (is_item_built alone) v.1.items) → ((v : ℕ × Vec Item Global) → (p v).1.items ≡ map parts_of v.1.items)
       → ((w : ℕ × Vec (Proved Ready) Global) → (h w).1.items ≡ items_of w.1.items)
       → (ws : List (ℕ × Vec (Proved Ready) Global))
       → leb 1 (weight_of (map f (map h ws))) && (leb (length (map f (map h ws))) 64 && (are_weights (map f (map h ws)) && all_ways (map f (map h ws)))) ≡ true
@@ -89,8 +91,8 @@ module _ (can : ℕ → Item → Type 0) (k n : ℕ)
       let few = and_parts (leb (length (map f (map h ws))) 64) _ some.1 in
       ways_ready f g p h fs gs ps hs ws (and_parts (are_weights (map f (map h ws))) _ few.1).1 built
 
-  ready_by : (z : Item-F Item) → (stands_in n (map-Item _ _ (stands n) z) ≡ true → built_in (map-Item _ _ is_item_built z) ≡ true → AreAllowed can k (parts_in (map-Item _ _ parts_of z))) → Ready (roll-Item z)
-  ready_by z same h b = subst (AreAllowed can k) (sym (fold-roll-Item (List Item) parts_in z)) (same (sym (fold-roll-Item Bool (stands_in n) z) ∙ h) (sym (fold-roll-Item Bool built_in z) ∙ b))
+  ready_by : (z : Item-F Item) → (stands_in n (map-Item _ _ (stands n) z) ≡ true → built_in alone (map-Item _ _ (is_item_built alone) z) ≡ true → AreAllowed can k (parts_in (map-Item _ _ parts_of z))) → Ready (roll-Item z)
+  ready_by z same h b = subst (AreAllowed can k) (sym (fold-roll-Item (List Item) parts_in z)) (same (sym (fold-roll-Item Bool (stands_in n) z) ∙ h) (sym (fold-roll-Item Bool (built_in alone) z) ∙ b))
 
   ready_step : (x : Item-F Item) (y : Item-F (Proved Ready)) → map-Item _ _ (λ e. e.0) y ≡ x → Ready (roll-Item x)
   ready_step x (layers.Leaf line wishes) is = subst (λ (z : Item-F Item). Ready (roll-Item z)) is (ready_by (layers.Leaf line wishes) (λ h b. (leaf_can line wishes h b, tt)))
@@ -104,7 +106,7 @@ module _ (can : ℕ → Item → Type 0) (k n : ℕ)
   item_ready : (i : Item) → Ready i
   item_ready = ind-Item Ready ready_step
 
-  pub body_ready : (items : List Item) → all_true (map (stands n) items) ≡ true → all_true (map is_item_built items) ≡ true → AreReady can (of_hart k items)
+  pub body_ready : (items : List Item) → all_true (map (stands n) items) ≡ true → all_true (map (is_item_built alone) items) ≡ true → AreReady can (of_hart k items)
   body_ready [] h b = tt
   body_ready (i ∷ items) h b = let stand = and_parts _ _ h in let built = and_parts _ _ b in (item_ready i stand.0 built.0, body_ready items stand.1 built.1)
 
@@ -114,6 +116,9 @@ ready_append : (can : ℕ → Item → Type 0) (xs ys : List (ℕ × Item)) → 
 ready_append can [] ys a b = b
 ready_append can (x ∷ xs) ys a b = (a.0, ready_append can xs ys a.1 b)
 
+not_first : (k : ℕ) → eqb (k + 1) 0 ≡ false
+not_first k = ne_eqb (k + 1) 0 (λ e. absurd (omega (arith, e)))
+
 module _ (t : Template) (nodes : ℕ) (w : Whole) (keeps : KeepsLimits t.text t) (known : LeavesAreKnown) (begun : IsBegun t w) (test : IsTest w) where
   abbrev draft : Drafted
   draft = drafted t nodes w
@@ -121,20 +126,28 @@ module _ (t : Template) (nodes : ℕ) (w : Whole) (keeps : KeepsLimits t.text t)
   many_names : length w.names ≡ length t.names
   many_names = ap length begun.names ∙ length-replicate (length t.names) None
 
+  whole_frames : (fs : List ℕ) → AllByRecursion (IsFrame t.ram) fs → AreFrames fs
+  whole_frames fs h = All-from_recursion (λ f. f % 4096 ≡ 0) fs (alignments fs h)
+    where
+      alignments : (fs : List ℕ) → AllByRecursion (IsFrame t.ram) fs → AllByRecursion (λ f. f % 4096 ≡ 0) fs
+      alignments [] h = tt
+      alignments (f ∷ fs) h = (h.0.aligned, alignments fs h.1)
+
   ground : (k : ℕ) → k < length t.harts → (start_in t.harts k).satp ≡ 0 → IsGround draft k
   ground k lt satp = record {
     hart = subst (λ (n : ℕ). k < n) (sym begun.count) lt;
     few = let few = keeps.harts in omega (arith, lt, few);
     names = many_names;
     few_names = let few = keeps.names_count in omega (arith, few);
+    frames = whole_frames t.pool keeps.pool.held;
     vectors = keeps.vectors;
     untranslated = ap (λ (f : Fixed). f.satp) (begun.fixed k lt) ∙ satp;
     test = test;
     words = first_words t w keeps begun test k lt;
   }
 
-  built_leaf : (ws : List Wish) → is_leaf (length t.names) ws ≡ true → are_built ws ≡ true → IsBuilt (length t.names) ws
-  built_leaf ws leaf built =
+  built_leaf : (k : ℕ) (ws : List Wish) → is_leaf (length t.names) ws ≡ true → are_built (eqb k 0) ws ≡ true → IsBuilt k (length t.names) ws
+  built_leaf k ws leaf built =
       let few = and_parts _ _ leaf in
       record {
         plain = (known (length t.names) ws leaf).plain;
@@ -145,7 +158,7 @@ module _ (t : Template) (nodes : ℕ) (w : Whole) (keeps : KeepsLimits t.text t)
       }
 
   harts_ready : (k : ℕ) (hs : List HartDecl) → k + length hs ≡ length t.harts → ((j : ℕ) → slice_index_or (map (λ d. d.start) hs) j no_state ≡ start_in t.harts (k + j))
-      → AllByRecursion (λ (h : HartDecl). IsBody (length t.names) h.body.items) hs → are_harts_built hs ≡ true → AreReady (CanTake draft) (all_items k hs)
+      → AllByRecursion (λ (h : HartDecl). IsBody (length t.names) h.body.items) hs → are_harts_built (eqb k 0) hs ≡ true → AreReady (CanTake draft) (all_items k hs)
   harts_ready k [] size starts bodies built = tt
   harts_ready k (h ∷ hs) size starts bodies built =
       let own = and_parts _ _ built in
@@ -153,8 +166,8 @@ module _ (t : Template) (nodes : ℕ) (w : Whole) (keeps : KeepsLimits t.text t)
       let is_start : h.start ≡ start_in t.harts k = starts 0 ∙ ap (start_in t.harts) (omega arith) in
       let g : IsGround draft k = ground k (omega (arith, size)) (ap (λ (s : HartState). s.satp) (sym is_start) ∙ eqb-true h.start.satp 0 parts.0) in
       ready_append (CanTake draft) (of_hart k h.body.items) (all_items (k + 1) hs)
-      (body_ready (CanTake draft) k (length t.names) (λ line ws leaf is. (g, built_leaf ws.items leaf is)) (λ line causes. g) (λ name lt. (g, lt)) h.body.items bodies.0 parts.1)
-      (harts_ready (k + 1) hs (omega (arith, size)) (λ j. starts (suc j) ∙ ap (start_in t.harts) (omega arith)) bodies.1 own.1)
+      (body_ready (CanTake draft) k (length t.names) (eqb k 0) (λ line ws leaf is. (g, built_leaf k ws.items leaf is)) (λ line causes. g) (λ name lt. (g, lt)) h.body.items bodies.0 parts.1)
+      (harts_ready (k + 1) hs (omega (arith, size)) (λ j. starts (suc j) ∙ ap (start_in t.harts) (omega arith)) bodies.1 (subst (λ (b : Bool). are_harts_built b hs ≡ true) (sym (not_first k)) own.1))
 
 pub built_are_ready : TemplatesKeepLimits → LeavesAreKnown → BuiltTemplatesAreReady
 built_are_ready keep known t nodes w parses built begun test =

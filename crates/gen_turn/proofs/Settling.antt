@@ -1,5 +1,5 @@
 -- A turn of a `do` leaf where no address is translated: its fetch starts nothing, and the leaf is answered where its hart stands.
-use Rattle.std.proofs.Common.{◌≡◌, ℕ, Bool, true, false, if◌then◌else◌, List, [], ◌∷◌, length, None, Some, refl, sym, ap, ◌∙◌, subst}
+use Rattle.std.proofs.Common.{eqb, ◌≡◌, ℕ, Bool, true, false, if◌then◌else◌, List, [], ◌∷◌, length, None, Some, refl, sym, ap, ◌∙◌, subst}
 use Rattle.std.proofs.lemmas.Bool.{eq-eqb}
 use Rattle.dom_set.proofs.Sets.{is_in-elements}
 use Rattle.rv_mem.specs.Seen.{is_there}
@@ -30,7 +30,7 @@ use Rattle.leaf_link.specs.Values.{Values}
 use Rattle.leaf_link.specs.Ways.{IsFetched}
 use Rattle.turn_laws.specs.Given.{AreListed, Setting, all_given, given_to}
 use Rattle.leaf_turn.specs.Answers.{IsFound}
-use Rattle.leaf_turn.specs.Built.{BuiltLeavesArePosable, BuiltLeavesBarSatp}
+use Rattle.leaf_turn.specs.Built.{BuiltLeavesBarSatp}
 use Rattle.leaf_turn.specs.Finding.{AnswersAreFound}
 use Rattle.leaf_turn.specs.Grounds.{IsSettingOf}
 use Rattle.leaf_turn.specs.Wishes.{biases_of, mandatory_of}
@@ -68,7 +68,7 @@ reached_at : (b : Bool) (pc pa : ℕ) → (let r : Reached = (if b then At pc el
 reached_at true pc pa h = (refl, cc (sym h))
 reached_at false pc pa h = absurd (cc h)
 
-module _ (d : Drafted) (k : ℕ) (g : IsGround d k) (ws : List Wish) (built : IsBuilt (length d.template.names) ws) where
+module _ (d : Drafted) (k : ℕ) (g : IsGround d k) (ws : List Wish) (built : IsBuilt k (length d.template.names) ws) where
   abbrev pub turn : Turn
   turn = turn_of d (mandatory_of ws) k
 
@@ -154,13 +154,13 @@ module _ (d : Drafted) (k : ℕ) (g : IsGround d k) (ws : List Wish) (built : Is
   is_setting : IsSettingOf d.template setting
   is_setting = record { pool = refl; vectors = refl; sets = λ n. refl }
 
-  found_at : AnswersAreFound → BuiltLeavesArePosable → BuiltLeavesBarSatp → (draws : List ℕ) → IsFetched turn [] pc → is_in_ram (λ n. is_there (d.now.memory n)) pc ≡ true → (answer : LeafAnswer)
+  found_at : AnswersAreFound → BuiltLeavesBarSatp → (draws : List ℕ) → IsFetched turn [] pc → is_in_ram (λ n. is_there (d.now.memory n)) pc ≡ true → (answer : LeafAnswer)
       → IsTurnLeafAnswer turn pc (mandatory_of ws) (biases_of ws) draws d.nodes answer → (x : Assignment) → answer.solved ≡ answers.Found x → IsFound k d.now (values_in x)
-  found_at law posable barred draws fetched there answer is x =
+  found_at law barred draws fetched there answer is x =
       let st = stand_at d.template k d.now feet sources in
       found_by st k d.now setting feet ws draws d.nodes answer x law built.plain g.untranslated g.vectors footprint there
       (stands d.template k d.now feet sources setting g.test g.hart g.untranslated fetched.aligned g.names is_setting (λ v small. sym (is_in-elements sources v small)) footprint)
-      (λ h. fetched) g.words.fixed g.words.known (posable ws built.built st) (barred ws built.built turn) is
+      (λ h. fetched) g.words.fixed g.words.known (barred (eqb k 0) ws built.built turn) is
 
-  pub found : AnswersAreFound → BuiltLeavesArePosable → BuiltLeavesBarSatp → (draws : List ℕ) (r : Turned Drafted) (a : IsAnswered draws r) (x : Assignment) → a.answer.solved ≡ answers.Found x → IsFound k d.now (values_in x)
-  found law posable barred draws r a x = found_at law posable barred draws a.fetched a.there a.answer a.is x
+  pub found : AnswersAreFound → BuiltLeavesBarSatp → (draws : List ℕ) (r : Turned Drafted) (a : IsAnswered draws r) (x : Assignment) → a.answer.solved ≡ answers.Found x → IsFound k d.now (values_in x)
+  found law barred draws r a x = found_at law barred draws a.fetched a.there a.answer a.is x

@@ -52,6 +52,7 @@ module _ (t : Template) (k : ℕ) (w : Whole) (feet : List Touch) (sources : ℕ
     word = known_word (w.memory ((hart_of k w).pc / 4));
     fetches = is_free_fetch feet k (hart_of k w).pc && (is_some_word (known_word (w.memory ((hart_of k w).pc / 4))) || in_frames t.pool (hart_of k w).pc);
     pairs = 1;
+    bytes = None;
     sources = record { ref_ptr = (0, 0); now = elements_of sources };
     vectors = record { ref_ptr = (0, 0); now = t.vectors };
     names = record { ref_ptr = (0, 0); now = names_from w.names t.names };
@@ -65,6 +66,7 @@ module _ (t : Template) (k : ℕ) (w : Whole) (feet : List Touch) (sources : ℕ
     word = refl;
     fetches = refl;
     pairs = refl;
+    bytes = tt;
     vectors = refl;
     names = record { values = named_values w.names t.names many; sets = named_sets w.names t.names many };
     footprint = footprint;

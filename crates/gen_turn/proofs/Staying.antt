@@ -15,7 +15,7 @@ use Rattle.leaf_link.specs.FetchAnswers.{IsFaultAnswer}
 use Rattle.leaf_link.specs.Values.{Values}
 use Rattle.turn_laws.specs.Laws.{OthersStay}
 use Rattle.leaf_turn.specs.Answers.{IsPlayable}
-use Rattle.leaf_turn.specs.Built.{BuiltLeavesArePosable, BuiltLeavesBarSatp}
+use Rattle.leaf_turn.specs.Built.{BuiltLeavesBarSatp}
 use Rattle.leaf_turn.specs.Finding.{AnswersAreFound, FaultsArePlayable, FoundArePlayable}
 use Rattle.leaf_turn.proofs.Giving.{still}
 use Rattle.gen_search.specs.Laws.{StillAllows}
@@ -72,7 +72,7 @@ Allows s (Taken next) = AllowsAll can_be_taken s next
 Allows s NoneFits = Unit {0}
 Allows s Spent = Unit {0}
 
-module _ (found_law : AnswersAreFound) (posable : BuiltLeavesArePosable) (barred : BuiltLeavesBarSatp) (are_playable : FoundArePlayable) (faults_playable : FaultsArePlayable) (others : OthersStay) where
+module _ (found_law : AnswersAreFound) (barred : BuiltLeavesBarSatp) (are_playable : FoundArePlayable) (faults_playable : FaultsArePlayable) (others : OthersStay) where
   -- an answer that can be taken, where it is one that is found
   ends_allow : (s : Shown) (k : ℕ) (ws : List Wish) (dropped : List (ℕ × Bool)) (solved : Solved) (r : Turned Drafted) → ((x : Assignment) → solved ≡ answers.Found x → IsPlayable k (whole s.now) (values_in x))
       → EndsAs (draft_of s) k ws dropped solved r → Allows s (turn_shown r)
@@ -82,10 +82,10 @@ module _ (found_law : AnswersAreFound) (posable : BuiltLeavesArePosable) (barred
   ends_allow s k ws dropped answers.NoneFits r can ends = subst (λ (q : Turned Drafted). Allows s (turn_shown q)) (sym ends) tt
   ends_allow s k ws dropped answers.Spent r can ends = subst (λ (q : Turned Drafted). Allows s (turn_shown q)) (sym ends) tt
 
-  module _ (s : Shown) (k : ℕ) (g : IsGround (draft_of s) k) (ws : List Wish) (built : IsBuilt (length s.template.names) ws) (draws : List ℕ) (r : Turned Drafted) where
+  module _ (s : Shown) (k : ℕ) (g : IsGround (draft_of s) k) (ws : List Wish) (built : IsBuilt k (length s.template.names) ws) (draws : List ℕ) (r : Turned Drafted) where
     answered_allows : (a : IsAnswered (draft_of s) k g ws built draws r) → Allows s (turn_shown r)
     answered_allows a =
-        ends_allow s k ws a.answer.dropped a.answer.solved r (λ x is. are_playable k (whole s.now) (values_in x) (found (draft_of s) k g ws built found_law posable barred draws r a x is)) a.ends
+        ends_allow s k ws a.answer.dropped a.answer.solved r (λ x is. are_playable k (whole s.now) (values_in x) (found (draft_of s) k g ws built found_law barred draws r a x is)) a.ends
 
     goes_allows : (fetch : Solved) → GoesOn (draft_of s) k ws draws fetch r → Allows s (turn_shown r)
     goes_allows (answers.Found x) a = answered_allows (answered (draft_of s) k g ws built draws (values_in x) r a)

@@ -1,10 +1,11 @@
--- How many words a start gives: each step starts one at most.
-use Rattle.std.proofs.Common.{◌≡◌, ℕ, ◌+◌, ◌*◌, ◌/◌, ◌%◌, ◌<◌, ◌≤◌, Bool, true, false, eqb, if◌then◌else◌, List, [], ◌∷◌, ◌++◌, length, Option, Some, None, refl, sym, ap, ◌∙◌, subst, inl, inr, arith}
+-- How many words a start gives: each step starts two at most.
+use Rattle.std.proofs.Common.{◌≡◌, ℕ, ◌+◌, ◌*◌, ◌/◌, ◌%◌, ◌<◌, ◌≤◌, ◌⊎◌, Bool, true, false, eqb, if◌then◌else◌, List, [], ◌∷◌, ◌++◌, length, Option, Some, None, refl, sym, ap, ◌∙◌, subst, inl, inr, arith}
 use Rattle.std.specs.Option.{is_some, option_or}
 use Rattle.std.proofs.lemmas.Bool.{cases_eq, eq-eqb, eqb-true, ne_eqb}
 use Rattle.rv_script.specs.declared.place.Place.{Place}
 use Rattle.rv_script.specs.declared.place.Place.TheVariants.{Reg, Csr, Word}
 use Rattle.rv_script.specs.Logs.{same_place}
+use Rattle.rv_script.proofs.Plays.{same_is}
 use Rattle.part_told.specs.Words.{AreListed as AreWordsListed, ListsWords}
 use Rattle.tpl_admit.specs.Starts.{found}
 use Rattle.part_machine.specs.Whole.{Whole, given}
@@ -180,6 +181,75 @@ aligned_key ram from (e ∷ es) key v are h = go (eqb e.0 key) refl h (aligned_k
     go : (b : Bool) → eqb e.0 key ≡ b → (if b then Some e.1 else found es key) ≡ Some v → (found es key ≡ Some v → key % 4 ≡ 0) → key % 4 ≡ 0
     go true is h rest = subst (λ (n : ℕ). n % 4 ≡ 0) (eqb-true e.0 key is) are.1
     go false is h rest = rest h
+
+-- ---- two words at most
+
+-- what is known isn't given again
+not_again : (k addr v : ℕ) (es : List (Place × ℕ)) (w : Whole) → IsTest w → k < length w.harts → addr % 4 ≡ 0 → CanGive k es w → known_at k w (Word addr) ≡ Some v → (u : ℕ) → given_to es (Word addr) ≡ Some u → ⊥
+not_again k addr v [] w test l aligned can known u h = absurd (cc h)
+not_again k addr v (e ∷ es) w test l aligned can known u h = go (same_place e.0 (Word addr)) refl (λ still. not_again k addr v es (place_given k e.0 e.1 w) new more aligned can.3 still u)
+  where
+    new : IsTest (place_given k e.0 e.1 w)
+    new = test_one k e.0 e.1 w test l can.0 can.1 can.2
+
+    more : k < length (place_given k e.0 e.1 w).harts
+    more = let same = (beside_one k e.0 e.1 w).harts in omega (arith, l, same)
+
+    go : (c : Bool) → same_place e.0 (Word addr) ≡ c → (known_at k (place_given k e.0 e.1 w) (Word addr) ≡ Some v → given_to es (Word addr) ≡ Some u → ⊥) → ⊥
+    go true same rest = let none : known_at k w (Word addr) ≡ None = ap (known_at k w) (sym (same_is e.0 (Word addr) same)) ∙ can.0.unknown in absurd (cc (sym none ∙ known))
+    go false same rest =
+        let still : known_at k (place_given k e.0 e.1 w) (Word addr) ≡ Some v = known_one k e.0 e.1 w test l can.0 can.1 can.2 (Word addr) aligned ∙ ap (λ (c : Bool). if c then Some e.1 else known_at k w (Word addr)) same ∙ known in
+        rest still (sym (ap (λ (c : Bool). if c then Some e.1 else given_to es (Word addr)) same) ∙ h)
+
+pub two_words : (k one two : ℕ) (es : List (Place × ℕ)) (w : Whole) → IsTest w → k < length w.harts → one % 4 ≡ 0 → two % 4 ≡ 0 → CanGive k es w → ((a u : ℕ) → given_to es (Word a) ≡ Some u → (a ≡ one) ⊎ (a ≡ two)) → words_in es ≤ 2
+two_words k one two [] w test l first second can only = omega arith
+two_words k one two (e ∷ es) w test l first second can only = go e.0 refl (two_words k one two es (place_given k e.0 e.1 w) new more first second can.3)
+  where
+    new : IsTest (place_given k e.0 e.1 w)
+    new = test_one k e.0 e.1 w test l can.0 can.1 can.2
+
+    more : k < length (place_given k e.0 e.1 w).harts
+    more = let same = (beside_one k e.0 e.1 w).harts in omega (arith, l, same)
+
+    -- behind a word only the other one is given
+    only_other : (own other : ℕ) → own % 4 ≡ 0 → e.0 ≡ Word own → ((a : ℕ) → (a ≡ one) ⊎ (a ≡ two) → (a ≡ own) ⊎ (a ≡ other)) → (a u : ℕ) → given_to es (Word a) ≡ Some u → a ≡ other
+    only_other own other aligned at among a u h = elim (cases_eq own a) [
+      | inl same ↦
+          let known : known_at k (place_given k e.0 e.1 w) (Word own) ≡ Some e.1 =
+          known_one k e.0 e.1 w test l can.0 can.1 can.2 (Word own) aligned ∙ ap (λ (c : Bool). if c then Some e.1 else known_at k w (Word own)) (ap (λ (p : Place). same_place p (Word own)) at ∙ eq-eqb own own refl) in
+          absurd (not_again k own e.1 es (place_given k e.0 e.1 w) new more aligned can.3 known u (ap (λ (n : ℕ). given_to es (Word n)) same ∙ h))
+      | inr apart ↦
+          let which = among a (only a u (ap (λ (c : Bool). if c then Some e.1 else given_to es (Word a)) (ap (λ (p : Place). same_place p (Word a)) at ∙ ne_eqb own a apart) ∙ h)) in
+          elim which [
+            | inl is ↦ absurd (apart (sym is))
+            | inr is ↦ is
+          ]
+    ]
+
+    behind : (own other : ℕ) → own % 4 ≡ 0 → other % 4 ≡ 0 → e.0 ≡ Word own → ((a : ℕ) → (a ≡ one) ⊎ (a ≡ two) → (a ≡ own) ⊎ (a ≡ other)) → word_in e.0 + words_in es ≤ 2
+    behind own other aligned more_aligned at among =
+        let here : word_in e.0 ≡ 1 = ap word_in at in
+        let rest = one_word k other es (place_given k e.0 e.1 w) new more more_aligned can.3 (only_other own other aligned at among) in
+        omega (arith, here, rest)
+
+    skipped : (same : (a : ℕ) → same_place e.0 (Word a) ≡ false) (a u : ℕ) → given_to es (Word a) ≡ Some u → (a ≡ one) ⊎ (a ≡ two)
+    skipped same a u h = only a u (ap (λ (c : Bool). if c then Some e.1 else given_to es (Word a)) (same a) ∙ h)
+
+    go : (place : Place) → e.0 ≡ place → (((a u : ℕ) → given_to es (Word a) ≡ Some u → (a ≡ one) ⊎ (a ≡ two)) → words_in es ≤ 2) → word_in e.0 + words_in es ≤ 2
+    go (Reg n) is rest =
+        let none : word_in e.0 ≡ 0 = ap word_in is in
+        let h = rest (skipped (λ a. ap (λ (p : Place). same_place p (Word a)) is)) in
+        omega (arith, none, h)
+    go (Csr n) is rest =
+        let none : word_in e.0 ≡ 0 = ap word_in is in
+        let h = rest (skipped (λ a. ap (λ (p : Place). same_place p (Word a)) is)) in
+        omega (arith, none, h)
+    go (Word c) is rest =
+        let which = only c e.1 (ap (λ (d : Bool). if d then Some e.1 else given_to es (Word c)) (ap (λ (p : Place). same_place p (Word c)) is ∙ eq-eqb c c refl)) in
+        elim which [
+          | inl same ↦ behind one two first second (is ∙ ap (λ (n : ℕ). Word n) same) (λ a h. h)
+          | inr same ↦ behind two one second first (is ∙ ap (λ (n : ℕ). Word n) same) (λ a h. elim h [ inl x ↦ inr x | inr x ↦ inl x ])
+        ]
 
 pub few_words : (ram words pairs : List (ℕ × ℕ)) → ListsWords ram words pairs → length pairs ≤ length words
 few_words ram words pairs lists = few_listed ram 0 pairs words lists.listed (λ key v h.

@@ -1,5 +1,5 @@
 -- The templates that this build takes.
-use Rattle.std.specs.Prelude.{◌≡◌, ℕ, ◌==◌, ◌&&◌, Bool, true, List, [], ◌∷◌, map, Vec}
+use Rattle.std.specs.Prelude.{◌≡◌, ℕ, ◌==◌, ◌&&◌, Bool, true, false, List, [], ◌∷◌, map, Vec}
 use Rattle.std.specs.Global.{Global}
 use Rattle.tpl_ast.specs.declared.template.HartDecl.{HartDecl}
 use Rattle.tpl_ast.specs.declared.template.Item.{Item}
@@ -18,31 +18,31 @@ use Rattle.gen_turn.specs.Drafts.{drafted}
 use Rattle.gen_turn.specs.Grounds.{CanTake}
 
 -- an item each of whose leaves is built, with the answer for each inner item in its place
-abbrev pub built_in : Item-F Bool → Bool
-built_in (layers.Leaf line wishes) = are_built wishes.items
-built_in (layers.FetchFault line causes) = true
-built_in (layers.Seq body) = all_true body.items
-built_in (layers.Repeat times body) = all_true body.items
-built_in (layers.Choose line ways) = all_ways ways.items
-built_in (layers.Label name) = true
+abbrev pub built_in : Bool → Item-F Bool → Bool
+built_in alone (layers.Leaf line wishes) = are_built alone wishes.items
+built_in alone (layers.FetchFault line causes) = true
+built_in alone (layers.Seq body) = all_true body.items
+built_in alone (layers.Repeat times body) = all_true body.items
+built_in alone (layers.Choose line ways) = all_ways ways.items
+built_in alone (layers.Label name) = true
 
-abbrev pub is_item_built : Item → Bool
-is_item_built = fold-Item Bool built_in
+abbrev pub is_item_built : Bool → Item → Bool
+is_item_built alone = fold-Item Bool (built_in alone)
 
-abbrev pub is_body_built : List Item → Bool
-is_body_built items = all_true (map is_item_built items)
+abbrev pub is_body_built : Bool → List Item → Bool
+is_body_built alone items = all_true (map (is_item_built alone) items)
 
-abbrev pub are_ways_built : List (ℕ × Vec Item Global) → Bool
-are_ways_built [] = true
-are_ways_built (w ∷ ws) = is_body_built w.1.items && are_ways_built ws
+abbrev pub are_ways_built : Bool → List (ℕ × Vec Item Global) → Bool
+are_ways_built alone [] = true
+are_ways_built alone (w ∷ ws) = is_body_built alone w.1.items && are_ways_built alone ws
 
--- no address of a hart is translated where it starts, and each leaf of its body is built, so none is translated later
-abbrev pub are_harts_built : List HartDecl → Bool
-are_harts_built [] = true
-are_harts_built (h ∷ hs) = ((h.start.satp == 0) && is_body_built h.body.items) && are_harts_built hs
+-- satp is 0 where a hart starts, and each leaf of its body is built, so no address is translated; the first one may load and store
+abbrev pub are_harts_built : Bool → List HartDecl → Bool
+are_harts_built alone [] = true
+are_harts_built alone (h ∷ hs) = ((h.start.satp == 0) && is_body_built alone h.body.items) && are_harts_built false hs
 
 abbrev pub is_template_built : Template → Bool
-is_template_built t = are_harts_built t.harts
+is_template_built t = are_harts_built true t.harts
 
 -- then each leaf and label of its bodies can be taken on the test that begins as it says
 abbrev pub BuiltTemplatesAreReady : Type 0

@@ -1,5 +1,5 @@
 -- Which leaves and labels this build can take.
-use Rattle.std.specs.Prelude.{◌≡◌, ℕ, ◌%◌, ◌^◌, ◌<◌, ◌≤◌, true, List, length}
+use Rattle.std.specs.Prelude.{◌≡◌, ℕ, nat_eq, ◌%◌, ◌^◌, ◌<◌, ◌≤◌, true, List, length}
 use Rattle.std.specs.List.{AllByRecursion, list_all}
 use Rattle.rv_csr.specs.declared.access.CsrAccess.{CsrAccess}
 use Rattle.tpl_ast.specs.declared.template.Item.{Item}
@@ -11,6 +11,7 @@ use Rattle.part_machine.specs.Whole.{Whole, fixed_in, hart_of}
 use Rattle.part_state.specs.Meaning.{IsTest}
 use Rattle.leaf_link.specs.Values.{fixed_value}
 use Rattle.leaf_link.specs.Ways.{AreWords}
+use Rattle.data_bytes.specs.Frames.{AreFrames}
 use Rattle.leaf_turn.specs.Built.{are_built}
 use Rattle.leaf_turn.specs.Grounds.{IsUntranslated}
 use Rattle.turn_laws.specs.Ahead.{AreVectors}
@@ -29,22 +30,23 @@ pub record IsGround (d : Drafted) (k : ℕ) : Type 0 where
   pub few : k < 2 ^ 8
   pub names : length d.now.names ≡ length d.template.names
   pub few_names : length d.template.names < 2 ^ 32
+  pub frames : AreFrames d.template.pool
   pub vectors : AreVectors d.template.vectors
   pub untranslated : IsUntranslated k d.now
   pub test : IsTest d.now
   pub words : IsOfWords k d.now
 
--- a leaf's atoms are those of a leaf of the template, and bar each operation that isn't posed, and writes of satp
-pub record IsBuilt (names : ℕ) (ws : List Wish) : Type 0 where
+-- a leaf's atoms are those of a leaf of the template, and bar accesses to satp, and loads and stores but of the first hart
+pub record IsBuilt (k names : ℕ) (ws : List Wish) : Type 0 where
   pub plain : AllByRecursion IsPlain (atoms_of ws)
-  pub built : are_built ws ≡ true
+  pub built : are_built (nat_eq k 0) ws ≡ true
   pub below : list_all (is_name_below names) (atoms_of ws) ≡ true
   pub short : length ws ≤ most_atoms
   pub once : NamedOnce (atoms_of ws)
 
 -- a leaf or a label that can be taken
 abbrev pub CanTake : Drafted → ℕ → Item → Type 0
-CanTake d k (items.Leaf line ws) = IsGround d k × IsBuilt (length d.template.names) ws.items
+CanTake d k (items.Leaf line ws) = IsGround d k × IsBuilt k (length d.template.names) ws.items
 CanTake d k (items.FetchFault line causes) = IsGround d k
 CanTake d k (items.Label name) = IsGround d k × (name < length d.template.names)
 CanTake d k _ = ⊥

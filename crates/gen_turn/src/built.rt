@@ -1,5 +1,5 @@
 // The templates that this build takes.
-ghost use Rattle.std.specs.Prelude.{◌≡◌};
+ghost use Rattle.std.specs.Prelude.{◌≡◌, ◌==◌, ◌&&◌, true, false};
 ghost use Rattle.gen_turn.specs.Built.{BuiltTemplatesAreReady, are_harts_built, are_ways_built, is_body_built, is_item_built, is_template_built};
 
 use leaf_turn::are_built;
@@ -7,11 +7,11 @@ use tpl_ast::{HartDecl, Item, Template, leaf_law, template_law};
 
 /// Whether each leaf of a body is built.
 #[cycle(built)]
-fn is_body_built(items: &[Item]) -> bool
-    ensures { result ≡ is_body_built items.now }
+fn is_body_built(alone: bool, items: &[Item]) -> bool
+    ensures { result ≡ is_body_built alone items.now }
 {
     for item in items {
-        if !is_item_built(item) {
+        if !is_item_built(alone, item) {
             return false;
         }
     }
@@ -20,11 +20,11 @@ fn is_body_built(items: &[Item]) -> bool
 
 /// Whether each leaf of the alternatives of a choice is built.
 #[cycle(built)]
-fn are_ways_built(ways: &[(u32, Vec<Item>)]) -> bool
-    ensures { result ≡ are_ways_built ways.now }
+fn are_ways_built(alone: bool, ways: &[(u32, Vec<Item>)]) -> bool
+    ensures { result ≡ are_ways_built alone ways.now }
 {
     for way in ways {
-        if !is_body_built(&way.1) {
+        if !is_body_built(alone, &way.1) {
             return false;
         }
     }
@@ -33,33 +33,50 @@ fn are_ways_built(ways: &[(u32, Vec<Item>)]) -> bool
 
 /// Whether each leaf of an item is built.
 #[cycle(built)]
-fn is_item_built(item: &Item) -> bool
-    ensures { result ≡ is_item_built item.now }
+fn is_item_built(alone: bool, item: &Item) -> bool
+    ensures { result ≡ is_item_built alone item.now }
 {
     match item {
-        Item::Leaf { line: _, wishes } => are_built(wishes),
+        Item::Leaf { line: _, wishes } => are_built(alone, wishes),
         Item::FetchFault { line: _, causes: _ } => true,
-        Item::Seq(body) => is_body_built(body),
-        Item::Repeat { times: _, body } => is_body_built(body),
-        Item::Choose { line: _, ways } => are_ways_built(ways),
+        Item::Seq(body) => is_body_built(alone, body),
+        Item::Repeat { times: _, body } => is_body_built(alone, body),
+        Item::Choose { line: _, ways } => are_ways_built(alone, ways),
         Item::Label { name: _ } => true,
     }
 }
 
-/// Whether no address of the harts is translated, and each leaf of their bodies is built.
-fn are_harts_built(harts: &[HartDecl]) -> bool
-    ensures { result ≡ are_harts_built harts.now }
+/// Whether satp is 0 where a hart starts, and each leaf of its body is built; `alone` says that the hart is the first.
+fn is_hart_built(alone: bool, hart: &HartDecl) -> bool
+    ensures { result ≡ ((hart.now.start.satp == 0) && is_body_built alone hart.now.body.items) }
+{
+    hart.start.satp == 0 && is_body_built(alone, &hart.body)
+}
+
+/// Whether each of the harts behind the first is built.
+fn are_others_built(harts: &[HartDecl]) -> bool
+    ensures { result ≡ are_harts_built false harts.now }
 {
     for hart in harts {
-        if hart.start.satp != 0 || !is_body_built(&hart.body) {
+        if !is_hart_built(false, hart) {
             return false;
         }
     }
     true
 }
 
-/// Whether this build takes a template: no address is translated where its harts start, and the atoms of each of its
-/// `do` leaves bar all operations that are not posed, and all CSR instructions or that their CSR is satp. So none is
+/// Whether each of the harts is built.
+fn are_harts_built(harts: &[HartDecl]) -> bool
+    ensures { result ≡ are_harts_built true harts.now }
+{
+    match harts {
+        [] => true,
+        [first, others @ ..] => is_hart_built(true, first) && are_others_built(others),
+    }
+}
+
+/// Whether this build takes a template: no hart starts with satp other than 0, and the atoms of each of its `do` leaves bar
+/// all CSR instructions or that their CSR is satp, and in harts behind the first loads and stores. So no address is
 /// translated later.
 pub fn is_template_built(t: &Template) -> bool
     ensures { result ≡ is_template_built t.now }

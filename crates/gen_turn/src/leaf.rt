@@ -116,7 +116,7 @@ pub fn turn_leaf(
     draws: &[u32; 16],
 ) -> Result<Turn, OutOfMemory>
     requires ground { IsGround (drafted t.now nodes (here part.old)) hart }
-    requires built { IsBuilt (length t.now.names) wishes.now }
+    requires built { IsBuilt hart (length t.now.names) wishes.now }
     ensures turned { IfOk result (λ turn. IsDone (drafted t.now nodes (here part.old)) hart wishes.now draws.now (answered turn (drafted t.now nodes (here part.new)))) }
     ensures ground { OnOk result (IsSameGround (here part.old) (here part.new)) }
     ensures kept { OnOk result (AreKept part.old part.new) }

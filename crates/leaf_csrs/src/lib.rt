@@ -1,6 +1,7 @@
 //! The ways of CSR instructions where a leaf stands: how an instruction may use each register, what that says of its
-//! variables, and which accesses are refused. It promises that each set has just the words that the usage lets through,
-//! and that the ways of all registers and usages are together those of the definition.
+//! variables, and which accesses are refused. It stands on `leaf_stand` and `leaf_link`. It promises that each set has just
+//! the words that the usage lets through, and that the ways of all registers and usages are together those of the
+//! definition.
 #![tactic(auto)]
 
 mod accesses;

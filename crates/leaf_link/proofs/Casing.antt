@@ -16,7 +16,7 @@ use Rattle.rv_isa.specs.Numbers.{op_number}
 use Rattle.leaf_link.specs.Candidates.{all_met, moment_of}
 use Rattle.leaf_link.specs.Cases.{Shape, Way, all_judged, all_relate, all_tests, shape_of, target_at, unless, uses, value_at}
 use Rattle.leaf_link.specs.Problems.{bias_cut}
-use Rattle.leaf_link.specs.Extras.{ArePlain, BiasesInCases, MeetsInCase, address_by, address_in, met_by, met_in}
+use Rattle.leaf_link.specs.Extras.{AddressesAreWanted, ArePlain, BiasesInCases, MeetsInCase, address_by, address_in, met_by, met_in}
 use Rattle.leaf_link.proofs.Truths.{JudgesAll, all_met_by, by_all_met, when}
 use Rattle.leaf_link.proofs.Law.{all_without, unless_from, used}
 use Rattle.leaf_link.proofs.Biases.{either}
@@ -88,3 +88,13 @@ biases_in_cases t walk pa leaf bias op ways x f own plain owed way item fit =
       λ met. meets_of t bias op way x plain fit.fits.op g (by_all_met t (shape_of op way) g.at x (moment_of t g.log g.change) g.shows bias (sym (met_of t (shape_of op way) bias x g) ∙ met)),
       λ m. met_of t (shape_of op way) bias x g ∙ all_met_by t (shape_of op way) g.at x (moment_of t g.log g.change) g.shows bias (judges_of t bias op way x plain fit.fits.op g m),
     )
+
+pub addresses_are_wanted : AddressesAreWanted
+unfolding posed_from
+addresses_are_wanted t walk pa leaf op ways x f plain owed way item fit reaches =
+    let c = posed_from t walk pa leaf op ways x way item fit.posed fit.fits in
+    let both = posed_good t walk pa leaf op ways f plain owed x c in
+    let good = both.0 in
+    let g : Played t (shape_of op way) x = both.2 in
+    let met : met_by t leaf x ≡ true = ap (λ (r : Answer Entry Change). met_in t leaf r) good.plays ∙ good.meets.atoms in
+    (meets_of t leaf op way x plain fit.fits.op g (by_all_met t (shape_of op way) g.at x (moment_of t g.log g.change) g.shows leaf (sym (met_of t (shape_of op way) leaf x g) ∙ met))).address reaches

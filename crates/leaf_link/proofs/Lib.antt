@@ -51,6 +51,6 @@ mod Placing
 mod Alone
 mod Located
 mod SatpKept
-mod FetchedWords
+pub mod NewWords
 mod Unfailing
 mod OfOperations

@@ -28,7 +28,7 @@ use Rattle.leaf_link.proofs.Resting.{in_one, is_write, quiet_apart}
 use Rattle.leaf_link.proofs.Front.{has_either, rest_of}
 use Rattle.leaf_link.proofs.Operations.{all_asked, exact, if_no, if_yes}
 
-load_rest : (row : Row) → is_load row ≡ true → (f : Fixed) (word : ℕ) (i : Instr) (a b : ℕ) → rest row f word i a b ≡ load_from f word i ((a + i.imm) % 2 ^ 32)
+pub load_rest : (row : Row) → is_load row ≡ true → (f : Fixed) (word : ℕ) (i : Instr) (a b : ℕ) → rest row f word i a b ≡ load_from f word i ((a + i.imm) % 2 ^ 32)
 load_rest (I opcode funct3) h f word i a b = subst (λ (n : ℕ). rest (I n funct3) f word i a b ≡ load_from f word i ((a + i.imm) % 2 ^ 32)) (sym (eqb-true opcode 0x03 h)) refl
 load_rest (R opcode funct3 funct7) h f word i a b = absurd (cc)
 load_rest (Shift opcode funct3 funct7) h f word i a b = absurd (cc)

@@ -1,13 +1,11 @@
 -- Values in the domains of an operation are of that operation.
 use Rattle.std.proofs.Common.{◌≡◌, Some, ap, ◌∙◌}
 use Rattle.std.proofs.lemmas.Bool.{and_parts}
-use Rattle.rv_isa.specs.declared.operation.Op.{Op}
 use Rattle.rv_isa.specs.Encoding.{word_of}
 use Rattle.rv_isa.specs.Reading.{decoded}
 use Rattle.rv_isa.specs.Numbers.{op_numbered}
 use Rattle.rv_isa.proofs.Codec.{encoded_read}
 use Rattle.rv_script.specs.Logs.{value_or}
-use Rattle.fd_prob.specs.declared.slot.Slot.{Slot}
 use Rattle.fd_prob.specs.declared.slot.Slot.TheVariants as slots
 use Rattle.leaf_link.specs.Values.{instr_in}
 use Rattle.leaf_link.specs.Cases.{code_at, uses_address}

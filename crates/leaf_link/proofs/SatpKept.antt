@@ -28,7 +28,7 @@ use Rattle.rv_hart.specs.Machine.{arriving, at_address, data_view, fence_row, ju
 use Rattle.rv_hart.specs.Privileged.{address_fence_row, csr_accessed, csr_exchanged, csr_granted, csr_immediate_row, mret_row, old_value, sret_row, trap, write_csr, writes_csr}
 use Rattle.rv_hart.specs.Rests.{after_access, csr_access, rest}
 use Rattle.leaf_link.specs.Values.{Values, given_by, has_csr_operand, instr_in}
-use Rattle.leaf_link.specs.Placing.{KeepsSatp, StepsKeepSatp, IsNotSatp, writes_satp}
+use Rattle.leaf_link.specs.Placing.{KeepsSatp, StepsKeepSatp, IsNotSatp, accesses_satp}
 use Rattle.leaf_link.specs.Problems.{key_of}
 use Rattle.leaf_link.proofs.Links.{instr_assigned}
 use Rattle.leaf_link.proofs.Front.{rest_of, told_a, told_b}
@@ -132,10 +132,10 @@ sret_keeps : (f : Fixed) (word : ℕ) → Ends Keeps (sret_row f word)
 unfolding sret_row
 sret_keeps f word = search (if_keeps, trap_keeps, tt)
 
-apart_from : (i : Instr) (row : Row) → row_of i.op ≡ row → has_csr_operand row ≡ true → writes_satp i ≡ false → eqb i.csr 0x180 ≡ false
+apart_from : (i : Instr) (row : Row) → row_of i.op ≡ row → has_csr_operand row ≡ true → accesses_satp i ≡ false → eqb i.csr 0x180 ≡ false
 apart_from i row is has none = ap (λ (b : Bool). b && eqb i.csr 0x180) (sym has) ∙ ap (λ (r : Row). has_csr_operand r && eqb i.csr 0x180) (sym is) ∙ none
 
-rest_keeps : (row : Row) (f : Fixed) (word : ℕ) (i : Instr) (a b : ℕ) → row_of i.op ≡ row → writes_satp i ≡ false → Ends Keeps (rest row f word i a b)
+rest_keeps : (row : Row) (f : Fixed) (word : ℕ) (i : Instr) (a b : ℕ) → row_of i.op ≡ row → accesses_satp i ≡ false → Ends Keeps (rest row f word i a b)
 unfolding upper_row upper_pc_row jump_row fence_row csr_immediate_row address_fence_row
 rest_keeps (R opcode funct3 funct7) f word i a b is none = tt
 rest_keeps (Shift opcode funct3 funct7) f word i a b is none = tt
@@ -166,5 +166,5 @@ steps_keep_satp t walk pa leaf new f w none =
     let x : Values = key_of t leaf new w in
     let p = in_parts_of t walk pa leaf new f w in
     let own : instr_in x ≡ w.instr = instr_assigned t.fixed t.known w.log w.instr in
-    let rest_is = rest_keeps (row_of w.instr.op) t.fixed (word_of (instr_in x)) (instr_in x) (told_a t w.instr.op x) (told_b t w.instr.op x) (ap (λ (j : Instr). row_of j.op) own) (ap writes_satp own ∙ none) in
+    let rest_is = rest_keeps (row_of w.instr.op) t.fixed (word_of (instr_in x)) (instr_in x) (told_a t w.instr.op x) (told_b t w.instr.op x) (ap (λ (j : Instr). row_of j.op) own) (ap accesses_satp own ∙ none) in
     ended Keeps (rest_of t w.instr.op x (told_a t w.instr.op x) (told_b t w.instr.op x)) (by_answers t.known (given_by x)) p.rest w.change rest_is p.plays

@@ -43,7 +43,7 @@ use Rattle.rv_script.proofs.Plays.{entry}
 use Rattle.leaf_link.proofs.Front.{all_hold, hold_all, accesses_then, has_either, has_first, has_second, rest_of, walk_first}
 use Rattle.leaf_link.proofs.Operations.{all_asked, exact, if_no, if_yes}
 
-store_rest : (row : Row) → is_store row ≡ true → (f : Fixed) (word : ℕ) (i : Instr) (a b : ℕ) → rest row f word i a b ≡ store_to f word i ((a + i.imm) % 2 ^ 32) b
+pub store_rest : (row : Row) → is_store row ≡ true → (f : Fixed) (word : ℕ) (i : Instr) (a b : ℕ) → rest row f word i a b ≡ store_to f word i ((a + i.imm) % 2 ^ 32) b
 store_rest (S opcode funct3) h f word i a b = refl
 store_rest (I opcode funct3) h f word i a b = absurd (cc)
 store_rest (R opcode funct3 funct7) h f word i a b = absurd (cc)

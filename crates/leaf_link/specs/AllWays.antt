@@ -63,6 +63,12 @@ WaysAreBuilt =
     (t : Turn) (walk : List Entry) (pa : ℕ) (leaf : List Atom) → IsFetched t walk pa → (op : Op) → has_address (row_of op) ≡ false
     → IsWays t walk pa leaf op (ways_of t walk pa leaf [] [] op)
 
+-- and with one, where the rows are those of the translation for all addresses that the atoms let be the virtual one
+abbrev pub AllWaysAreBuilt : Type 0
+AllWaysAreBuilt =
+    (t : Turn) (walk : List Entry) (pa : ℕ) (leaf : List Atom) (pages : ℕ → Bool) (loads stores : List EntryRow) → IsFetched t walk pa → HasPages t leaf pages → AreRows t pages ForLoad loads → AreRows t pages ForStore stores
+    → (op : Op) → IsWays t walk pa leaf op (ways_of t walk pa leaf loads stores op)
+
 -- the cases of a leaf's problem
 abbrev pub leaf_cases : Turn → List Entry → ℕ → List Atom → List EntryRow → List EntryRow → List Case
 leaf_cases t walk pa leaf loads stores = cases t walk pa leaf (ways_of t walk pa leaf loads stores)

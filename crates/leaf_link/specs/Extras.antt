@@ -77,6 +77,12 @@ BiasesInCases =
     (t : Turn) (walk : List Entry) (pa : ℕ) (leaf bias : List Atom) (op : Op) (ways : List Way) (x : Values) → IsFetched t walk pa → ArePlain leaf → ArePlain bias → IsWays t walk pa leaf op ways
     → (way : Way) → HasItem ways way → FitsPosed t walk pa leaf op way x → (met_by t bias x ≡ true) ↔ MeetsInCase t bias op way x
 
+-- and what fits a case with a data access makes it where the case's own atoms want it
+abbrev pub AddressesAreWanted : Type 0
+AddressesAreWanted =
+    (t : Turn) (walk : List Entry) (pa : ℕ) (leaf : List Atom) (op : Op) (ways : List Way) (x : Values) → IsFetched t walk pa → ArePlain leaf → IsWays t walk pa leaf op ways
+    → (way : Way) → HasItem ways way → FitsPosed t walk pa leaf op way x → way.reaches ≡ true → all_tests t leaf vars.Pa (address_by t x) ≡ true
+
 -- WHAT AN EXTRA ASKS
 -- the cuts of a variable let a value through
 abbrev pub passes_cuts : List (Slot × List ℕ) → Slot → ℕ → Bool

@@ -1,5 +1,5 @@
 -- Which of a candidate's values each of its new places has, told from the place alone where data accesses are not translated; and what its step keeps.
-use Rattle.std.specs.Prelude.{◌≡◌, ℕ, ◌<◌, Bool, false, ◌&&◌, nat_eq, if◌then◌else◌, List, Some}
+use Rattle.std.specs.Prelude.{◌≡◌, ℕ, ◌%◌, ◌<◌, ◌⊎◌, Bool, false, ◌&&◌, nat_eq, if◌then◌else◌, List, Some}
 use Rattle.rv_isa.specs.declared.instruction.Instr.{Instr}
 use Rattle.rv_isa.specs.Encoding.{Fits, word_of}
 use Rattle.rv_isa.specs.Table.{row_of}
@@ -15,7 +15,7 @@ use Rattle.rv_hart.specs.Machine.{data_view}
 use Rattle.fd_prob.specs.declared.slot.Slot.TheVariants as slots
 use Rattle.tpl_ast.specs.declared.template.Atom.{Atom}
 use Rattle.leaf_link.specs.Turns.{Turn}
-use Rattle.leaf_link.specs.Values.{Values, has_address, has_csr_operand, instr_in}
+use Rattle.leaf_link.specs.Values.{Values, has_csr_operand, instr_in}
 use Rattle.leaf_link.specs.Candidates.{IsCandidate}
 use Rattle.leaf_link.specs.Ways.{IsFetched}
 use Rattle.leaf_link.specs.Problems.{key_of}
@@ -42,9 +42,9 @@ abbrev pub ValuesAreInstructions : Type 0
 ValuesAreInstructions =
     (t : Turn) (leaf : List Atom) (new : Known) → (w : IsCandidate t leaf new) → IsInstruction (key_of t leaf new w) × (instr_in (key_of t leaf new w) ≡ w.instr)
 
--- a CSR instruction whose register is satp
-abbrev pub writes_satp : Instr → Bool
-writes_satp i = has_csr_operand (row_of i.op) && nat_eq i.csr 0x180
+-- a CSR instruction whose register is satp, which it reads or writes
+abbrev pub accesses_satp : Instr → Bool
+accesses_satp i = has_csr_operand (row_of i.op) && nat_eq i.csr 0x180
 
 abbrev pub IsNotSatp : Register → Type 0
 IsNotSatp Sstatus = Unit {0}
@@ -65,10 +65,14 @@ KeepsSatp Sret = Unit {0}
 -- the only steps that write satp are those of CSR instructions with its address
 abbrev pub StepsKeepSatp : Type 0
 StepsKeepSatp =
-    (t : Turn) (walk : List Entry) (pa : ℕ) (leaf : List Atom) (new : Known) → IsFetched t walk pa → (w : IsCandidate t leaf new) → writes_satp w.instr ≡ false → KeepsSatp w.change.control
+    (t : Turn) (walk : List Entry) (pa : ℕ) (leaf : List Atom) (new : Known) → IsFetched t walk pa → (w : IsCandidate t leaf new) → accesses_satp w.instr ≡ false → KeepsSatp w.change.control
 
--- the only new word is the fetched one, but for loads and stores
-abbrev pub NewWordsAreFetched : Type 0
-NewWordsAreFetched =
-    (t : Turn) (walk : List Entry) (pa : ℕ) (leaf : List Atom) (new : Known) → IsFetched t walk pa → (w : IsCandidate t leaf new) → has_address (row_of w.instr.op) ≡ false
-    → (addr v : ℕ) → new (Word addr) ≡ Some v → addr ≡ pa
+-- where data accesses are not translated, each new word is the fetched one, or that of the data access
+pub record AreTwoWords (new : Known) (pa : ℕ) : Type 0 where
+  pub other : ℕ
+  pub aligned : other % 4 ≡ 0
+  pub either : (addr v : ℕ) → new (Word addr) ≡ Some v → (addr ≡ pa) ⊎ (addr ≡ other)
+
+abbrev pub NewWordsAreTwo : Type 0
+NewWordsAreTwo =
+    (t : Turn) (walk : List Entry) (pa : ℕ) (leaf : List Atom) (new : Known) → IsFetched t walk pa → is_translated (data_view t.fixed) ≡ false → IsCandidate t leaf new → AreTwoWords new pa

@@ -1,5 +1,5 @@
 // The laws of biases.
-ghost use Rattle.leaf_link.specs.Extras.{BiasesAreKept, BiasesInCases, ExtrasAreBiases, ExtrasStay};
+ghost use Rattle.leaf_link.specs.Extras.{AddressesAreWanted, BiasesAreKept, BiasesInCases, ExtrasAreBiases, ExtrasStay};
 ghost use Rattle.leaf_link.specs.Problems.{BiasesAreAtoms};
 
 /// Does nothing. Its contract says that a bias is its atoms: what fits a case with more atoms is what fits the case,
@@ -10,9 +10,10 @@ pub fn biases_are_atoms()
 
 /// Does nothing. Its contract says what a bias asks in a case, on the physical address too: of what fits the case, the
 /// bias is met where its entry, its cuts and its relations are, and the address of the data access is one that it lets
-/// through.
+/// through; and that what fits a case makes its data access where the case's own atoms want it.
 pub fn biases_in_cases()
-    ensures { BiasesInCases }
+    ensures biases { BiasesInCases }
+    ensures addresses { AddressesAreWanted }
 {}
 
 /// Does nothing. Its contract says that a problem with an Extra that is a bias is the problem of the leaf with that

@@ -3,7 +3,7 @@ ghost use Rattle.leaf_link.specs.Agreements.{LeafAnswersAgree, LeafAnswersExist,
 ghost use Rattle.leaf_link.specs.AllWays.{LeafAnswersAreExact, LeafProblemsAreExact};
 ghost use Rattle.leaf_link.specs.Bounds.{SpaceIsBounded};
 ghost use Rattle.leaf_link.specs.Domains.{CandidatesAreInDomains, CandidatesAreWords, OldDomainsAreLet, OldValuesAreInDomains};
-ghost use Rattle.leaf_link.specs.Placing.{NewWordsAreFetched, PlacesHaveValues, StepsKeepSatp, ValuesAreInstructions};
+ghost use Rattle.leaf_link.specs.Placing.{NewWordsAreTwo, PlacesHaveValues, StepsKeepSatp, ValuesAreInstructions};
 ghost use Rattle.leaf_link.specs.Firsts.{FirstsExist, FirstsHoldNothing, PivotsAreExact, SpaceIsExact, TurnAnswersAreExact};
 ghost use Rattle.leaf_link.specs.Problems.{AnswersAreExact, ProblemIsExact};
 ghost use Rattle.leaf_link.specs.Started.{OrderIsKept};
@@ -73,11 +73,10 @@ pub fn candidates_are_in_domains()
 
 /// Does nothing. Its contract says that where data accesses are not translated the place alone tells which of a candidate's
 /// values a new place has, and that these values are those of the candidate's instruction; that no step writes satp but
-/// those of CSR instructions with its address; and that the fetched word is the only new one of an instruction that is
-/// no load or store.
+/// those of CSR instructions with its address; and that each new word is the fetched one or that of the data access.
 pub fn values_are_by_places()
     ensures places { PlacesHaveValues }
     ensures instructions { ValuesAreInstructions }
     ensures control { StepsKeepSatp }
-    ensures words { NewWordsAreFetched }
+    ensures words { NewWordsAreTwo }
 {}

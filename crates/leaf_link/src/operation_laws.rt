@@ -1,5 +1,5 @@
 // The laws of single operations.
-ghost use Rattle.leaf_link.specs.AllWays.{WaysAreBuilt};
+ghost use Rattle.leaf_link.specs.AllWays.{AllWaysAreBuilt, WaysAreBuilt};
 ghost use Rattle.leaf_link.specs.Controls.{CsrsAreExact, ReturnsAreExact};
 ghost use Rattle.leaf_link.specs.KindLaws.{AddressFenceIsExact, BranchesAreExact, BreakIsExact, CallIsExact, IllegalIsExact, JumpIsExact, JumpRegisterIsExact, PlainIsExact, WaysAreExact};
 ghost use Rattle.leaf_link.specs.Reaching.{LoadsAreExact, StoresAreExact};
@@ -11,10 +11,11 @@ pub fn ways_are_exact()
     ensures { WaysAreExact }
 {}
 
-/// Does nothing. Its contract says that the ways of an operation without a data access are what the rest of its script
-/// does.
+/// Does nothing. Its contract says that the ways of an operation are what the rest of its script does: without a data access
+/// whatever the rows, and with one where the rows are those of the translation.
 pub fn ways_are_built()
-    ensures { WaysAreBuilt }
+    ensures plain { WaysAreBuilt }
+    ensures all { AllWaysAreBuilt }
 {}
 
 /// Does nothing. Its contract says that values in the domains of an operation are of that operation, with fields that fit it.

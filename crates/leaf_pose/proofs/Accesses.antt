@@ -16,9 +16,7 @@ use Rattle.rv_isa.specs.Numbers.{op_numbered, op_number}
 use Rattle.rv_isa.specs.Table.{row_of}
 use Rattle.rv_isa.proofs.Numbers.{read}
 use Rattle.rv_csr.specs.declared.cause.Cause.TheVariants.{Illegal}
-use Rattle.rv_csr.specs.Table.{registers}
 use Rattle.rv_script.specs.declared.place.Place.TheVariants.{Reg}
-use Rattle.rv_script.specs.Lists.{HasItem}
 use Rattle.tpl_ast.specs.declared.template.Atom.{Atom}
 use Rattle.tpl_ast.specs.declared.template.Var.TheVariants as vars
 use Rattle.fd_prob.specs.declared.problem.Assignment.{Assignment}
@@ -50,7 +48,7 @@ use Rattle.leaf_stand.proofs.Single.{atoms_same, both_same, domain_in_case, fits
 use Rattle.dom_set.proofs.Sets.{own_elements}
 use Rattle.leaf_csrs.proofs.Counted.{in_both}
 use Rattle.leaf_csrs.specs.Laws.{UsagesAreGranted}
-use Rattle.leaf_csrs.specs.Usages.{usage_way, usages_of, written_in}
+use Rattle.leaf_csrs.specs.Usages.{usage_way, written_in}
 use Rattle.leaf_pose.specs.declared.csrs.Access.{Access}
 use Rattle.leaf_pose.specs.declared.csrs.Access.TheVariants.{Granted, Refused}
 use Rattle.leaf_pose.specs.Csrs.{IsListed, access_rels, access_test, access_way, end_of, writes_rel}
@@ -61,11 +59,11 @@ and_assoc true b c = refl
 and_assoc false b c = refl
 
 -- what an end says of variables where any old value may be read
-abbrev open_by : Stand → End → Slot → ℕ → Bool
+abbrev pub open_by : Stand → End → Slot → ℕ → Bool
 open_by s Retires = old_new
 open_by s (Traps cause) = vector_alone (turn_of s) cause
 
-open_same : (s : Stand) (leaf : List Atom) (op : Op) (end : End) (slot : Slot) (v : ℕ) → open_at (turn_of s) leaf (shape_with op end) slot v ≡ (base_domain (turn_of s) 0 leaf (shape_at (shape_with op end)) slot v && open_by s end slot v)
+pub open_same : (s : Stand) (leaf : List Atom) (op : Op) (end : End) (slot : Slot) (v : ℕ) → open_at (turn_of s) leaf (shape_with op end) slot v ≡ (base_domain (turn_of s) 0 leaf (shape_at (shape_with op end)) slot v && open_by s end slot v)
 open_same s leaf op Retires slots.OldCsr v = refl
 open_same s leaf op (Traps cause) slots.OldCsr v = refl
 open_same s leaf op Retires slots.Op v = sym (own_domain s leaf op Retires slots.Op v)
@@ -165,7 +163,7 @@ writes_same s op (Granted register usage) x = and_true _ ∙ ap (λ (o : Option 
 writes_same s op (Refused written) x = refl
 
 -- the sources, but for whether an untouched one may be started
-abbrev known_sources : Stand → AShape → Values → Bool
+abbrev pub known_sources : Stand → AShape → Values → Bool
 known_sources s sh x =
     unless (uses_rs1 sh) (is_held ((turn_of s).known (Reg (x slots.Rs1))) (x slots.A) && true)
     && (unless (uses_rs2 sh) (is_held ((turn_of s).known (Reg (x slots.Rs2))) (x slots.B)) && (unless (uses_rs1 sh && uses_rs2 sh) (is_linked x) && true))
@@ -184,9 +182,8 @@ source_back false a w r h = h
 no_address : (op : Op) (end : End) (b : Bool) → has_csr_operand (row_of op) ≡ true → unless (uses_address (shape_at (shape_with op end))) b ≡ true
 no_address op end b h = ap (λ (y : Bool). unless (y && uses_rs1 (shape_at (shape_with op end))) b) (row_without (row_of op) h)
 
-known_same : (s : Stand) (op : Op) (end : End) (x : Assignment) → list_all (holds op x) (source_rels (shape_at (shape_with op end)) s.registers) ≡ known_sources s (shape_at (shape_with op end)) (values_in x)
-known_same s op end x =
-    let sh = shape_at (shape_with op end) in
+pub known_same : (s : Stand) (op : Op) (sh : AShape) (x : Assignment) → list_all (holds op x) (source_rels sh s.registers) ≡ known_sources s sh (values_in x)
+known_same s op sh x =
     sources_same op x s.registers (uses_rs1 sh) (uses_rs2 sh) _ _ _ true true
     (held_same (slice_get s.registers (value_of x slots.Rs1)) (value_of x slots.A)) (held_same (slice_get s.registers (value_of x slots.Rs2)) (value_of x slots.B)) (link_same (value_of x slots.Rs1 == value_of x slots.Rs2) (value_of x slots.A == value_of x slots.B))
     refl refl
@@ -255,7 +252,7 @@ access_case_same of_operations granted s leaf op access c csr listed j b n d r x
     split e =
         ap (λ (o : Op). list_all (holds o x) c.rels) (ap op_numbered n ∙ read op) ∙ ap (λ (l : List Rel). list_all (holds op x) l) r
         ∙ list_all-append (holds op x) (source_rels sh s.registers ++ atom_rels leaf) (writes_rel access)
-        ∙ both_same _ _ _ _ (list_all-append (holds op x) (source_rels sh s.registers) (atom_rels leaf) ∙ both_same _ _ _ _ (known_same s op (end_of access) x) (atoms_same x s.pc sh refl (e ∙ n) leaf j b)) (writes_same s op access x)
+        ∙ both_same _ _ _ _ (list_all-append (holds op x) (source_rels sh s.registers) (atom_rels leaf) ∙ both_same _ _ _ _ (known_same s op sh x) (atoms_same x s.pc sh (e ∙ n) leaf j b)) (writes_same s op access x)
 
     no_goal : (y : Bool) → unless (uses sh vars.Target) y ≡ true
     no_goal y = ap (λ (u : Bool). unless u y) (no_target op (end_of access) csr)

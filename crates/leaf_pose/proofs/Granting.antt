@@ -15,29 +15,26 @@ use Rattle.rv_csr.specs.declared.table.Register.{Register}
 use Rattle.rv_csr.specs.Table.{registers}
 use Rattle.rv_script.specs.Lists.{HasItem}
 use Rattle.tpl_ast.specs.declared.template.Atom.{Atom}
-use Rattle.fd_prob.specs.declared.problem.Assignment.{Assignment}
 use Rattle.fd_prob.specs.declared.problem.Case.{Case as ACase}
 use Rattle.fd_prob.specs.declared.slot.Slot.{Slot}
 use Rattle.fd_prob.specs.declared.slot.Slot.TheVariants as slots
-use Rattle.fd_prob.specs.Fitting.{fits_case}
-use Rattle.fd_prob.specs.Order.{IsAssignment}
 use Rattle.leaf_link.specs.Values.{Values, has_csr_operand}
-use Rattle.leaf_link.specs.Cases.{Case, Fits, FitsCase, Shape as AShape, Way as AWay, atoms_hold, base_domain, case_at, case_if, shape_of, sources_hold, unless, uses_rs1}
+use Rattle.leaf_link.specs.Cases.{Case, Fits, FitsCase, Shape as AShape, Way as AWay, atoms_hold, base_domain, case_at, case_if, shape_of, sources_hold, unless}
 use Rattle.leaf_link.specs.Answers.{values_in}
 use Rattle.leaf_link.specs.Ways.{DomainsAreOfOperations, FitsWay, IsOf}
 use Rattle.leaf_stand.specs.declared.shape.End.{End}
 use Rattle.leaf_stand.specs.declared.shape.End.TheVariants.{Retires, Traps}
 use Rattle.leaf_stand.specs.declared.stand.Stand.{Stand}
 use Rattle.leaf_stand.specs.Kinds.{kind_of}
-use Rattle.leaf_stand.specs.Posed.{FitsSame, is_listed, is_other, is_posed_at, stand_cases, stand_ways}
-use Rattle.leaf_stand.specs.Stands.{outcome_at, shape_at, turn_of}
+use Rattle.leaf_stand.specs.Posed.{FitsSame, is_listed, is_data, is_posed_at, stand_cases, stand_ways}
+use Rattle.leaf_stand.specs.Stands.{shape_at, turn_of}
 use Rattle.leaf_stand.specs.Ways.{shape_with}
 use Rattle.leaf_stand.proofs.Fits.{fits_either, fits_left, fits_right, none_yet}
 use Rattle.leaf_csrs.specs.declared.usage.Usage.{Usage}
-use Rattle.leaf_csrs.specs.Laws.{DeniedAreRefused, GrantedAreUsages, HasUsage, IsRefused, RefusedAreDenied, UsagesAreGranted}
-use Rattle.leaf_csrs.specs.Usages.{denied_way, granted_way, has_source, refused_way, usage_way, usages_of}
+use Rattle.leaf_csrs.specs.Laws.{DeniedAreRefused, GrantedAreUsages, RefusedAreDenied, UsagesAreGranted}
+use Rattle.leaf_csrs.specs.Usages.{denied_way, granted_way, refused_way, usage_way, usages_of}
 use Rattle.leaf_pose.specs.declared.shaped.Shaped.{Shaped}
-use Rattle.leaf_pose.proofs.Steps.{nothing_added, then_adds}
+use Rattle.leaf_pose.proofs.Steps.{plain_ways, nothing_added, then_adds}
 use Rattle.leaf_pose.specs.declared.csrs.Access.{Access}
 use Rattle.leaf_pose.specs.declared.csrs.Access.TheVariants.{Granted, Refused}
 use Rattle.leaf_pose.specs.Csrs.{IsListed, access_case, access_way, csr_cases, end_of, register_cases, usage_cases}
@@ -45,7 +42,7 @@ use Rattle.leaf_pose.specs.Posed.{Adds, HasFitted, IsShaped}
 use Rattle.leaf_pose.proofs.Accesses.{may_source}
 
 -- the operations with a CSR operand
-pub csr_built : (op : Op) → has_csr_operand (row_of op) ≡ true → is_other (kind_of op) ≡ false
+pub csr_built : (op : Op) → has_csr_operand (row_of op) ≡ true → is_data (kind_of op) ≡ false
 csr_built ops.Csrrw h = refl
 csr_built ops.Csrrs h = refl
 csr_built ops.Csrrc h = refl
@@ -124,11 +121,11 @@ access_shaped of_operations granted denied s leaf op (Granted register usage) c 
   where
     go : Fits (case_with s leaf op (usage_way s op register usage) ∷ []) (values_in x) → HasFitted s leaf (shape_with op Retires) (values_in x)
     go (inl f) = record {
-      built = csr_built op h;
       whole = granted_way s op;
-      is = subst (λ (l : List AWay). HasItem l (granted_way s op)) (sym (stand_csr s op h)) (inr (inl refl));
+      is = subst (λ (l : List AWay). HasItem l (granted_way s op)) (sym (plain_ways s leaf op (csr_built op h) ∙ stand_csr s op h)) (inr (inl refl));
       outcome = refl;
       reaches = refl;
+      inner = λ n. refl;
       posed = posed;
       fits = usage_granted of_operations granted s leaf op register usage (values_in x) h listed.0 listed.1 f;
     }
@@ -137,11 +134,11 @@ access_shaped of_operations granted denied s leaf op (Refused written) c h liste
   where
     go : Fits (case_with s leaf op (refused_way s op written) ∷ []) (values_in x) → HasFitted s leaf (shape_with op (Traps Illegal)) (values_in x)
     go (inl f) = record {
-      built = csr_built op h;
       whole = denied_way s;
-      is = subst (λ (l : List AWay). HasItem l (denied_way s)) (sym (stand_csr s op h)) (inl refl);
+      is = subst (λ (l : List AWay). HasItem l (denied_way s)) (sym (plain_ways s leaf op (csr_built op h) ∙ stand_csr s op h)) (inl refl);
       outcome = refl;
       reaches = refl;
+      inner = λ n. refl;
       posed = posed;
       fits = refused_denied of_operations denied s leaf op written (values_in x) h f;
     }
@@ -275,7 +272,7 @@ accesses_back of_operations usages refused s leaf op h x f = elim (first_or_seco
         (put (retires_posed s leaf op) (case_with s leaf op (usage_way s op u.register u.usage)) [] x posed (from_parts s leaf op 255 (granted_way s op) (usage_way s op u.register u.usage) x refl p u.fits)))))
 
 -- what has no CSR operand and is built stands in a list
-pub listed_where : (op : Op) → has_csr (row_of op) ≡ false → is_other (kind_of op) ≡ false → is_listed (kind_of op) ≡ true
+pub listed_where : (op : Op) → has_csr (row_of op) ≡ false → is_data (kind_of op) ≡ false → is_listed (kind_of op) ≡ true
 listed_where ops.Csrrw n h = absurd (cc n)
 listed_where ops.Csrrs n h = absurd (cc n)
 listed_where ops.Csrrc n h = absurd (cc n)

@@ -6,4 +6,5 @@ pub mod Whole
 pub mod Adding
 pub mod Settled
 pub mod Accesses
+pub mod Accessing
 pub mod Granting

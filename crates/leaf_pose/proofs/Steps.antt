@@ -1,6 +1,8 @@
 -- Cases that come to others, in step with those of the definition.
 use Rattle.std.proofs.Common.{◌≡◌, ℕ, ◌+◌, ◌<◌, ◌≤◌, Bool, true, false, ◌&&◌, ◌||◌, List, [], ◌∷◌, ◌++◌, refl, sym, ap, ◌∙◌, subst, arith, inl, inr, append_assoc, drop, get_or, length, suc}
+use Rattle.std.specs.Prelude.{if◌then◌else◌}
 use Rattle.std.specs.List.{list_all, list_any}
+use Rattle.rv_script.specs.Lists.{HasItem}
 use Rattle.std.proofs.Math.Seq.{drop-cons}
 use Rattle.std.proofs.lemmas.Bool.{and_from, and_parts}
 use Rattle.std.proofs.lemmas.List.{append-nil, drop_all}
@@ -15,14 +17,14 @@ use Rattle.fd_prob.specs.Fitting.{IsCase, fits_case}
 use Rattle.fd_prob.specs.Relations.{holds}
 use Rattle.rv_isa.specs.Numbers.{op_numbered, op_number}
 use Rattle.leaf_link.specs.Values.{Values}
-use Rattle.leaf_link.specs.Cases.{Case, Fits, FitsCase, Shape as AShape, atoms_hold, base_domain, case_at, case_if, shape_of, sources_hold}
+use Rattle.leaf_link.specs.Cases.{Case, Fits, FitsCase, Shape as AShape, Way as AWay, atoms_hold, base_domain, case_at, case_if, shape_of, sources_hold}
 use Rattle.leaf_link.specs.Answers.{values_in}
 use Rattle.leaf_stand.specs.declared.shape.Shape.{Shape}
 use Rattle.leaf_pose.specs.declared.shaped.Shaped.{Shaped}
 use Rattle.leaf_stand.specs.declared.stand.Stand.{Stand}
 use Rattle.leaf_stand.specs.declared.way.Way.{Way}
 use Rattle.leaf_pose.specs.Posed.{Adds, AreShaped, FitsMore, HasFitted, IsAllowedCase, IsShaped}
-use Rattle.leaf_stand.specs.Posed.{FitsSame, IsPartOf, all_cases, allows, is_other, is_posed_at, stand_cases, stand_ways}
+use Rattle.leaf_stand.specs.Posed.{FitsSame, IsPartOf, all_cases, allows, data_ways, is_data, is_posed_at, stand_cases, stand_ways, ways_at}
 use Rattle.leaf_stand.specs.Kinds.{kind_of}
 use Rattle.leaf_stand.specs.Relations.{way_at}
 use Rattle.leaf_stand.specs.Stands.{shape_at, turn_of}
@@ -133,12 +135,15 @@ part_fits s leaf op way x h f =
     domain_parts : (slot : Slot) → (base_domain (turn_of s) 0 leaf (shape_of op (way_at s op way)) slot (x slot) ≡ true) × ((way_at s op way).also slot (x slot) ≡ true)
     domain_parts slot = and_parts (base_domain (turn_of s) 0 leaf (shape_of op (way_at s op way)) slot (x slot)) ((way_at s op way).also slot (x slot)) (f.each slot)
 
-pub way_shaped : (s : Stand) (leaf : List Atom) (op : Op) (way : Way) (c : ACase) → is_other (kind_of op) ≡ false → IsPartOf s op way → is_posed_at s leaf (shape_at (shape_with op way.end)) ≡ true
+pub plain_ways : (s : Stand) (leaf : List Atom) (op : Op) → is_data (kind_of op) ≡ false → ways_at s leaf op ≡ stand_ways s op
+plain_ways s leaf op n = ap (λ (b : Bool). if b then data_ways s leaf op s.bytes else stand_ways s op) n
+
+pub way_shaped : (s : Stand) (leaf : List Atom) (op : Op) (way : Way) (c : ACase) → is_data (kind_of op) ≡ false → IsPartOf s op way → is_posed_at s leaf (shape_at (shape_with op way.end)) ≡ true
     → FitsSame (c ∷ []) (case_at (turn_of s) 0 leaf op (way_at s op way) ∷ []) → IsShaped s leaf (shape_with op way.end) c
 way_shaped s leaf op way c built h posed same x hx k = go ((same x hx).0 (fits_one x c k))
   where
     go : Fits (case_at (turn_of s) 0 leaf op (way_at s op way) ∷ []) (values_in x) → HasFitted s leaf (shape_with op way.end) (values_in x)
-    go (inl f) = record { built = built; whole = h.whole; is = h.is; outcome = h.outcome; reaches = h.reaches; posed = posed; fits = part_fits s leaf op way (values_in x) h f }
+    go (inl f) = record { whole = h.whole; is = subst (λ (l : List AWay). HasItem l h.whole) (sym (plain_ways s leaf op built)) h.is; outcome = h.outcome; reaches = h.reaches; inner = λ n. refl; posed = posed; fits = part_fits s leaf op way (values_in x) h f }
     go (inr f) = absurd f
 
 pub allowed_case : (s : Stand) (leaf : List Atom) (op : Op) (c : ACase) → c.op ≡ op_number op → allows s leaf op ≡ true → IsAllowedCase s leaf c
@@ -168,12 +173,12 @@ way_here s op (way ∷ ways) Rattle.std.proofs.Common.zero d lt h = h.0
 way_here s op (way ∷ ways) (suc i) d lt h = way_here s op ways i d (omega (arith, lt)) h.1
 
 -- ALL OPERATIONS
-pub next_operation : (s : Stand) (leaf : List Atom) (ops : List Op) (i : ℕ) (d : Op) (a b end : Shaped) → i < length ops → Adds s leaf a b (stand_cases s leaf (get_or ops i d) (stand_ways s (get_or ops i d)))
+pub next_operation : (s : Stand) (leaf : List Atom) (ops : List Op) (i : ℕ) (d : Op) (a b end : Shaped) → i < length ops → Adds s leaf a b (stand_cases s leaf (get_or ops i d) (ways_at s leaf (get_or ops i d)))
     → Adds s leaf b end (all_cases s leaf (drop (i + 1) ops)) → Adds s leaf a end (all_cases s leaf (drop i ops))
 next_operation s leaf ops i d a b end lt step rest =
     let n : i + 1 ≡ suc i = omega arith in
     let e : drop i ops ≡ get_or ops i d ∷ drop (i + 1) ops = drop-cons ops i d lt ∙ ap (λ (m : ℕ). get_or ops i d ∷ drop m ops) (sym n) in
-    subst (λ (l : List Op). Adds s leaf a end (all_cases s leaf l)) (sym e) (then_adds s leaf a b end (stand_cases s leaf (get_or ops i d) (stand_ways s (get_or ops i d))) (all_cases s leaf (drop (i + 1) ops)) step rest)
+    subst (λ (l : List Op). Adds s leaf a end (all_cases s leaf l)) (sym e) (then_adds s leaf a b end (stand_cases s leaf (get_or ops i d) (ways_at s leaf (get_or ops i d))) (all_cases s leaf (drop (i + 1) ops)) step rest)
 
 pub no_operations : (s : Stand) (leaf : List Atom) (ops : List Op) (i : ℕ) (a : Shaped) → length ops ≤ i → Adds s leaf a a (all_cases s leaf (drop i ops))
 no_operations s leaf ops i a le = subst (λ (l : List Op). Adds s leaf a a (all_cases s leaf l)) (sym (drop_all i ops le)) (nothing_added s leaf a [] none_yet)

@@ -52,7 +52,7 @@ unasked_target s leaf used aim old h =
     let b = neither (not (is_anywhere aim)) (speak_of leaf vars.Target) h in
     record {
       set = None;
-      is = λ v small. unless_true used _ (and_from _ _ (anywhere_aimed aim v b.0) (silent (turn_of s) leaf vars.Target v b.1 refl));
+      is = λ v small. unless_true used _ (and_from _ _ (anywhere_aimed aim v b.0) (silent (turn_of s) leaf vars.Target v b.1));
       none = λ n. refl;
       added = sym (append-nil old);
     }

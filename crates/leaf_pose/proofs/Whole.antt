@@ -1,6 +1,8 @@
 -- The problem of a leaf, whole.
 use Rattle.std.proofs.Common.{◌≡◌, ℕ, zero, suc, ◌<◌, ◌^◌, Bool, true, false, ◌&&◌, ◌==◌, List, [], ◌∷◌, ◌++◌, Option, Some, None, refl, sym, ap, ◌∙◌, subst, inl, inr, arith, lit<, All, find, get_or, length}
-use Rattle.std.specs.Prelude.{nat_eq, nat_lt, slice_index_or}
+use Rattle.std.specs.Prelude.{not, IfSome, nat_eq, slice_index_or, ◌||◌}
+use Rattle.std.specs.Option.{is_some}
+use Rattle.data_bytes.specs.declared.memory.DataBytes.{DataBytes}
 use Rattle.std.specs.List.{list_all}
 use Rattle.std.proofs.lemmas.Bool.{and_parts, cases_Bool}
 use Rattle.std.proofs.lemmas.Bool.Decides.{nat_tests}
@@ -9,7 +11,6 @@ use Rattle.rv_isa.specs.declared.instruction.Instr.{Instr}
 use Rattle.rv_isa.specs.declared.operation.Op.{Op}
 use Rattle.rv_isa.specs.declared.operation.Op.TheVariants as ops
 use Rattle.rv_isa.specs.declared.operation.TheConstants.{OPS}
-use Rattle.rv_isa.specs.Fields.{has_csr}
 use Rattle.rv_isa.specs.Reading.{decoded}
 use Rattle.rv_isa.specs.Table.{row_of}
 use Rattle.rv_script.specs.declared.place.Place.TheVariants.{Word}
@@ -30,8 +31,8 @@ use Rattle.rv_isa.specs.Numbers.{op_numbered, op_number}
 use Rattle.fd_prob.specs.Slots.{slot_number}
 use Rattle.leaf_link.specs.Turns.{Turn, is_first_form, is_second_form}
 use Rattle.leaf_link.specs.Values.{has_address}
-use Rattle.leaf_link.specs.Cases.{all_tests, in_format, in_read, in_word, or_no}
-use Rattle.leaf_link.specs.Firsts.{IsDomain, IsFirst, IsFirstOf, first_domain, has_walk, in_first_format, in_first_word, is_allowed, is_modelled}
+use Rattle.leaf_link.specs.Cases.{all_tests, in_read, or_no}
+use Rattle.leaf_link.specs.Firsts.{IsDomain, IsFirst, IsFirstOf, first_domain, has_walk, in_first_word, is_allowed}
 use Rattle.leaf_stand.specs.declared.shape.Shape.{Shape}
 use Rattle.leaf_pose.specs.declared.shaped.Shaped.{Shaped}
 use Rattle.leaf_stand.specs.declared.stand.Stand.{Stand}
@@ -40,16 +41,17 @@ use Rattle.leaf_stand.specs.FirstCases.{IsFirstCase}
 use Rattle.leaf_stand.specs.FirstCases.{first_at}
 use Rattle.leaf_stand.specs.Kinds.{kind_of}
 use Rattle.leaf_pose.specs.Posed.{Adds, AreShaped, IsAllowedCase}
-use Rattle.leaf_stand.specs.Posed.{FitsSame, all_cases, allows, are_posable, is_other, is_posable, is_read_as, reads_as}
+use Rattle.leaf_stand.specs.Posed.{FitsSame, all_cases, allows, are_posable, has_bytes, is_data, is_posable, is_read_as, reads_as}
 use Rattle.leaf_pose.specs.Problems.{ArePivots, PosesLeaf}
-use Rattle.leaf_stand.specs.Stands.{IsStandOf, turn_of}
+use Rattle.leaf_stand.specs.Stands.{IsDataOf, IsStandOf, turn_of}
 use Rattle.leaf_pose.proofs.Leading.{FindsFirst, first_found, none_found}
 use Rattle.leaf_stand.proofs.Lists.{each_domain}
 use Rattle.leaf_stand.proofs.Rows.{built_address}
 use Rattle.leaf_pose.proofs.Shapes.{nothing}
 use Rattle.leaf_stand.proofs.Single.{both_same, domain_in_case}
 use Rattle.leaf_stand.proofs.Fits.{none_yet}
-use Rattle.leaf_stand.proofs.Turning.{all_same, built_if, every_turn}
+use Rattle.leaf_stand.proofs.Fits.{posable_where}
+use Rattle.leaf_stand.proofs.Turning.{AreGoals, all_same, every_turn}
 
 -- DRAWS
 pub pivots_are : (draws : List ℕ) → ArePivots draws (get_or draws 2 0 ∷ get_or draws 3 0 ∷ get_or draws 4 0 ∷ get_or draws 5 0 ∷ get_or draws 6 0 ∷ get_or draws 7 0 ∷ get_or draws 8 0 ∷ get_or draws 9 0 ∷ get_or draws 10 0 ∷ get_or draws 11 0 ∷ get_or draws 12 0 ∷ get_or draws 13 0 ∷ get_or draws 14 0 ∷ get_or draws 15 0 ∷ [])
@@ -80,19 +82,34 @@ or_nothing b inside v h = ap (λ (c : Bool). or_no c inside v) h
 no_walk : (t : Turn) (op : Op) → has_address (row_of op) ≡ false → has_walk t op ≡ false
 no_walk t op h = ap (λ (b : Bool). b && is_translated (data_view t.fixed)) h
 
-first_same : (s : Stand) (t : Turn) (walk : List Entry) (pa : ℕ) → IsStandOf s t walk pa → (leaf : List Atom) (op : Op) → is_other (kind_of op) ≡ false → (slot : Slot) (v : ℕ) → first_domain t pa leaf op slot v ≡ first_at (turn_of s) leaf op slot v
+walkless : (s : Stand) (t : Turn) (walk : List Entry) (pa : ℕ) → IsStandOf s t walk pa → (leaf : List Atom) (op : Op) → is_posable s leaf op ≡ true → allows s leaf op ≡ true → has_walk t op ≡ false
+walkless s t walk pa h leaf op p a = of_kind (is_data (kind_of op)) refl (posable_where s leaf op p a)
+  where
+    and_no : (b c : Bool) → c ≡ false → (b && c) ≡ false
+    and_no true c e = e
+    and_no false c e = refl
+
+    of_bytes : (o : Option DataBytes) → IfSome o (IsDataOf t walk pa) → is_some o ≡ true → has_walk t op ≡ false
+    of_bytes None is some = absurd (cc some)
+    of_bytes (Some bytes) is some = and_no (has_address (row_of op)) (is_translated (data_view t.fixed)) is.has.plain
+
+    of_kind : (b : Bool) → is_data (kind_of op) ≡ b → (not (is_data (kind_of op)) || has_bytes s) ≡ true → has_walk t op ≡ false
+    of_kind true n k = of_bytes s.bytes h.bytes (subst (λ (d : Bool). (not d || has_bytes s) ≡ true) n k)
+    of_kind false n k = no_walk t op (built_address op n)
+
+first_same : (s : Stand) (t : Turn) (walk : List Entry) (pa : ℕ) → IsStandOf s t walk pa → (leaf : List Atom) (op : Op) → has_walk t op ≡ false → (slot : Slot) (v : ℕ) → first_domain t pa leaf op slot v ≡ first_at (turn_of s) leaf op slot v
 first_same s t walk pa h leaf op n slots.Op v = first_field s t walk pa h leaf op slots.Op vars.Op v refl
 first_same s t walk pa h leaf op n slots.Rs1 v = first_field s t walk pa h leaf op slots.Rs1 vars.Rs1 v refl
 first_same s t walk pa h leaf op n slots.Rs2 v = first_field s t walk pa h leaf op slots.Rs2 vars.Rs2 v refl
 first_same s t walk pa h leaf op n slots.Imm v = first_field s t walk pa h leaf op slots.Imm vars.Imm v refl
 first_same s t walk pa h leaf op n slots.Rd v = first_field s t walk pa h leaf op slots.Rd vars.Rd v refl
 first_same s t walk pa h leaf op n slots.Csr v = first_field s t walk pa h leaf op slots.Csr vars.Csr v refl
-first_same s t walk pa h leaf op n slots.Ea v = both_same _ _ _ _ (or_nothing (has_address (row_of op)) true v (built_address op n)) (all_same s t walk pa h leaf vars.Ea v refl)
+first_same s t walk pa h leaf op n slots.Ea v = both_same _ _ _ _ refl (all_same s t walk pa h leaf vars.Ea v refl)
 first_same s t walk pa h leaf op n slots.A v = both_same _ _ _ _ refl (all_same s t walk pa h leaf vars.A v refl)
 first_same s t walk pa h leaf op n slots.B v = both_same _ _ _ _ refl (all_same s t walk pa h leaf vars.B v refl)
-first_same s t walk pa h leaf op n slots.FirstPte v = or_nothing (has_walk t op) (is_first_form t v) v (no_walk t op (built_address op n))
-first_same s t walk pa h leaf op n slots.SecondPte v = or_nothing (has_walk t op) (is_second_form t v) v (no_walk t op (built_address op n))
-first_same s t walk pa h leaf op n slots.DataWord v = or_nothing (has_address (row_of op)) true v (built_address op n)
+first_same s t walk pa h leaf op n slots.FirstPte v = or_nothing (has_walk t op) (is_first_form t v) v n
+first_same s t walk pa h leaf op n slots.SecondPte v = or_nothing (has_walk t op) (is_second_form t v) v n
+first_same s t walk pa h leaf op n slots.DataWord v = refl
 first_same s t walk pa h leaf op n slots.OldCsr v = refl
 first_same s t walk pa h leaf op n slots.Vector v = ap (λ (l : List ℕ). is_in l v) h.vectors
 
@@ -117,7 +134,7 @@ unfolding op_number
 number_small ops.Lui = lit< tt
 number_small _ = lit< tt
 
-is_first : (s : Stand) (t : Turn) (walk : List Entry) (pa : ℕ) → IsStandOf s t walk pa → (leaf : List Atom) (op : Op) (c : ACase) → is_other (kind_of op) ≡ false → IsFirstCase s leaf op c → IsFirst t pa leaf op c
+is_first : (s : Stand) (t : Turn) (walk : List Entry) (pa : ℕ) → IsStandOf s t walk pa → (leaf : List Atom) (op : Op) (c : ACase) → has_walk t op ≡ false → IsFirstCase s leaf op c → IsFirst t pa leaf op c
 is_first s t walk pa h leaf op c n first = record {
   allowed = let d = of_slot slots.Op in d.same (op_number op) (number_small op);
   domains = λ allowed slot pos. of_slot slot;
@@ -157,7 +174,7 @@ firsts_found s t walk pa h leaf cs firsts rest p e are all op = elim (cases_Bool
   | inl a ↦
       let f : FindsFirst s leaf op cs = subst (λ (l : List ACase). FindsFirst s leaf op l) (sym e) (first_found s leaf OPS op firsts rest are (every_op op) a) in
       let posable : is_posable s leaf op ≡ true = test_in (is_posable s leaf) OPS op (every_op op) p in
-      subst (λ (o : Option ACase). IsFirstOf t pa leaf op o) (sym f.found) (is_first s t walk pa h leaf op f.case_is (built_if s leaf op posable a) f.first)
+      subst (λ (o : Option ACase). IsFirstOf t pa leaf op o) (sym f.found) (is_first s t walk pa h leaf op f.case_is (walkless s t walk pa h leaf op posable a) f.first)
   | inr n ↦ subst (λ (o : Option ACase). IsFirstOf t pa leaf op o) (sym (none_found s leaf op cs all n)) (allowed_same s t walk pa h leaf op ∙ n)
 ]
   where
@@ -168,9 +185,9 @@ firsts_found s t walk pa h leaf cs firsts rest p e are all op = elim (cases_Bool
       | inr j ↦ test_in test xs o j (and_parts (test x) (list_all test xs) q).1
     ]
 
-pub whole_problem : (s : Stand) (leaf : List Atom) (draws pivots : List ℕ) (start firsts end : Shaped) → are_posable s leaf ≡ true → start.cases ≡ [] → ArePivots draws pivots → AddsFirsts s leaf OPS start firsts → Adds s leaf firsts end (all_cases s leaf OPS)
+pub whole_problem : AreGoals → (s : Stand) (leaf : List Atom) (draws pivots : List ℕ) (start firsts end : Shaped) → are_posable s leaf ≡ true → start.cases ≡ [] → ArePivots draws pivots → AddsFirsts s leaf OPS start firsts → Adds s leaf firsts end (all_cases s leaf OPS)
     → PosesLeaf s leaf draws (record { cases = end.cases; pivots = pivots; pairs = s.pairs; fetch = false })
-whole_problem s leaf draws pivots start firsts end p n d h k t walk pa loads stores is =
+whole_problem laws s leaf draws pivots start firsts end p n d h k t walk pa is =
     let same : FitsSame end.cases (all_cases s leaf OPS) = k.fits [] (h.adds.fits [] (subst (λ (l : List ACase). FitsSame l []) (sym n) none_yet)) in
     let here : end.cases ≡ h.firsts ++ k.rest = start_gone start.cases h.firsts k.rest end.cases n (k.behind ∙ ap (λ (l : List ACase). l ++ k.rest) h.is) in
     record {
@@ -179,7 +196,7 @@ whole_problem s leaf draws pivots start firsts end p n d h k t walk pa loads sto
       pairs = sym is.pairs;
       draws_are = d;
       firsts = firsts_found s t walk pa is leaf end.cases h.firsts k.rest p here h.are (k.allowed (h.adds.allowed (nothing (IsAllowedCase s leaf) start.cases n)));
-      cases = record { same = every_turn s t walk pa is leaf loads stores OPS end.cases p same };
+      cases = record { same = every_turn laws s t walk pa is leaf OPS end.cases p same };
     }
 
 pub shaped_lengths : (s : Stand) (leaf : List Atom) (shapes : List Shape) (cs : List ACase) → AreShaped s leaf shapes cs → length shapes ≡ length cs

@@ -1,5 +1,5 @@
 -- The cases of CSR instructions: one for each register and usage, and two for accesses that are refused.
-use Rattle.std.specs.Prelude.{◌≡◌, ℕ, Bool, true, false, ◌&&◌, List, [], ◌∷◌, ◌++◌}
+use Rattle.std.specs.Prelude.{ℕ, Bool, true, false, List, [], ◌∷◌, ◌++◌}
 use Rattle.rv_isa.specs.declared.operation.Op.{Op}
 use Rattle.rv_csr.specs.declared.cause.Cause.TheVariants.{Illegal}
 use Rattle.rv_csr.specs.declared.table.Register.{Register}
@@ -9,8 +9,7 @@ use Rattle.tpl_ast.specs.declared.template.Atom.{Atom}
 use Rattle.fd_prob.specs.declared.relation.Rel.{Rel}
 use Rattle.fd_prob.specs.declared.relation.Rel.TheVariants.{Writes}
 use Rattle.fd_prob.specs.declared.slot.Slot.{Slot}
-use Rattle.fd_prob.specs.declared.slot.Slot.TheVariants as slots
-use Rattle.leaf_link.specs.Cases.{Case, Way as AWay, case_at, case_if, domain}
+use Rattle.leaf_link.specs.Cases.{Case, Way as AWay, case_at, case_if}
 use Rattle.leaf_stand.specs.declared.shape.End.{End}
 use Rattle.leaf_stand.specs.declared.shape.End.TheVariants.{Retires, Traps}
 use Rattle.leaf_stand.specs.declared.stand.Stand.{Stand}

@@ -13,10 +13,10 @@ use Rattle.leaf_link.specs.Cases.{Case, FitsCase, Way as AWay, case_at}
 use Rattle.leaf_link.specs.Answers.{values_in}
 use Rattle.leaf_stand.specs.declared.shape.Shape.{Shape}
 use Rattle.leaf_stand.specs.declared.stand.Stand.{Stand}
-use Rattle.leaf_stand.specs.Kinds.{kind_of}
 use Rattle.leaf_pose.specs.declared.shaped.Shaped.{Shaped}
 use Rattle.leaf_stand.specs.Stands.{outcome_at, shape_at, turn_of}
-use Rattle.leaf_stand.specs.Posed.{FitsSame, allows, is_other, is_posed_at, stand_ways}
+use Rattle.leaf_stand.specs.Posed.{FitsSame, allows, is_data, is_posed_at, ways_at}
+use Rattle.leaf_stand.specs.Kinds.{kind_of}
 
 -- what came to the cases of a problem are those cases of the definition
 abbrev pub FitsMore : List ACase → List ACase → List Case → Type 0
@@ -25,11 +25,12 @@ FitsMore old new ds = (es : List Case) → FitsSame old es → FitsSame new (es 
 -- WHERE WHAT FITS A CASE COMES FROM
 -- values fit a way of the definition with this operation and this end, which is posed
 pub record HasFitted (s : Stand) (leaf : List Atom) (shape : Shape) (x : Values) : Type 0 where
-  pub built : is_other (kind_of shape.op) ≡ false
   pub whole : AWay
-  pub is : HasItem (stand_ways s shape.op) whole
+  pub is : HasItem (ways_at s leaf shape.op) whole
   pub outcome : whole.outcome ≡ outcome_at shape.end
-  pub reaches : whole.reaches ≡ false
+  pub reaches : whole.reaches ≡ shape.reaches
+  -- only loads and stores make data accesses
+  pub inner : is_data (kind_of shape.op) ≡ false → shape.reaches ≡ false
   pub posed : is_posed_at s leaf (shape_at shape) ≡ true
   pub fits : FitsCase (case_at (turn_of s) 0 leaf shape.op whole) x
 

@@ -21,7 +21,6 @@ use std::alloc::Global;
 use tpl_ast::{Atom, Var};
 
 /// The case of a way.
-#[tactic(auto, using(leaf_stand::proofs::Rows::built_address))]
 pub fn case_of(
     alloc: Global,
     stand: &Stand,
@@ -31,14 +30,18 @@ pub fn case_of(
 ) -> Result<Case, OutOfMemory>
     requires built { is_listed (kind_of op) ≡ true }
     requires steered { may_steer op way.taken ≡ true }
-    requires aimed { may_aim (uses (shape_at (record { op = op; end = way.end })) Var.Target) way.aim ≡ true }
-    requires judged { all_judged (shape_at (record { op = op; end = way.end })) leaf.now ≡ true }
+    requires aimed { may_aim (uses (shape_at (record { op = op; end = way.end; reaches = false })) Var.Target) way.aim ≡ true }
+    requires judged { all_judged (shape_at (record { op = op; end = way.end; reaches = false })) leaf.now ≡ true }
     requires between { are_between leaf.now ≡ true }
     ensures shape { IfOk result IsCase }
     ensures number { IfOk result (λ c. c.op ≡ op_number op) }
     ensures fits { IfOk result (λ c. FitsSame (c ∷ []) (case_at (turn_of stand.now) 0 leaf.now op (way_at stand.now op way) ∷ [])) }
 {
-    let shape = Shape { op, end: way.end };
+    let shape = Shape {
+        op,
+        end: way.end,
+        reaches: false,
+    };
     let doms = stand.domains(alloc, leaf, shape, way.reads)?;
     let rels = relations(alloc, stand, leaf, shape, way)?;
     Ok(Case {
@@ -63,7 +66,11 @@ fn push_way(
     requires way { IsWayOf stand.now op way }
     ensures { OnOk result (Adds stand.now leaf.now shaped.old shaped.new (way_case stand.now leaf.now op way)) }
 {
-    let shape = Shape { op, end: way.end };
+    let shape = Shape {
+        op,
+        end: way.end,
+        reaches: false,
+    };
     if !stand.is_posed(leaf, shape) {
         return Ok(());
     }

@@ -1,6 +1,6 @@
 // The cases of CSR instructions.
 
-ghost use Rattle.std.specs.Prelude.{◌≡◌, ◌∷◌, ◌++◌, [], true, length, IfOk, OnOk};
+ghost use Rattle.std.specs.Prelude.{false, ◌≡◌, ◌∷◌, ◌++◌, [], true, length, IfOk, OnOk};
 ghost use Rattle.rv_isa.specs.Numbers.{op_number};
 ghost use Rattle.rv_isa.specs.Table.{row_of};
 ghost use Rattle.rv_csr.specs.Table.{registers};
@@ -89,6 +89,7 @@ fn access_domain(
     let shape = Shape {
         op,
         end: access.end(),
+        reaches: false,
     };
     let open = stand.open_domain(alloc, leaf, shape, slot)?;
     match cut_of(alloc, stand, op, access, few, slot)? {
@@ -140,6 +141,7 @@ fn access_relations(
     let shape = Shape {
         op,
         end: access.end(),
+        reaches: false,
     };
     let mut rels = Items::new(alloc);
     push_sources(alloc, stand, &mut rels, shape)?;
@@ -160,7 +162,7 @@ fn case_of(
     requires csr { has_csr_operand (row_of op) ≡ true }
     requires few { few ≡ is_small (turn_of stand.now).sources }
     requires listed { IsListed stand.now op access }
-    requires judged { all_judged (shape_at (record { op = op; end = end_of access })) leaf.now ≡ true }
+    requires judged { all_judged (shape_at (record { op = op; end = end_of access; reaches = false })) leaf.now ≡ true }
     requires between { are_between leaf.now ≡ true }
     ensures shape { IfOk result IsCase }
     ensures number { IfOk result (λ c. c.op ≡ op_number op) }
@@ -200,6 +202,7 @@ fn push_access(
     let shape = Shape {
         op,
         end: access.end(),
+        reaches: false,
     };
     if !stand.is_posed(leaf, shape) {
         return Ok(());

@@ -1,16 +1,16 @@
 // What a bias adds to the problem of a leaf.
 
-ghost use Rattle.std.specs.Prelude.{◌≡◌, true, List, length, IfOk};
-ghost use Rattle.leaf_pose.specs.Extras.{AddsBias, stays_at, stays_of};
+ghost use Rattle.std.specs.Prelude.{◌≡◌, true, List, length, IfOk, OnOk};
+ghost use Rattle.leaf_pose.specs.Extras.{AddsAddress, AddsBias, AreBiasRelations, stays_at, stays_of};
 ghost use Rattle.tpl_ast.specs.declared.template.Atom.{Atom as AnAtom};
 ghost use Rattle.leaf_pose.specs.Posed.{AreShaped};
-ghost use Rattle.leaf_stand.specs.Relations.{AddsTargets, are_between, atom_rels, speak_of};
-ghost use Rattle.leaf_stand.specs.declared.way.Aim.TheVariants.{Anywhere};
+ghost use Rattle.leaf_stand.specs.Relations.{are_between};
 
 use crate::problem::Posed;
 use crate::relations::push_target;
-use dom_set::OutOfMemory;
-use fd_prob::{Extra, Items, Rel};
+use data_goals::accesses_are_goals;
+use dom_set::{OutOfMemory, Set};
+use fd_prob::{Extra, Items, Quad, Rel};
 use leaf_link::{biases_in_cases, ways_are_built};
 use leaf_stand::{Aim, Shape, Stand, all_judged, push_atoms, speak_of};
 use std::alloc::Global;
@@ -39,9 +39,38 @@ fn staying(
     Ok(stay)
 }
 
-/// What the atoms say of two variables, and of the target.
+/// What the atoms say of the physical address of a data access, as a row of virtual ones: these are the same where no data
+/// access is translated.
+fn push_address(
+    alloc: Global,
+    stand: &Stand,
+    rels: &mut Items<Rel>,
+    bias: &[Atom],
+) -> Result<(), OutOfMemory>
+    ensures { OnOk result (AddsAddress stand.now bias.now rels.old rels.new) }
+{
+    if !speak_of(bias, Var::Pa) {
+        return Ok(());
+    }
+    let all = Set::all(alloc)?;
+    let ea = stand.passing(alloc, all, bias, Var::Pa)?;
+    let root = Set::all(alloc)?;
+    let leaf = Set::all(alloc)?;
+    let word = Set::all(alloc)?;
+    let mut rows = Items::new(alloc);
+    rows.push(Quad {
+        ea,
+        root,
+        leaf,
+        word,
+    })?;
+    rels.push(Rel::Rows(rows))?;
+    Ok(())
+}
+
+/// What the atoms say of two variables, of the target and of the physical address.
 fn bias_relations(alloc: Global, stand: &Stand, bias: &[Atom]) -> Result<Items<Rel>, OutOfMemory>
-    ensures { IfOk result (AddsTargets stand.now bias.now (speak_of bias.now Var.Target) Anywhere (atom_rels bias.now)) }
+    ensures { IfOk result (AreBiasRelations stand.now bias.now) }
 {
     let mut rels = Items::new(alloc);
     push_atoms(&mut rels, bias)?;
@@ -53,6 +82,7 @@ fn bias_relations(alloc: Global, stand: &Stand, bias: &[Atom]) -> Result<Items<R
         speak_of(bias, Var::Target),
         Aim::Anywhere,
     )?;
+    push_address(alloc, stand, &mut rels, bias)?;
     Ok(rels)
 }
 
@@ -68,6 +98,7 @@ pub fn extra_of(
     ensures bias { IfOk result (λ extra. (leaf : List AnAtom) → AreShaped stand.now leaf posed.now.shapes posed.now.problem.cases → AddsBias stand.now leaf bias.now posed.now.problem extra) }
     ensures places { IfOk result (λ extra. length extra.cases ≡ length posed.now.shapes) }
 {
+    accesses_are_goals();
     biases_in_cases();
     ways_are_built();
     let cases = staying(alloc, stand, bias, posed.shapes.as_slice())?;

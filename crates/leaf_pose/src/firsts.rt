@@ -28,6 +28,7 @@ fn push_first(
     let shape = Shape {
         op,
         end: End::Retires,
+        reaches: false,
     };
     shaped.push(case, shape)?;
     Ok(())

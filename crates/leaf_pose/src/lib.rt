@@ -1,5 +1,8 @@
-//! Leaves of templates posed as problems, from what is known where they stand: for each operation and each way in which
-//! its step may end, a case of domains and relations.
+//! Leaves of templates posed as problems, from what is known where they stand and where no address is translated: for
+//! each operation and each way in which its step may end, a case of domains and relations; of a CSR instruction one for
+//! each register and usage, of a load or store one for each goal. It stands on `leaf_csrs`, `leaf_stand` and `data_goals`.
+//! It promises that the problem is the definition's at every turn that the stand tells, and what is added for a bias is
+//! the bias.
 #![tactic(auto)]
 
 mod cases;
@@ -7,6 +10,7 @@ mod csrs;
 mod extras;
 mod fetches;
 mod firsts;
+mod goals;
 mod operations;
 mod problem;
 mod relations;
@@ -15,5 +19,5 @@ mod shaped;
 pub use dom_set::OutOfMemory;
 pub use extras::extra_of;
 pub use fetches::{fault_problem, fetch_problem};
-pub use leaf_stand::{End, Name, Shape, Stand, are_between, is_posed, leaves_are_between};
+pub use leaf_stand::{End, Name, Shape, Stand, are_between, is_data, leaves_are_between, same_var};
 pub use problem::{Posed, problem_of};

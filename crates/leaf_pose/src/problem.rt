@@ -10,6 +10,7 @@ ghost use Rattle.leaf_stand.specs.Relations.{are_between};
 use crate::firsts::push_firsts;
 use crate::operations::push_operations;
 use crate::shaped::Shaped;
+use data_goals::accesses_are_goals;
 use dom_set::OutOfMemory;
 use fd_prob::{Items, Problem};
 use leaf_stand::{Shape, Stand};
@@ -47,6 +48,7 @@ pub fn problem_of(
     ensures places { IfOk result (λ posed. length posed.shapes ≡ length posed.problem.cases) }
     ensures cases { IfOk result (λ posed. IsProblem posed.problem) }
 {
+    accesses_are_goals();
     let mut shaped = Shaped {
         cases: Items::new(alloc),
         shapes: Items::new(alloc),

@@ -3,7 +3,6 @@ use Rattle.std.proofs.Common.{◌≡◌, ℕ, suc, ◌+◌, ◌<◌, ◌^◌, Bo
 use Rattle.std.specs.Prelude.{if◌then◌else◌}
 use Rattle.std.proofs.Math.Seq.{drop-cons}
 use Rattle.dom_set.specs.Elements.{is_in}
-use Rattle.tpl_ast.specs.Leaves.{same_var}
 use Rattle.tpl_ast.specs.declared.template.Atom.{Atom}
 use Rattle.tpl_ast.specs.declared.template.Var.{Var}
 use Rattle.tpl_ast.specs.declared.template.Var.TheVariants as vars
@@ -39,29 +38,13 @@ cut_var t bias slots.DataWord var v h = absurd (cc h)
 cut_var t bias slots.OldCsr var v h = absurd (cc h)
 cut_var t bias slots.Vector var v h = absurd (cc h)
 
-no_address : (slot : Slot) (var : Var) → Some var ≡ var_of slot → same_var vars.Pa var ≡ false
-no_address slots.Op var h = let e : var ≡ vars.Op = cc in ap (λ (u : Var). same_var vars.Pa u) e
-no_address slots.Rs1 var h = let e : var ≡ vars.Rs1 = cc in ap (λ (u : Var). same_var vars.Pa u) e
-no_address slots.Rs2 var h = let e : var ≡ vars.Rs2 = cc in ap (λ (u : Var). same_var vars.Pa u) e
-no_address slots.Imm var h = let e : var ≡ vars.Imm = cc in ap (λ (u : Var). same_var vars.Pa u) e
-no_address slots.Rd var h = let e : var ≡ vars.Rd = cc in ap (λ (u : Var). same_var vars.Pa u) e
-no_address slots.Csr var h = let e : var ≡ vars.Csr = cc in ap (λ (u : Var). same_var vars.Pa u) e
-no_address slots.Ea var h = let e : var ≡ vars.Ea = cc in ap (λ (u : Var). same_var vars.Pa u) e
-no_address slots.A var h = let e : var ≡ vars.A = cc in ap (λ (u : Var). same_var vars.Pa u) e
-no_address slots.B var h = let e : var ≡ vars.B = cc in ap (λ (u : Var). same_var vars.Pa u) e
-no_address slots.FirstPte var h = absurd (cc h)
-no_address slots.SecondPte var h = absurd (cc h)
-no_address slots.DataWord var h = absurd (cc h)
-no_address slots.OldCsr var h = absurd (cc h)
-no_address slots.Vector var h = absurd (cc h)
-
 if_true : (b a : Bool) → a ≡ true → (if b then a else true) ≡ true
 if_true true a h = h
 if_true false a h = refl
 
 pub unsaid_cut : (s : Stand) (bias : List Atom) (slot : Slot) (var : Var) (old : List (Slot × List ℕ)) → Some var ≡ var_of slot → speak_of bias var ≡ false → AddsCut s bias slot old old
 unsaid_cut s bias slot var old h n r v small =
-    let e : cut_of s bias slot r v ≡ true = if_true (slot_number slot == slot_number r) (bias_cut (turn_of s) bias slot v) (cut_var (turn_of s) bias slot var v h ∙ silent (turn_of s) bias var v n (no_address slot var h)) in
+    let e : cut_of s bias slot r v ≡ true = if_true (slot_number slot == slot_number r) (bias_cut (turn_of s) bias slot v) (cut_var (turn_of s) bias slot var v h ∙ silent (turn_of s) bias var v n) in
     sym (ap (λ (b : Bool). passes_cuts old r v && b) e ∙ and_true (passes_cuts old r v))
 
 and_assoc : (a b d : Bool) → ((a && b) && d) ≡ (a && (b && d))

@@ -163,27 +163,27 @@ steered_same : (op : Op) (x : Assignment) (taken : Bool) → is_branch op ≡ tr
 steered_same op x true h = ap (λ (b : Bool). b && goes_to_target op (value_of x slots.A) (value_of x slots.B)) h ∙ same_condition op (value_of x slots.A) (value_of x slots.B)
 steered_same op x false h = ap (λ (b : Bool). b && not (goes_to_target op (value_of x slots.A) (value_of x slots.B))) h ∙ ap not (same_condition op (value_of x slots.A) (value_of x slots.B))
 
-atom_holds : (x : Assignment) (pc : ℕ) (sh : AShape) → sh.reaches ≡ false → value_of x slots.Op ≡ op_number sh.op → (atom : Atom) → is_judged sh atom ≡ true → is_between atom ≡ true
+atom_holds : (x : Assignment) (pc : ℕ) (sh : AShape) → value_of x slots.Op ≡ op_number sh.op → (atom : Atom) → is_judged sh atom ≡ true → is_between atom ≡ true
     → list_all (holds sh.op x) (atom_rel atom) ≡ relates sh.op (value_at sh pc 0 (values_in x)) atom
-atom_holds x pc sh n e (atoms.In w set) j b = refl
-atom_holds x pc sh n e (atoms.NotIn w set) j b = refl
-atom_holds x pc sh n e (atoms.Is w name) j b = refl
-atom_holds x pc sh n e (atoms.Same w u) j b = same_holds sh.op x (slot_of w) (slot_of u) _ _ b (value_is x pc sh e w) (value_is x pc sh e u)
-atom_holds x pc sh n e (atoms.Differ w u) j b = differ_holds sh.op x (slot_of w) (slot_of u) _ _ b (value_is x pc sh e w) (value_is x pc sh e u)
-atom_holds x pc sh n e atoms.Taken j b = and_true _ ∙ steered_same sh.op x true (and_parts (is_branch sh.op) (uses_rs1 sh && uses_rs2 sh) j).0
-atom_holds x pc sh n e atoms.NotTaken j b = and_true _ ∙ steered_same sh.op x false (and_parts (is_branch sh.op) (uses_rs1 sh && uses_rs2 sh) j).0
-atom_holds x pc sh n e atoms.Shared j b = absurd (cc)
+atom_holds x pc sh e (atoms.In w set) j b = refl
+atom_holds x pc sh e (atoms.NotIn w set) j b = refl
+atom_holds x pc sh e (atoms.Is w name) j b = refl
+atom_holds x pc sh e (atoms.Same w u) j b = same_holds sh.op x (slot_of w) (slot_of u) _ _ b (value_is x pc sh e w) (value_is x pc sh e u)
+atom_holds x pc sh e (atoms.Differ w u) j b = differ_holds sh.op x (slot_of w) (slot_of u) _ _ b (value_is x pc sh e w) (value_is x pc sh e u)
+atom_holds x pc sh e atoms.Taken j b = and_true _ ∙ steered_same sh.op x true (and_parts (is_branch sh.op) (uses_rs1 sh && uses_rs2 sh) j).0
+atom_holds x pc sh e atoms.NotTaken j b = and_true _ ∙ steered_same sh.op x false (and_parts (is_branch sh.op) (uses_rs1 sh && uses_rs2 sh) j).0
+atom_holds x pc sh e atoms.Shared j b = refl
 
 pub both_same : (a b c d : Bool) → a ≡ c → b ≡ d → (a && b) ≡ (c && d)
 both_same a b c d e f = ap (λ (y : Bool). y && b) e ∙ ap (λ (y : Bool). c && y) f
 
-pub atoms_same : (x : Assignment) (pc : ℕ) (sh : AShape) → sh.reaches ≡ false → value_of x slots.Op ≡ op_number sh.op → (leaf : List Atom) → all_judged sh leaf ≡ true → are_between leaf ≡ true
+pub atoms_same : (x : Assignment) (pc : ℕ) (sh : AShape) → value_of x slots.Op ≡ op_number sh.op → (leaf : List Atom) → all_judged sh leaf ≡ true → are_between leaf ≡ true
     → list_all (holds sh.op x) (atom_rels leaf) ≡ all_relate sh.op (value_at sh pc 0 (values_in x)) leaf
-atoms_same x pc sh n e [] j b = refl
-atoms_same x pc sh n e (atom ∷ leaf) j b =
+atoms_same x pc sh e [] j b = refl
+atoms_same x pc sh e (atom ∷ leaf) j b =
     let js = and_parts (is_judged sh atom) (all_judged sh leaf) j in
     let bs = and_parts (is_between atom) (are_between leaf) b in
-    list_all-append (holds sh.op x) (atom_rel atom) (atom_rels leaf) ∙ both_same _ _ _ _ (atom_holds x pc sh n e atom js.0 bs.0) (atoms_same x pc sh n e leaf js.1 bs.1)
+    list_all-append (holds sh.op x) (atom_rel atom) (atom_rels leaf) ∙ both_same _ _ _ _ (atom_holds x pc sh e atom js.0 bs.0) (atoms_same x pc sh e leaf js.1 bs.1)
 
 -- RELATIONS OF SOURCES
 pub held_same : (o : Option (Option ℕ)) (v : ℕ) → agrees o v ≡ is_held (held o) v
@@ -290,7 +290,7 @@ relations_same s leaf op way rels x p st am j b r e =
     let target = target_at op s.pc (values_in x) in
     let base = (source_rels sh s.registers ++ atom_rels leaf) ++ taken_rel way.taken in
     let k1 : list_all (holds op x) (source_rels sh s.registers) ≡ sources_hold (turn_of s) sh (values_in x) = sources_hold_same s op way.end x p e in
-    let k2 : list_all (holds op x) (atom_rels leaf) ≡ all_relate op (value_at sh s.pc 0 (values_in x)) leaf = atoms_same x s.pc sh refl e leaf j b in
+    let k2 : list_all (holds op x) (atom_rels leaf) ≡ all_relate op (value_at sh s.pc 0 (values_in x)) leaf = atoms_same x s.pc sh e leaf j b in
     let k3 : list_all (holds op x) (taken_rel way.taken) ≡ is_steered op way.taken (values_in x) = taken_same op x way.taken st in
     let k4 : list_all (holds op x) (target_rel s.pc r.set) ≡ (is_aimed way.aim target && unless used (all_tests (turn_of s) leaf vars.Target target)) =
     targets_same s leaf op way.end used way.aim r.set x refl r.is r.none ∙ target_parts used way.aim target (all_tests (turn_of s) leaf vars.Target target) am in

@@ -1,9 +1,9 @@
 -- The cases of a stand are those of every turn that it tells.
 use Rattle.std.proofs.Common.{◌≡◌, ℕ, ◌⊎◌, Bool, true, false, ◌&&◌, ◌||◌, List, [], ◌∷◌, Option, Some, None, refl, sym, ap, ◌∙◌, subst, inl, inr, ◌^◌}
-use Rattle.std.specs.Prelude.{not, if◌then◌else◌, length, nat_eq, nat_le, nat_lt}
+use Rattle.std.specs.Prelude.{not, if◌then◌else◌, length, nat_eq, nat_le, nat_lt, IfSome}
 use Rattle.std.specs.List.{list_all}
 use Rattle.std.proofs.lemmas.Bool.{and_from, and_parts}
-use Rattle.std.specs.Option.{unwrap_or}
+use Rattle.std.specs.Option.{is_some, unwrap_or}
 use Rattle.dom_set.specs.Elements.{is_in}
 use Rattle.dom_set.proofs.Sets.{elements_same}
 use Rattle.rv_isa.specs.declared.operation.Op.{Op}
@@ -52,13 +52,28 @@ use Rattle.leaf_link.specs.AllWays.{ways_of}
 use Rattle.leaf_link.specs.Problems.{cases_over}
 use Rattle.leaf_stand.specs.declared.stand.Stand.{Stand}
 use Rattle.leaf_stand.specs.Kinds.{kind_of}
-use Rattle.leaf_stand.specs.Posed.{FitsSame, all_cases, allows, is_other, is_posable, is_posed_at, stand_cases, stand_ways}
-use Rattle.leaf_stand.specs.Stands.{IsStandOf, turn_of}
-use Rattle.leaf_stand.proofs.Single.{both_same}
-use Rattle.leaf_stand.proofs.Fits.{fits_either, fits_left, fits_right, in_word_reads, stand_allowed}
+use Rattle.leaf_stand.specs.Posed.{FitsSame, all_cases, allows, data_ways, has_bytes, is_data, is_posable, is_posed_at, stand_cases, stand_ways, ways_at}
+use Rattle.leaf_stand.specs.Stands.{IsDataOf, IsStandOf, turn_of}
+use Rattle.data_bytes.specs.declared.memory.DataBytes.{DataBytes}
+use Rattle.data_goals.specs.declared.goal.Goal.{Goal}
+use Rattle.data_goals.specs.declared.goal.Goal.TheVariants.{Fresh, Known, Misaligned, Outside}
+use Rattle.data_goals.specs.Goals.{cause_of, end_test, goal_test, goal_way, goal_ways, retires as goal_retires, wanted_test}
+use Rattle.data_goals.specs.Laws.{AreSmall, GoalsAreWays, WaysAreGoals}
+use Rattle.data_goals.specs.Rows.{rows_without}
+use Rattle.rv_hart.specs.declared.record.Record.{Record}
+use Rattle.rv_script.specs.Lists.{HasItem}
+use Rattle.sv_walk.specs.declared.entry.Kind.TheVariants.{Load as ForLoad, Store as ForStore}
+use Rattle.leaf_link.specs.Ways.{FitsWay, HasWay}
+use Rattle.leaf_stand.proofs.Rows.{data_address}
+use Rattle.leaf_stand.proofs.Single.{both_same, word_at}
+use Rattle.leaf_stand.proofs.Fits.{fits_either, fits_left, fits_right, in_word_reads, posable_where}
 
 -- ATOMS
-tests_same : (s : Stand) (t : Turn) (walk : List Entry) (pa : ℕ) → IsStandOf s t walk pa → (atom : Atom) (u : Var) (v : ℕ) → same_var vars.Pa u ≡ false → tests t atom u v ≡ tests (turn_of s) atom u v
+-- what an atom says of a variable that is shared
+abbrev shared_test : Turn → Var → ℕ → Bool
+shared_test t u v = if same_var vars.Pa u then is_shared t.others (Some v) else true
+
+tests_same : (s : Stand) (t : Turn) (walk : List Entry) (pa : ℕ) → IsStandOf s t walk pa → (atom : Atom) (u : Var) (v : ℕ) → shared_test t u v ≡ shared_test (turn_of s) u v → tests t atom u v ≡ tests (turn_of s) atom u v
 tests_same s t walk pa h (atoms.In w set) u v n = refl
 tests_same s t walk pa h (atoms.NotIn w set) u v n = refl
 tests_same s t walk pa h (atoms.Is w name) u v n =
@@ -68,11 +83,21 @@ tests_same s t walk pa h (atoms.Same w y) u v n = refl
 tests_same s t walk pa h (atoms.Differ w y) u v n = refl
 tests_same s t walk pa h atoms.Taken u v n = refl
 tests_same s t walk pa h atoms.NotTaken u v n = refl
-tests_same s t walk pa h atoms.Shared u v n = ap (λ (b : Bool). if b then is_shared t.others (Some v) else true) n ∙ sym (ap (λ (b : Bool). if b then is_shared (turn_of s).others (Some v) else true) n)
+tests_same s t walk pa h atoms.Shared u v n = n
+
+all_by_shared : (s : Stand) (t : Turn) (walk : List Entry) (pa : ℕ) → IsStandOf s t walk pa → (leaf : List Atom) (u : Var) (v : ℕ) → shared_test t u v ≡ shared_test (turn_of s) u v → all_tests t leaf u v ≡ all_tests (turn_of s) leaf u v
+all_by_shared s t walk pa h [] u v n = refl
+all_by_shared s t walk pa h (atom ∷ leaf) u v n = both_same _ _ _ _ (tests_same s t walk pa h atom u v n) (all_by_shared s t walk pa h leaf u v n)
+
+not_shared : (s : Stand) (t : Turn) (u : Var) (v : ℕ) → same_var vars.Pa u ≡ false → shared_test t u v ≡ shared_test (turn_of s) u v
+not_shared s t u v n = ap (λ (b : Bool). if b then is_shared t.others (Some v) else true) n ∙ sym (ap (λ (b : Bool). if b then is_shared (turn_of s).others (Some v) else true) n)
 
 pub all_same : (s : Stand) (t : Turn) (walk : List Entry) (pa : ℕ) → IsStandOf s t walk pa → (leaf : List Atom) (u : Var) (v : ℕ) → same_var vars.Pa u ≡ false → all_tests t leaf u v ≡ all_tests (turn_of s) leaf u v
-all_same s t walk pa h [] u v n = refl
-all_same s t walk pa h (atom ∷ leaf) u v n = both_same _ _ _ _ (tests_same s t walk pa h atom u v n) (all_same s t walk pa h leaf u v n)
+all_same s t walk pa h leaf u v n = all_by_shared s t walk pa h leaf u v (not_shared s t u v n)
+
+-- without harts of lower numbers, of each variable
+pub all_same_alone : (s : Stand) (t : Turn) (walk : List Entry) (pa : ℕ) → IsStandOf s t walk pa → t.others ≡ [] → (leaf : List Atom) (u : Var) (v : ℕ) → all_tests t leaf u v ≡ all_tests (turn_of s) leaf u v
+all_same_alone s t walk pa h alone leaf u v = all_by_shared s t walk pa h leaf u v (ap (λ (o : List (List Record)). if same_var vars.Pa u then is_shared o (Some v) else true) alone)
 
 -- DOMAINS
 field_same : (s : Stand) (t : Turn) (walk : List Entry) (pa : ℕ) → IsStandOf s t walk pa → (leaf : List Atom) (op : Op) (slot : Slot) (u : Var) (used : Bool) (v : ℕ) → same_var vars.Pa u ≡ false
@@ -244,7 +269,7 @@ csr_same s t walk pa h op = (
   ),
 )
 
-pub ways_same : (s : Stand) (t : Turn) (walk : List Entry) (pa : ℕ) → IsStandOf s t walk pa → (leaf : List Atom) (loads stores : List EntryRow) (op : Op) → is_other (kind_of op) ≡ false → AreSameWays (stand_ways s op) (ways_of t walk pa leaf loads stores op)
+pub ways_same : (s : Stand) (t : Turn) (walk : List Entry) (pa : ℕ) → IsStandOf s t walk pa → (leaf : List Atom) (loads stores : List EntryRow) (op : Op) → is_data (kind_of op) ≡ false → AreSameWays (stand_ways s op) (ways_of t walk pa leaf loads stores op)
 ways_same s t walk pa h leaf loads stores ops.Jal n = forks_same s t walk pa h (near_is_target s.pc) (near_is_target t.fixed.pc) (near_same s t walk pa h)
 ways_same s t walk pa h leaf loads stores ops.Jalr n = forks_same s t walk pa h far_is_target far_is_target (λ x. refl)
 ways_same s t walk pa h leaf loads stores ops.Beq n = forks_same s t walk pa h (branch_goes ops.Beq s.pc) (branch_goes ops.Beq t.fixed.pc) (goes_same s t walk pa h ops.Beq)
@@ -287,9 +312,9 @@ domain_agrees : (s : Stand) (t : Turn) (walk : List Entry) (pa : ℕ) → IsStan
 domain_agrees s t walk pa h leaf op a b w slot v =
     both_same _ _ _ _ (ap (λ (sh : AShape). base_domain (turn_of s) 0 leaf sh slot v) (shapes_same op a b w) ∙ sym (base_same s t walk pa h leaf (shape_of op b) slot v)) (w.also slot v)
 
-holds_agree : (s : Stand) (t : Turn) (walk : List Entry) (pa : ℕ) → IsStandOf s t walk pa → (leaf : List Atom) (op : Op) (a b : AWay) → IsSameWay a b → is_other (kind_of op) ≡ false → (x : Values) → x slots.Op ≡ op_number op
+holds_agree : (s : Stand) (t : Turn) (walk : List Entry) (pa : ℕ) → IsStandOf s t walk pa → (leaf : List Atom) (op : Op) (a b : AWay) → IsSameWay a b → (x : Values) → x slots.Op ≡ op_number op
     → (case_at (turn_of s) 0 leaf op a).holds x ≡ (case_at t pa leaf op b).holds x
-holds_agree s t walk pa h leaf op a b w n x e =
+holds_agree s t walk pa h leaf op a b w x e =
     both_same _ _ _ _ (ap (λ (sh : AShape). sources_hold (turn_of s) sh x) (shapes_same op a b w) ∙ sym (sources_agree s t walk pa h (shape_of op b) x))
     (both_same _ _ _ _ (ap (λ (sh : AShape). atoms_hold (turn_of s) leaf sh x) (shapes_same op a b w) ∙ sym (atoms_agree s t walk pa h leaf (shape_of op b) x)) (w.holds x))
 
@@ -297,18 +322,18 @@ pub posed_agrees : (s : Stand) (t : Turn) (walk : List Entry) (pa : ℕ) → IsS
 posed_agrees s t walk pa h leaf op a b w =
     ap (λ (sh : AShape). is_posed_at s leaf sh) (shapes_same op a b w) ∙ both_same _ _ _ _ (sym h.fetches) (both_same _ _ _ _ refl (sym (all_same s t walk pa h leaf vars.Outcome b.outcome refl)))
 
-pub case_there : (s : Stand) (t : Turn) (walk : List Entry) (pa : ℕ) → IsStandOf s t walk pa → (leaf : List Atom) (op : Op) (a b : AWay) → IsSameWay a b → is_other (kind_of op) ≡ false → (x : Values) → FitsCase (case_at (turn_of s) 0 leaf op a) x → FitsCase (case_at t pa leaf op b) x
-case_there s t walk pa h leaf op a b w n x f = record {
+pub case_there : (s : Stand) (t : Turn) (walk : List Entry) (pa : ℕ) → IsStandOf s t walk pa → (leaf : List Atom) (op : Op) (a b : AWay) → IsSameWay a b → (x : Values) → FitsCase (case_at (turn_of s) 0 leaf op a) x → FitsCase (case_at t pa leaf op b) x
+case_there s t walk pa h leaf op a b w x f = record {
   op = f.op;
   each = λ slot. sym (domain_agrees s t walk pa h leaf op a b w slot (x slot)) ∙ f.each slot;
-  holds = sym (holds_agree s t walk pa h leaf op a b w n x f.op) ∙ f.holds;
+  holds = sym (holds_agree s t walk pa h leaf op a b w x f.op) ∙ f.holds;
 }
 
-case_back : (s : Stand) (t : Turn) (walk : List Entry) (pa : ℕ) → IsStandOf s t walk pa → (leaf : List Atom) (op : Op) (a b : AWay) → IsSameWay a b → is_other (kind_of op) ≡ false → (x : Values) → FitsCase (case_at t pa leaf op b) x → FitsCase (case_at (turn_of s) 0 leaf op a) x
-case_back s t walk pa h leaf op a b w n x f = record {
+case_back : (s : Stand) (t : Turn) (walk : List Entry) (pa : ℕ) → IsStandOf s t walk pa → (leaf : List Atom) (op : Op) (a b : AWay) → IsSameWay a b → (x : Values) → FitsCase (case_at t pa leaf op b) x → FitsCase (case_at (turn_of s) 0 leaf op a) x
+case_back s t walk pa h leaf op a b w x f = record {
   op = f.op;
   each = λ slot. domain_agrees s t walk pa h leaf op a b w slot (x slot) ∙ f.each slot;
-  holds = holds_agree s t walk pa h leaf op a b w n x f.op ∙ f.holds;
+  holds = holds_agree s t walk pa h leaf op a b w x f.op ∙ f.holds;
 }
 
 both_if : (p q : Bool) (c d : Case) (cs ds : List Case) (x : Values) → p ≡ q → (FitsCase c x → FitsCase d x) → (Fits cs x → Fits ds x) → Fits (case_if p c cs) x → Fits (case_if q d ds) x
@@ -318,21 +343,21 @@ both_if false false c d cs ds x e here later f = later f
 both_if true false c d cs ds x e here later f = absurd (cc e)
 both_if false true c d cs ds x e here later f = absurd (cc e)
 
-ways_there : (s : Stand) (t : Turn) (walk : List Entry) (pa : ℕ) → IsStandOf s t walk pa → (leaf : List Atom) (op : Op) → is_other (kind_of op) ≡ false → (ps qs : List AWay) → AreSameWays ps qs → (x : Values) → Fits (stand_cases s leaf op ps) x → Fits (cases_of t walk pa leaf op qs) x
-ways_there s t walk pa h leaf op n [] [] w x f = f
-ways_there s t walk pa h leaf op n (a ∷ ps) (b ∷ qs) w x f =
+ways_there : (s : Stand) (t : Turn) (walk : List Entry) (pa : ℕ) → IsStandOf s t walk pa → (leaf : List Atom) (op : Op) (ps qs : List AWay) → AreSameWays ps qs → (x : Values) → Fits (stand_cases s leaf op ps) x → Fits (cases_of t walk pa leaf op qs) x
+ways_there s t walk pa h leaf op [] [] w x f = f
+ways_there s t walk pa h leaf op (a ∷ ps) (b ∷ qs) w x f =
     both_if (is_posed_at s leaf (shape_of op a)) (is_posed t walk pa leaf (shape_of op b)) (case_at (turn_of s) 0 leaf op a) (case_at t pa leaf op b) (stand_cases s leaf op ps) (cases_of t walk pa leaf op qs) x
-    (posed_agrees s t walk pa h leaf op a b w.0) (case_there s t walk pa h leaf op a b w.0 n x) (ways_there s t walk pa h leaf op n ps qs w.1 x) f
-ways_there s t walk pa h leaf op n (a ∷ ps) [] w x f = absurd w
-ways_there s t walk pa h leaf op n [] (b ∷ qs) w x f = absurd w
+    (posed_agrees s t walk pa h leaf op a b w.0) (case_there s t walk pa h leaf op a b w.0 x) (ways_there s t walk pa h leaf op ps qs w.1 x) f
+ways_there s t walk pa h leaf op (a ∷ ps) [] w x f = absurd w
+ways_there s t walk pa h leaf op [] (b ∷ qs) w x f = absurd w
 
-ways_back : (s : Stand) (t : Turn) (walk : List Entry) (pa : ℕ) → IsStandOf s t walk pa → (leaf : List Atom) (op : Op) → is_other (kind_of op) ≡ false → (ps qs : List AWay) → AreSameWays ps qs → (x : Values) → Fits (cases_of t walk pa leaf op qs) x → Fits (stand_cases s leaf op ps) x
-ways_back s t walk pa h leaf op n [] [] w x f = f
-ways_back s t walk pa h leaf op n (a ∷ ps) (b ∷ qs) w x f =
+ways_back : (s : Stand) (t : Turn) (walk : List Entry) (pa : ℕ) → IsStandOf s t walk pa → (leaf : List Atom) (op : Op) (ps qs : List AWay) → AreSameWays ps qs → (x : Values) → Fits (cases_of t walk pa leaf op qs) x → Fits (stand_cases s leaf op ps) x
+ways_back s t walk pa h leaf op [] [] w x f = f
+ways_back s t walk pa h leaf op (a ∷ ps) (b ∷ qs) w x f =
     both_if (is_posed t walk pa leaf (shape_of op b)) (is_posed_at s leaf (shape_of op a)) (case_at t pa leaf op b) (case_at (turn_of s) 0 leaf op a) (cases_of t walk pa leaf op qs) (stand_cases s leaf op ps) x
-    (sym (posed_agrees s t walk pa h leaf op a b w.0)) (case_back s t walk pa h leaf op a b w.0 n x) (ways_back s t walk pa h leaf op n ps qs w.1 x) f
-ways_back s t walk pa h leaf op n (a ∷ ps) [] w x f = absurd w
-ways_back s t walk pa h leaf op n [] (b ∷ qs) w x f = absurd w
+    (sym (posed_agrees s t walk pa h leaf op a b w.0)) (case_back s t walk pa h leaf op a b w.0 x) (ways_back s t walk pa h leaf op ps qs w.1 x) f
+ways_back s t walk pa h leaf op (a ∷ ps) [] w x f = absurd w
+ways_back s t walk pa h leaf op [] (b ∷ qs) w x f = absurd w
 
 -- OPERATIONS
 turn_allowed : (s : Stand) (t : Turn) (walk : List Entry) (pa : ℕ) → IsStandOf s t walk pa → (leaf : List Atom) (op : Op) (way : AWay) (x : Values) → FitsCase (case_at t pa leaf op way) x → allows s leaf op ≡ true
@@ -354,46 +379,172 @@ turn_ways_allowed s t walk pa h leaf op (way ∷ ways) x f = elim (head_or_later
   | inr g ↦ turn_ways_allowed s t walk pa h leaf op ways x g
 ]
 
-pub built_if : (s : Stand) (leaf : List Atom) (op : Op) → is_posable s leaf op ≡ true → allows s leaf op ≡ true → is_other (kind_of op) ≡ false
-built_if s leaf op p a = of_bools (is_other (kind_of op)) (allows s leaf op) p a
+-- LOADS AND STORES
+pub goal_same : (s : Stand) (t : Turn) (walk : List Entry) (pa : ℕ) → IsStandOf s t walk pa → t.others ≡ [] → (bytes : DataBytes) (leaf : List Atom) (op : Op) (goal : Goal) → IsSameWay (goal_way (turn_of s) bytes leaf op goal) (goal_way t bytes leaf op goal)
+goal_same s t walk pa h alone bytes leaf op goal = record {
+  outcome = refl;
+  reaches = refl;
+  also = λ slot v. both_same _ _ _ _ (end_same (cause_of op goal) slot v) (ap (λ (b : Bool). goal_test bytes op goal slot v && b) (wanted_same (goal_retires (cause_of op goal)) slot v));
+  holds = λ x. refl;
+}
   where
-    of_bools : (b d : Bool) → (not b || not d) ≡ true → d ≡ true → b ≡ false
-    of_bools true d e f = absurd (cc (ap not f, e))
-    of_bools false d e f = refl
+    vector_alone_same : (cause : Cause) (slot : Slot) (v : ℕ) → vector_alone (turn_of s) cause slot v ≡ vector_alone t cause slot v
+    vector_alone_same cause slots.Vector v = vector_same s t walk pa h cause v
+    vector_alone_same cause slots.Op v = refl
+    vector_alone_same cause _ v = refl
 
-operation_there : (s : Stand) (t : Turn) (walk : List Entry) (pa : ℕ) → IsStandOf s t walk pa → (leaf : List Atom) (loads stores : List EntryRow) (op : Op) (x : Values) → is_posable s leaf op ≡ true → Fits (stand_cases s leaf op (stand_ways s op)) x
-    → Fits (cases_of t walk pa leaf op (ways_of t walk pa leaf loads stores op)) x
-operation_there s t walk pa h leaf loads stores op x p f =
-    let n = built_if s leaf op p (stand_allowed s leaf op (stand_ways s op) x f) in
-    ways_there s t walk pa h leaf op n (stand_ways s op) (ways_of t walk pa leaf loads stores op) (ways_same s t walk pa h leaf loads stores op n) x f
+    end_same : (o : Option Cause) (slot : Slot) (v : ℕ) → end_test (turn_of s) o slot v ≡ end_test t o slot v
+    end_same None slots.Op v = refl
+    end_same None _ v = refl
+    end_same (Some cause) slot v = vector_alone_same cause slot v
 
-operation_back : (s : Stand) (t : Turn) (walk : List Entry) (pa : ℕ) → IsStandOf s t walk pa → (leaf : List Atom) (loads stores : List EntryRow) (op : Op) (x : Values) → is_posable s leaf op ≡ true → Fits (cases_of t walk pa leaf op (ways_of t walk pa leaf loads stores op)) x
-    → Fits (stand_cases s leaf op (stand_ways s op)) x
-operation_back s t walk pa h leaf loads stores op x p f =
-    let n = built_if s leaf op p (turn_ways_allowed s t walk pa h leaf op (ways_of t walk pa leaf loads stores op) x f) in
-    ways_back s t walk pa h leaf op n (stand_ways s op) (ways_of t walk pa leaf loads stores op) (ways_same s t walk pa h leaf loads stores op n) x f
+    wanted_same : (reaches : Bool) (slot : Slot) (v : ℕ) → wanted_test (turn_of s) leaf reaches slot v ≡ wanted_test t leaf reaches slot v
+    wanted_same true slots.Ea v = sym (all_same_alone s t walk pa h alone leaf vars.Pa v)
+    wanted_same true slots.Op v = refl
+    wanted_same true _ v = refl
+    wanted_same false slots.Op v = refl
+    wanted_same false _ v = refl
 
-all_there : (s : Stand) (t : Turn) (walk : List Entry) (pa : ℕ) → IsStandOf s t walk pa → (leaf : List Atom) (loads stores : List EntryRow) (list : List Op) (x : Values) → list_all (is_posable s leaf) list ≡ true → Fits (all_cases s leaf list) x
-    → Fits (cases_over t walk pa leaf (ways_of t walk pa leaf loads stores) list) x
-all_there s t walk pa h leaf loads stores [] x p f = f
-all_there s t walk pa h leaf loads stores (op ∷ list) x p f =
+goals_same : (s : Stand) (t : Turn) (walk : List Entry) (pa : ℕ) → IsStandOf s t walk pa → t.others ≡ [] → (bytes : DataBytes) (leaf : List Atom) (op : Op) → AreSameWays (goal_ways (turn_of s) bytes leaf op) (goal_ways t bytes leaf op)
+goals_same s t walk pa h alone bytes leaf op = (goal_same s t walk pa h alone bytes leaf op Misaligned, (goal_same s t walk pa h alone bytes leaf op Outside, (goal_same s t walk pa h alone bytes leaf op Known, (goal_same s t walk pa h alone bytes leaf op Fresh, record {}))))
+
+-- the cases of ways are those of others that the same values fit, with the same end
+abbrev shape_made : Op → ℕ → Bool → AShape
+shape_made op outcome reaches = record { op = op; outcome = outcome; reaches = reaches }
+
+put_posed : (p : Bool) (c : Case) (cs : List Case) (x : Values) → p ≡ true → FitsCase c x → Fits (case_if p c cs) x
+put_posed true c cs x e f = inl f
+put_posed false c cs x e f = absurd (cc e)
+
+pass_by : (p : Bool) (c : Case) (cs : List Case) (x : Values) → Fits cs x → Fits (case_if p c cs) x
+pass_by true c cs x f = inr f
+pass_by false c cs x f = f
+
+fits_item : (t : Turn) (walk : List Entry) (pa : ℕ) (leaf : List Atom) (op : Op) (ways : List AWay) (way : AWay) (x : Values) → HasItem ways way → is_posed t walk pa leaf (shape_of op way) ≡ true → FitsCase (case_at t pa leaf op way) x
+    → Fits (cases_of t walk pa leaf op ways) x
+fits_item t walk pa leaf op [] way x i p f = absurd i
+fits_item t walk pa leaf op (head ∷ ways) way x i p f = elim i [
+  | inl y ↦
+      put_posed (is_posed t walk pa leaf (shape_of op head)) (case_at t pa leaf op head) (cases_of t walk pa leaf op ways) x
+      (subst (λ (w : AWay). is_posed t walk pa leaf (shape_of op w) ≡ true) (sym y) p) (subst (λ (w : AWay). FitsCase (case_at t pa leaf op w) x) (sym y) f)
+  | inr j ↦ pass_by (is_posed t walk pa leaf (shape_of op head)) (case_at t pa leaf op head) (cases_of t walk pa leaf op ways) x (fits_item t walk pa leaf op ways way x j p f)
+]
+
+record HasPosed (t : Turn) (walk : List Entry) (pa : ℕ) (leaf : List Atom) (op : Op) (ways : List AWay) (x : Values) : Type 0 where
+  way : AWay
+  is : HasItem ways way
+  posed : is_posed t walk pa leaf (shape_of op way) ≡ true
+  fits : FitsCase (case_at t pa leaf op way) x
+
+posed_or_later : (p : Bool) (c : Case) (cs : List Case) (x : Values) → Fits (case_if p c cs) x → ((p ≡ true) × FitsCase c x) ⊎ Fits cs x
+posed_or_later true c cs x (inl f) = inl (refl, f)
+posed_or_later true c cs x (inr f) = inr f
+posed_or_later false c cs x f = inr f
+
+has_posed : (t : Turn) (walk : List Entry) (pa : ℕ) (leaf : List Atom) (op : Op) (ways : List AWay) (x : Values) → Fits (cases_of t walk pa leaf op ways) x → HasPosed t walk pa leaf op ways x
+has_posed t walk pa leaf op [] x f = absurd f
+has_posed t walk pa leaf op (head ∷ ways) x f = elim (posed_or_later (is_posed t walk pa leaf (shape_of op head)) (case_at t pa leaf op head) (cases_of t walk pa leaf op ways) x f) [
+  | inl y ↦ record { way = head; is = inl refl; posed = y.0; fits = y.1 }
+  | inr g ↦ let k = has_posed t walk pa leaf op ways x g in record { way = k.way; is = inr k.is; posed = k.posed; fits = k.fits }
+]
+
+-- of two ways with one end, what fits the case of the one and the other's tests fits the other's case
+case_moved : (t : Turn) (pa : ℕ) (leaf : List Atom) (op : Op) (a b : AWay) (x : Values) → shape_of op a ≡ shape_of op b → FitsCase (case_at t pa leaf op a) x → FitsWay b x → FitsCase (case_at t pa leaf op b) x
+case_moved t pa leaf op a b x e f w = record {
+  op = f.op;
+  each = λ slot. and_from _ _ (subst (λ (sh : AShape). base_domain t pa leaf sh slot (x slot) ≡ true) e (and_parts (base_domain t pa leaf (shape_of op a) slot (x slot)) (a.also slot (x slot)) (f.each slot)).0) (w.each slot);
+  holds =
+      let k = and_parts (sources_hold t (shape_of op a) x) (atoms_hold t leaf (shape_of op a) x && a.holds x) f.holds in
+      let m = and_parts (atoms_hold t leaf (shape_of op a) x) (a.holds x) k.1 in
+      and_from _ _ (subst (λ (sh : AShape). sources_hold t sh x ≡ true) e k.0) (and_from _ _ (subst (λ (sh : AShape). atoms_hold t leaf sh x ≡ true) e m.0) w.holds);
+}
+
+way_fitted : (t : Turn) (pa : ℕ) (leaf : List Atom) (op : Op) (way : AWay) (x : Values) → FitsCase (case_at t pa leaf op way) x → FitsWay way x
+way_fitted t pa leaf op way x f = record {
+  each = λ slot. (and_parts (base_domain t pa leaf (shape_of op way) slot (x slot)) (way.also slot (x slot)) (f.each slot)).1;
+  holds = (and_parts (atoms_hold t leaf (shape_of op way) x) (way.holds x) (and_parts (sources_hold t (shape_of op way) x) (atoms_hold t leaf (shape_of op way) x && way.holds x) f.holds).1).1;
+}
+
+-- a way that values fit, with this end, and its case
+pub record HasFittedWay (t : Turn) (walk : List Entry) (pa : ℕ) (leaf : List Atom) (op : Op) (ways : List AWay) (x : Values) (shape : AShape) : Type 0 where
+  pub way : AWay
+  pub is : HasItem ways way
+  pub shape_is : shape_of op way ≡ shape
+  pub posed : is_posed t walk pa leaf (shape_of op way) ≡ true
+  pub fits : FitsCase (case_at t pa leaf op way) x
+
+pub way_moved : (t : Turn) (walk : List Entry) (pa : ℕ) (leaf : List Atom) (op : Op) (ps qs : List AWay) (x : Values) → ((outcome : ℕ) (reaches : Bool) → HasWay op ps x outcome reaches → HasWay op qs x outcome reaches)
+    → (way : AWay) → HasItem ps way → is_posed t walk pa leaf (shape_of op way) ≡ true → FitsCase (case_at t pa leaf op way) x → HasFittedWay t walk pa leaf op qs x (shape_of op way)
+way_moved t walk pa leaf op ps qs x move way item posed fits =
+    let m = move way.outcome way.reaches (record { way = way; is = item; fits = way_fitted t pa leaf op way x fits; outcome_is = refl; reaches_is = refl }) in
+    let e : shape_of op way ≡ shape_of op m.way = sym (ap (λ (n : ℕ). shape_made op n m.way.reaches) m.outcome_is ∙ ap (λ (r : Bool). shape_made op way.outcome r) m.reaches_is) in
+    record { way = m.way; is = m.is; shape_is = sym e; posed = subst (λ (sh : AShape). is_posed t walk pa leaf sh ≡ true) e posed; fits = case_moved t pa leaf op way m.way x e fits m.fits }
+
+ways_moved : (t : Turn) (walk : List Entry) (pa : ℕ) (leaf : List Atom) (op : Op) (ps qs : List AWay) (x : Values) → ((outcome : ℕ) (reaches : Bool) → HasWay op ps x outcome reaches → HasWay op qs x outcome reaches)
+    → Fits (cases_of t walk pa leaf op ps) x → Fits (cases_of t walk pa leaf op qs) x
+ways_moved t walk pa leaf op ps qs x move f =
+    let k = has_posed t walk pa leaf op ps x f in
+    let m = way_moved t walk pa leaf op ps qs x move k.way k.is k.posed k.fits in
+    fits_item t walk pa leaf op qs m.way x m.is m.posed m.fits
+
+-- OPERATIONS
+pub record AreGoals : Type 0 where
+  pub there : GoalsAreWays
+  pub back : WaysAreGoals
+
+-- the ways of the definition, over the rows of addresses that are not translated
+abbrev pub turn_ways : Turn → List Entry → ℕ → List Atom → Op → List AWay
+turn_ways t walk pa leaf op = ways_of t walk pa leaf (rows_without t ForLoad) (rows_without t ForStore) op
+
+bytes_there : AreGoals → (s : Stand) (t : Turn) (walk : List Entry) (pa : ℕ) → IsStandOf s t walk pa → (leaf : List Atom) (op : Op) (x : Values) → AreSmall x → is_data (kind_of op) ≡ true → (o : Option DataBytes) → IfSome o (IsDataOf t walk pa)
+    → Fits (stand_cases s leaf op (data_ways s leaf op o)) x → Fits (cases_of t walk pa leaf op (turn_ways t walk pa leaf op)) x
+bytes_there laws s t walk pa h leaf op x small n None is f = absurd f
+bytes_there laws s t walk pa h leaf op x small n (Some bytes) is f =
+    let g = ways_there s t walk pa h leaf op (goal_ways (turn_of s) bytes leaf op) (goal_ways t bytes leaf op) (goals_same s t walk pa h is.alone bytes leaf op) x f in
+    subst (λ (w : List Entry). Fits (cases_of t walk pa leaf op (turn_ways t w pa leaf op)) x) (sym is.untranslated)
+    (ways_moved t walk pa leaf op (goal_ways t bytes leaf op) (turn_ways t [] pa leaf op) x (λ outcome reaches. laws.there t pa bytes leaf op x outcome reaches is.has (data_address op n) small) g)
+
+bytes_back : AreGoals → (s : Stand) (t : Turn) (walk : List Entry) (pa : ℕ) → IsStandOf s t walk pa → (leaf : List Atom) (op : Op) (x : Values) → AreSmall x → is_data (kind_of op) ≡ true → (o : Option DataBytes) → IfSome o (IsDataOf t walk pa)
+    → is_some o ≡ true → Fits (cases_of t walk pa leaf op (turn_ways t walk pa leaf op)) x → Fits (stand_cases s leaf op (data_ways s leaf op o)) x
+bytes_back laws s t walk pa h leaf op x small n None is some f = absurd (cc some)
+bytes_back laws s t walk pa h leaf op x small n (Some bytes) is some f =
+    let g : Fits (cases_of t walk pa leaf op (turn_ways t [] pa leaf op)) x = subst (λ (w : List Entry). Fits (cases_of t walk pa leaf op (turn_ways t w pa leaf op)) x) is.untranslated f in
+    ways_back s t walk pa h leaf op (goal_ways (turn_of s) bytes leaf op) (goal_ways t bytes leaf op) (goals_same s t walk pa h is.alone bytes leaf op) x
+    (ways_moved t walk pa leaf op (turn_ways t [] pa leaf op) (goal_ways t bytes leaf op) x (λ outcome reaches. laws.back t pa bytes leaf op x outcome reaches is.has (data_address op n) small) g)
+
+operation_there : AreGoals → (s : Stand) (t : Turn) (walk : List Entry) (pa : ℕ) → IsStandOf s t walk pa → (leaf : List Atom) (op : Op) (x : Values) → AreSmall x → Fits (stand_cases s leaf op (ways_at s leaf op)) x → Fits (cases_of t walk pa leaf op (turn_ways t walk pa leaf op)) x
+operation_there laws s t walk pa h leaf op x small f = of_kind (is_data (kind_of op)) refl f
+  where
+    of_kind : (b : Bool) → is_data (kind_of op) ≡ b → Fits (stand_cases s leaf op (if b then data_ways s leaf op s.bytes else stand_ways s op)) x → Fits (cases_of t walk pa leaf op (turn_ways t walk pa leaf op)) x
+    of_kind true n g = bytes_there laws s t walk pa h leaf op x small n s.bytes h.bytes g
+    of_kind false n g = ways_there s t walk pa h leaf op (stand_ways s op) (turn_ways t walk pa leaf op) (ways_same s t walk pa h leaf (rows_without t ForLoad) (rows_without t ForStore) op n) x g
+
+operation_back : AreGoals → (s : Stand) (t : Turn) (walk : List Entry) (pa : ℕ) → IsStandOf s t walk pa → (leaf : List Atom) (op : Op) (x : Values) → AreSmall x → is_posable s leaf op ≡ true → Fits (cases_of t walk pa leaf op (turn_ways t walk pa leaf op)) x
+    → Fits (stand_cases s leaf op (ways_at s leaf op)) x
+operation_back laws s t walk pa h leaf op x small p f = of_kind (is_data (kind_of op)) refl (posable_where s leaf op p (turn_ways_allowed s t walk pa h leaf op (turn_ways t walk pa leaf op) x f))
+  where
+    of_kind : (b : Bool) → is_data (kind_of op) ≡ b → (not (is_data (kind_of op)) || has_bytes s) ≡ true → Fits (stand_cases s leaf op (if b then data_ways s leaf op s.bytes else stand_ways s op)) x
+    of_kind true n k = bytes_back laws s t walk pa h leaf op x small n s.bytes h.bytes (subst (λ (b : Bool). (not b || has_bytes s) ≡ true) n k) f
+    of_kind false n k = ways_back s t walk pa h leaf op (stand_ways s op) (turn_ways t walk pa leaf op) (ways_same s t walk pa h leaf (rows_without t ForLoad) (rows_without t ForStore) op n) x f
+
+all_there : AreGoals → (s : Stand) (t : Turn) (walk : List Entry) (pa : ℕ) → IsStandOf s t walk pa → (leaf : List Atom) (list : List Op) (x : Values) → AreSmall x → Fits (all_cases s leaf list) x → Fits (cases_over t walk pa leaf (turn_ways t walk pa leaf) list) x
+all_there laws s t walk pa h leaf [] x small f = f
+all_there laws s t walk pa h leaf (op ∷ list) x small f = elim (fits_either (stand_cases s leaf op (ways_at s leaf op)) (all_cases s leaf list) x f) [
+  | inl g ↦ fits_left (cases_of t walk pa leaf op (turn_ways t walk pa leaf op)) (cases_over t walk pa leaf (turn_ways t walk pa leaf) list) x (operation_there laws s t walk pa h leaf op x small g)
+  | inr g ↦ fits_right (cases_of t walk pa leaf op (turn_ways t walk pa leaf op)) (cases_over t walk pa leaf (turn_ways t walk pa leaf) list) x (all_there laws s t walk pa h leaf list x small g)
+]
+
+all_back : AreGoals → (s : Stand) (t : Turn) (walk : List Entry) (pa : ℕ) → IsStandOf s t walk pa → (leaf : List Atom) (list : List Op) (x : Values) → AreSmall x → list_all (is_posable s leaf) list ≡ true → Fits (cases_over t walk pa leaf (turn_ways t walk pa leaf) list) x → Fits (all_cases s leaf list) x
+all_back laws s t walk pa h leaf [] x small p f = f
+all_back laws s t walk pa h leaf (op ∷ list) x small p f =
     let b = and_parts (is_posable s leaf op) (list_all (is_posable s leaf) list) p in
-    elim (fits_either (stand_cases s leaf op (stand_ways s op)) (all_cases s leaf list) x f) [
-      | inl g ↦ fits_left (cases_of t walk pa leaf op (ways_of t walk pa leaf loads stores op)) (cases_over t walk pa leaf (ways_of t walk pa leaf loads stores) list) x (operation_there s t walk pa h leaf loads stores op x b.0 g)
-      | inr g ↦ fits_right (cases_of t walk pa leaf op (ways_of t walk pa leaf loads stores op)) (cases_over t walk pa leaf (ways_of t walk pa leaf loads stores) list) x (all_there s t walk pa h leaf loads stores list x b.1 g)
+    elim (fits_either (cases_of t walk pa leaf op (turn_ways t walk pa leaf op)) (cases_over t walk pa leaf (turn_ways t walk pa leaf) list) x f) [
+      | inl g ↦ fits_left (stand_cases s leaf op (ways_at s leaf op)) (all_cases s leaf list) x (operation_back laws s t walk pa h leaf op x small b.0 g)
+      | inr g ↦ fits_right (stand_cases s leaf op (ways_at s leaf op)) (all_cases s leaf list) x (all_back laws s t walk pa h leaf list x small b.1 g)
     ]
 
-all_back : (s : Stand) (t : Turn) (walk : List Entry) (pa : ℕ) → IsStandOf s t walk pa → (leaf : List Atom) (loads stores : List EntryRow) (list : List Op) (x : Values) → list_all (is_posable s leaf) list ≡ true → Fits (cases_over t walk pa leaf (ways_of t walk pa leaf loads stores) list) x
-    → Fits (all_cases s leaf list) x
-all_back s t walk pa h leaf loads stores [] x p f = f
-all_back s t walk pa h leaf loads stores (op ∷ list) x p f =
-    let b = and_parts (is_posable s leaf op) (list_all (is_posable s leaf) list) p in
-    elim (fits_either (cases_of t walk pa leaf op (ways_of t walk pa leaf loads stores op)) (cases_over t walk pa leaf (ways_of t walk pa leaf loads stores) list) x f) [
-      | inl g ↦ fits_left (stand_cases s leaf op (stand_ways s op)) (all_cases s leaf list) x (operation_back s t walk pa h leaf loads stores op x b.0 g)
-      | inr g ↦ fits_right (stand_cases s leaf op (stand_ways s op)) (all_cases s leaf list) x (all_back s t walk pa h leaf loads stores list x b.1 g)
-    ]
-
-pub every_turn : (s : Stand) (t : Turn) (walk : List Entry) (pa : ℕ) → IsStandOf s t walk pa → (leaf : List Atom) (loads stores : List EntryRow) (list : List Op) (cs : List ACase) → list_all (is_posable s leaf) list ≡ true → FitsSame cs (all_cases s leaf list)
-    → FitsSame cs (cases_over t walk pa leaf (ways_of t walk pa leaf loads stores) list)
-every_turn s t walk pa h leaf loads stores list cs p k x hx =
-    (λ y. all_there s t walk pa h leaf loads stores list (values_in x) p ((k x hx).0 y), λ f. (k x hx).1 (all_back s t walk pa h leaf loads stores list (values_in x) p f))
+pub every_turn : AreGoals → (s : Stand) (t : Turn) (walk : List Entry) (pa : ℕ) → IsStandOf s t walk pa → (leaf : List Atom) (list : List Op) (cs : List ACase) → list_all (is_posable s leaf) list ≡ true → FitsSame cs (all_cases s leaf list)
+    → FitsSame cs (cases_over t walk pa leaf (turn_ways t walk pa leaf) list)
+every_turn laws s t walk pa h leaf list cs p k x hx =
+    let small : AreSmall (values_in x) = λ slot. word_at x hx slot in
+    (λ y. all_there laws s t walk pa h leaf list (values_in x) small ((k x hx).0 y), λ f. (k x hx).1 (all_back laws s t walk pa h leaf list (values_in x) small p f))

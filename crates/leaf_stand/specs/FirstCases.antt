@@ -1,11 +1,8 @@
 -- First cases: what counts for space and order.
-use Rattle.std.specs.Prelude.{◌≡◌, ℕ, Bool, true, false, ◌&&◌, nat_eq, List, [], ◌∷◌}
+use Rattle.std.specs.Prelude.{◌≡◌, ℕ, Bool, nat_eq, List, [], ◌∷◌}
 use Rattle.dom_set.specs.Elements.{is_in}
 use Rattle.rv_isa.specs.declared.operation.Op.{Op}
-use Rattle.rv_isa.specs.Fields.{reads_rs1, reads_rs2}
-use Rattle.rv_isa.specs.Table.{row_of}
 use Rattle.tpl_ast.specs.declared.template.Atom.{Atom}
-use Rattle.tpl_ast.specs.declared.template.Var.TheVariants as vars
 use Rattle.fd_prob.specs.declared.problem.Case.{Case as ACase}
 use Rattle.fd_prob.specs.declared.relation.Rel.TheVariants.{Rows}
 use Rattle.fd_prob.specs.declared.slot.Slot.{Slot}
@@ -13,26 +10,16 @@ use Rattle.fd_prob.specs.declared.slot.Slot.TheVariants as slots
 use Rattle.fd_prob.specs.declared.slot.TheConstants.{SLOTS}
 use Rattle.leaf_link.specs.Turns.{Turn}
 use Rattle.rv_isa.specs.Numbers.{op_number}
-use Rattle.leaf_link.specs.Cases.{all_tests, code_at, or_no}
-use Rattle.leaf_link.specs.Firsts.{IsDomain, has_old, in_first_word}
+use Rattle.leaf_link.specs.Firsts.{IsDomain, first_domain}
 use Rattle.leaf_stand.specs.declared.stand.Stand.{Stand}
 use Rattle.leaf_stand.specs.Sets.{AreEach}
 use Rattle.leaf_stand.specs.Stands.{turn_of}
 
--- the default domain of a variable, cut by the atoms on it, for an operation without data access
+-- the default domain of a variable, cut by the atoms on it, where no data access is translated
 abbrev pub first_at : Turn → List Atom → Op → Slot → ℕ → Bool
-first_at t leaf op slots.Op v = in_first_word (code_at t 0) op slots.Op v && all_tests t leaf vars.Op v
-first_at t leaf op slots.Rs1 v = in_first_word (code_at t 0) op slots.Rs1 v && all_tests t leaf vars.Rs1 v
-first_at t leaf op slots.Rs2 v = in_first_word (code_at t 0) op slots.Rs2 v && all_tests t leaf vars.Rs2 v
-first_at t leaf op slots.Imm v = in_first_word (code_at t 0) op slots.Imm v && all_tests t leaf vars.Imm v
-first_at t leaf op slots.Rd v = in_first_word (code_at t 0) op slots.Rd v && all_tests t leaf vars.Rd v
-first_at t leaf op slots.Csr v = in_first_word (code_at t 0) op slots.Csr v && all_tests t leaf vars.Csr v
-first_at t leaf op slots.Ea v = or_no false true v && all_tests t leaf vars.Ea v
-first_at t leaf op slots.A v = or_no (reads_rs1 (row_of op)) true v && all_tests t leaf vars.A v
-first_at t leaf op slots.B v = or_no (reads_rs2 (row_of op)) true v && all_tests t leaf vars.B v
-first_at t leaf op slots.OldCsr v = or_no (has_old op) true v
-first_at t leaf op slots.Vector v = is_in t.vectors v
-first_at t leaf op _ v = nat_eq v 0
+first_at t leaf op slots.FirstPte v = nat_eq v 0
+first_at t leaf op slots.SecondPte v = nat_eq v 0
+first_at t leaf op s v = first_domain t 0 leaf op s v
 
 -- the domains of a first case
 abbrev pub AreFirstDomains : Turn → List Atom → Op → List (List ℕ) → Type 0

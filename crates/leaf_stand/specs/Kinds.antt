@@ -4,7 +4,6 @@ use Rattle.rv_isa.specs.declared.operation.Op.TheVariants as ops
 use Rattle.leaf_stand.specs.declared.kind.Kind.{Kind}
 use Rattle.leaf_stand.specs.declared.kind.Kind.TheVariants as kinds
 
--- loads and stores are not built
 abbrev pub kind_of : Op → Kind
 kind_of ops.Jal = kinds.Jump
 kind_of ops.Jalr = kinds.JumpRegister
@@ -14,14 +13,14 @@ kind_of ops.Blt = kinds.Branch
 kind_of ops.Bge = kinds.Branch
 kind_of ops.Bltu = kinds.Branch
 kind_of ops.Bgeu = kinds.Branch
-kind_of ops.Lb = kinds.Other
-kind_of ops.Lh = kinds.Other
-kind_of ops.Lw = kinds.Other
-kind_of ops.Lbu = kinds.Other
-kind_of ops.Lhu = kinds.Other
-kind_of ops.Sb = kinds.Other
-kind_of ops.Sh = kinds.Other
-kind_of ops.Sw = kinds.Other
+kind_of ops.Lb = kinds.Data
+kind_of ops.Lh = kinds.Data
+kind_of ops.Lw = kinds.Data
+kind_of ops.Lbu = kinds.Data
+kind_of ops.Lhu = kinds.Data
+kind_of ops.Sb = kinds.Data
+kind_of ops.Sh = kinds.Data
+kind_of ops.Sw = kinds.Data
 kind_of ops.Ecall = kinds.Call
 kind_of ops.Ebreak = kinds.Break
 kind_of ops.Csrrw = kinds.Csr

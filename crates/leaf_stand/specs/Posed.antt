@@ -1,6 +1,9 @@
 -- Which operations are posed, the cases of a stand, and lists of cases that the same assignments fit.
-use Rattle.std.specs.Prelude.{◌≡◌, ℕ, ◌↔◌, Bool, true, false, ◌&&◌, ◌||◌, ◌==◌, not, List, [], ◌∷◌, ◌++◌, Option, Some, None}
+use Rattle.std.specs.Prelude.{◌≡◌, ℕ, ◌↔◌, if◌then◌else◌, Bool, true, false, ◌&&◌, ◌||◌, ◌==◌, not, List, [], ◌∷◌, ◌++◌, Option, Some, None}
 use Rattle.std.specs.List.{list_all, list_any}
+use Rattle.std.specs.Option.{is_some}
+use Rattle.data_bytes.specs.declared.memory.DataBytes.{DataBytes}
+use Rattle.data_goals.specs.Goals.{goal_ways}
 use Rattle.rv_isa.specs.declared.instruction.Instr.{Instr}
 use Rattle.rv_isa.specs.declared.operation.Op.{Op}
 use Rattle.rv_isa.specs.declared.operation.TheConstants.{OPS}
@@ -19,7 +22,7 @@ use Rattle.leaf_link.specs.Cases.{Case, Fits, Shape as AShape, Way as AWay, all_
 use Rattle.leaf_link.specs.Answers.{values_in}
 use Rattle.leaf_link.specs.AllWays.{ways_of}
 use Rattle.leaf_stand.specs.declared.kind.Kind.{Kind}
-use Rattle.leaf_stand.specs.declared.kind.Kind.TheVariants.{Csr, Other}
+use Rattle.leaf_stand.specs.declared.kind.Kind.TheVariants.{Csr, Data}
 use Rattle.leaf_stand.specs.declared.stand.Stand.{Stand}
 use Rattle.leaf_stand.specs.declared.way.Way.{Way}
 use Rattle.leaf_stand.specs.Kinds.{kind_of}
@@ -40,21 +43,25 @@ reads_as (Some word) op = is_read_as (decoded word) op
 abbrev pub allows : Stand → List Atom → Op → Bool
 allows s leaf op = reads_as s.word op && all_tests (turn_of s) leaf vars.Op (op_number op)
 
-abbrev pub is_other : Kind → Bool
-is_other Other = true
-is_other kind = false
+abbrev pub is_data : Kind → Bool
+is_data Data = true
+is_data kind = false
 
 -- the ways of its steps rest on neither registers nor memory, so that they stand in a list
 abbrev pub is_listed : Kind → Bool
 is_listed Csr = false
-is_listed Other = false
+is_listed Data = false
 is_listed kind = true
 
--- the operation is built, or not allowed
-abbrev pub is_posable : Stand → List Atom → Op → Bool
-is_posable s leaf op = not (is_other (kind_of op)) || not (allows s leaf op)
+-- a load or store can be posed where it is told what may be done with the bytes of memory
+abbrev pub has_bytes : Stand → Bool
+has_bytes s = is_some s.bytes
 
--- no operation is allowed but those that are built
+-- the operation can be posed, or is not allowed
+abbrev pub is_posable : Stand → List Atom → Op → Bool
+is_posable s leaf op = (not (is_data (kind_of op)) || has_bytes s) || not (allows s leaf op)
+
+-- no operation is allowed but those that can be posed
 abbrev pub are_posable : Stand → List Atom → Bool
 are_posable s leaf = list_all (is_posable s leaf) OPS
 
@@ -72,9 +79,17 @@ stand_cases s leaf op (way ∷ ways) = case_if (is_posed_at s leaf (shape_of op 
 abbrev pub stand_ways : Stand → Op → List AWay
 stand_ways s op = ways_of (turn_of s) [] 0 [] [] [] op
 
+-- those of a load or store are its goals
+abbrev pub data_ways : Stand → List Atom → Op → Option DataBytes → List AWay
+data_ways s leaf op None = []
+data_ways s leaf op (Some bytes) = goal_ways (turn_of s) bytes leaf op
+
+abbrev pub ways_at : Stand → List Atom → Op → List AWay
+ways_at s leaf op = if is_data (kind_of op) then data_ways s leaf op s.bytes else stand_ways s op
+
 abbrev pub all_cases : Stand → List Atom → List Op → List Case
 all_cases s leaf [] = []
-all_cases s leaf (op ∷ ops) = stand_cases s leaf op (stand_ways s op) ++ all_cases s leaf ops
+all_cases s leaf (op ∷ ops) = stand_cases s leaf op (ways_at s leaf op) ++ all_cases s leaf ops
 
 -- LISTS OF CASES
 -- the same assignments fit the cases of a problem and those of the definition

@@ -58,6 +58,7 @@ abbrev pub speaks_of : Atom → Var → Bool
 speaks_of (atoms.In w set) u = same_var w u
 speaks_of (atoms.NotIn w set) u = same_var w u
 speaks_of (atoms.Is w name) u = same_var w u
+speaks_of atoms.Shared u = same_var vars.Pa u
 speaks_of atom u = false
 
 abbrev pub speak_of : List Atom → Var → Bool

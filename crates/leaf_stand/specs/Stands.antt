@@ -1,5 +1,5 @@
 -- What is known where a leaf is solved, as the turn of the definitions.
-use Rattle.std.specs.Prelude.{◌≡◌, ℕ, ◌<◌, ◌^◌, Bool, true, false, ◌||◌, nat_eq, List, [], Option, Some, None, slice_get}
+use Rattle.std.specs.Prelude.{◌≡◌, ℕ, ◌<◌, ◌^◌, Bool, true, false, not, ◌&&◌, ◌||◌, nat_eq, List, [], Option, Some, None, slice_get, IfSome}
 use Rattle.dom_set.specs.Elements.{is_in}
 use Rattle.rv_csr.specs.Causes.{number_of}
 use Rattle.rv_csr.specs.State.{CsrValues, lazy_value}
@@ -14,6 +14,8 @@ use Rattle.rv_hart.specs.Privileged.{lazy_address}
 use Rattle.fd_prob.specs.declared.slot.Slot.{Slot}
 use Rattle.fd_prob.specs.declared.slot.Slot.TheVariants as slots
 use Rattle.tpl_ast.specs.declared.template.Atom.{Atom}
+use Rattle.data_bytes.specs.declared.memory.DataBytes.{DataBytes}
+use Rattle.data_goals.specs.Rows.{HasBytes}
 use Rattle.leaf_link.specs.Turns.{Turn}
 use Rattle.leaf_link.specs.Cases.{Shape as AShape, base_domain, may_fetch}
 use Rattle.leaf_link.specs.Controls.{is_old}
@@ -65,6 +67,12 @@ turn_of s = record {
   sources = λ v. is_in s.sources.now v;
 }
 
+-- the bytes are those of the turn; its fetch walked no entry, and no hart has a lower number
+pub record IsDataOf (t : Turn) (walk : List Entry) (pa : ℕ) (bytes : DataBytes) : Type 0 where
+  pub untranslated : walk ≡ []
+  pub alone : t.others ≡ []
+  pub has : HasBytes t pa bytes
+
 -- the stand tells what a turn is: its pc, privilege, registers and CSRs, the word at the pc, the vectors, the names and the sources, and whether the fetch may be made
 pub record IsStandOf (s : Stand) (t : Turn) (walk : List Entry) (pa : ℕ) : Type 0 where
   pub pc : t.fixed.pc ≡ s.pc
@@ -82,6 +90,7 @@ pub record IsStandOf (s : Stand) (t : Turn) (walk : List Entry) (pa : ℕ) : Typ
   pub satp : t.fixed.satp ≡ s.csrs.satp
   pub number : t.fixed.number ≡ s.csrs.hart
   pub sources : (v : ℕ) → v < 2 ^ 32 → t.sources v ≡ is_in s.sources.now v
+  pub bytes : IfSome s.bytes (IsDataOf t walk pa)
 
 -- HOW A STEP ENDS
 abbrev pub outcome_at : End → ℕ
@@ -89,7 +98,7 @@ outcome_at Retires = 255
 outcome_at (Traps cause) = number_of cause
 
 abbrev pub shape_at : Shape → AShape
-shape_at s = record { op = s.op; outcome = outcome_at s.end; reaches = false }
+shape_at s = record { op = s.op; outcome = outcome_at s.end; reaches = s.reaches }
 
 abbrev pub is_retired : End → Bool
 is_retired Retires = true
@@ -123,7 +132,8 @@ domain_at t leaf s reads slots.OldCsr v = old_at t reads v
 domain_at t leaf s reads slots.Vector v = also_at t s.end slots.Vector v
 domain_at t leaf s reads slot v = base_domain t 0 leaf (shape_at s) slot v
 
--- the same, where whatever is read may have any value
+-- the same, where a data access may start any word, and whatever else is read may have any value
 abbrev pub open_at : Turn → List Atom → Shape → Slot → ℕ → Bool
-open_at t leaf s slots.OldCsr v = is_retired s.end || nat_eq v 0
+open_at t leaf s slots.OldCsr v = (is_retired s.end && not s.reaches) || nat_eq v 0
+open_at t leaf s slots.DataWord v = s.reaches || nat_eq v 0
 open_at t leaf s slot v = domain_at t leaf s None slot v

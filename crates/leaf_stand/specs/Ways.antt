@@ -24,7 +24,7 @@ use Rattle.leaf_stand.specs.Relations.{may_aim, may_steer, way_at}
 use Rattle.leaf_stand.specs.Stands.{shape_at, turn_of}
 
 abbrev pub shape_with : Op → End → Shape
-shape_with op end = record { op = op; end = end }
+shape_with op end = record { op = op; end = end; reaches = false }
 
 abbrev pub retiring : Way
 retiring = record { end = Retires; taken = None; aim = Anywhere; reads = None }
@@ -59,7 +59,7 @@ ways_by s kinds.AddressFence = if is_withheld Tvm (turn_of s).fixed then trappin
 ways_by s kinds.MachineReturn = if is_machine s.privilege then returning Mepc ∷ [] else trapping causes.Illegal ∷ []
 ways_by s kinds.SupervisorReturn = if is_withheld Tsr (turn_of s).fixed then trapping causes.Illegal ∷ [] else returning Sepc ∷ []
 ways_by s kinds.Csr = []
-ways_by s kinds.Other = []
+ways_by s kinds.Data = []
 
 -- the way is one of the operation's
 pub record IsWayOf (s : Stand) (op : Op) (way : Way) : Type 0 where

@@ -77,13 +77,14 @@ impl Stand<'_> {
         atom: &Atom,
         var: Var,
     ) -> Result<Set, OutOfMemory>
-        requires { same_var Var.Pa var ≡ false }
         ensures { IfOk result (IsSetOf (λ v. is_in set v && tests (turn_of self.now) atom.now var v)) }
     {
         match atom {
             Atom::In(of, wanted) if same_var(*of, var) => meet(alloc, &set, wanted),
             Atom::NotIn(of, unwanted) if same_var(*of, var) => less(alloc, &set, unwanted),
             Atom::Is(of, name) if same_var(*of, var) => self.named(alloc, set, *name),
+            // No hart of a lower number has a record.
+            Atom::Shared if same_var(Var::Pa, var) => Ok(Set::new(alloc)),
             _ => Ok(set),
         }
     }
@@ -96,7 +97,6 @@ impl Stand<'_> {
         leaf: &[Atom],
         var: Var,
     ) -> Result<Set, OutOfMemory>
-        requires { same_var Var.Pa var ≡ false }
         ensures { IfOk result (IsSetOf (λ v. is_in set v && all_tests (turn_of self.now) leaf.now var v)) }
     {
         let mut left = set;
@@ -120,20 +120,19 @@ impl Stand<'_> {
     }
 
     fn passes_one(&self, atom: &Atom, var: Var, value: u32) -> bool
-        requires { same_var Var.Pa var ≡ false }
         ensures { result ≡ tests (turn_of self.now) atom.now var value }
     {
         match atom {
             Atom::In(of, wanted) if same_var(*of, var) => wanted.has(value),
             Atom::NotIn(of, unwanted) if same_var(*of, var) => !unwanted.has(value),
             Atom::Is(of, name) if same_var(*of, var) => self.is_named(*name, value),
+            Atom::Shared if same_var(Var::Pa, var) => false,
             _ => true,
         }
     }
 
-    /// Whether a value passes all atoms on the variable, which is not the physical address.
+    /// Whether a value passes all atoms on the variable.
     pub fn passes(&self, leaf: &[Atom], var: Var, value: u32) -> bool
-        requires { same_var Var.Pa var ≡ false }
         ensures { result ≡ all_tests (turn_of self.now) leaf.now var value }
     {
         for atom in leaf {
@@ -157,7 +156,7 @@ fn is_judged(shape: Shape, atom: &Atom) -> bool
         Atom::Differ(var, other) => shape.uses(*var) && shape.uses(*other),
         Atom::Taken => shape.uses_condition(),
         Atom::NotTaken => shape.uses_condition(),
-        Atom::Shared => false,
+        Atom::Shared => shape.reaches,
     }
 }
 
@@ -204,6 +203,7 @@ fn speaks_of(atom: &Atom, var: Var) -> bool
         Atom::In(of, _) => same_var(*of, var),
         Atom::NotIn(of, _) => same_var(*of, var),
         Atom::Is(of, _) => same_var(*of, var),
+        Atom::Shared => same_var(Var::Pa, var),
         _ => false,
     }
 }

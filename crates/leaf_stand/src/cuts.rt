@@ -37,7 +37,6 @@ impl Stand<'_> {
     /// The words that pass the atoms on a variable.
     #[tactic(auto, using(crate::proofs::Sets::all_words))]
     fn cut(&self, alloc: Global, bias: &[Atom], var: Var) -> Result<Set, OutOfMemory>
-        requires { same_var Var.Pa var ≡ false }
         ensures { IfOk result (IsSetOf (all_tests (turn_of self.now) bias.now var)) }
     {
         let words = Spans::up_to(u32::MAX).set(alloc)?;

@@ -57,7 +57,6 @@ impl Stand<'_> {
         used: bool,
         var: Var,
     ) -> Result<Set, OutOfMemory>
-        requires { same_var Var.Pa var ≡ false }
         ensures { IfOk result (IsSetOf (λ v. in_word self.now.word op slot v && unless used (all_tests (turn_of self.now) leaf.now var v))) }
     {
         let values = self.fields(alloc, op, slot)?;
@@ -70,7 +69,6 @@ impl Stand<'_> {
 
     /// Any word that passes the atoms where the step uses the variable, and else 0.
     fn words(&self, alloc: Global, leaf: &[Atom], used: bool, var: Var) -> Result<Set, OutOfMemory>
-        requires { same_var Var.Pa var ≡ false }
         ensures { IfOk result (IsSetOf (λ v. or_no used (nat_lt v (2 ^ 32) && all_tests (turn_of self.now) leaf.now var v) v)) }
     {
         if used {
@@ -118,7 +116,6 @@ impl Stand<'_> {
         reads: Option<LazyRegister>,
         slot: Slot,
     ) -> Result<Set, OutOfMemory>
-        requires { has_address (row_of shape.op) ≡ false }
         ensures { IfOk result (IsSetOf (domain_at (turn_of self.now) leaf.now shape reads slot)) }
     {
         let op = shape.op;
@@ -131,7 +128,7 @@ impl Stand<'_> {
             Slot::Csr => self.passing_fields(alloc, leaf, op, slot, op.has_csr(), Var::Csr),
             Slot::A => self.words(alloc, leaf, shape.uses_rs1(), Var::A),
             Slot::B => self.words(alloc, leaf, shape.uses_rs2(), Var::B),
-            Slot::Ea => Spans::one(0).set(alloc),
+            Slot::Ea => self.words(alloc, leaf, shape.uses_address(), Var::Ea),
             Slot::FirstPte => Spans::one(0).set(alloc),
             Slot::SecondPte => Spans::one(0).set(alloc),
             Slot::DataWord => Spans::one(0).set(alloc),
@@ -140,7 +137,8 @@ impl Stand<'_> {
         }
     }
 
-    /// The domain of a variable, where a step that retires may read any value of a CSR.
+    /// The domain of a variable, where a data access may start any word, and a step that retires without one may read any
+    /// value of a CSR.
     pub fn open_domain(
         &self,
         alloc: Global,
@@ -148,11 +146,11 @@ impl Stand<'_> {
         shape: Shape,
         slot: Slot,
     ) -> Result<Set, OutOfMemory>
-        requires { has_address (row_of shape.op) ≡ false }
         ensures { IfOk result (IsSetOf (open_at (turn_of self.now) leaf.now shape slot)) }
     {
         match (slot, shape.end) {
-            (Slot::OldCsr, End::Retires) => Spans::up_to(u32::MAX).set(alloc),
+            (Slot::OldCsr, End::Retires) if !shape.reaches => Spans::up_to(u32::MAX).set(alloc),
+            (Slot::DataWord, _) if shape.reaches => Spans::up_to(u32::MAX).set(alloc),
             _ => self.domain(alloc, leaf, shape, None, slot),
         }
     }
@@ -165,7 +163,6 @@ impl Stand<'_> {
         shape: Shape,
         reads: Option<LazyRegister>,
     ) -> Result<Vec<Set>, OutOfMemory>
-        requires { has_address (row_of shape.op) ≡ false }
         ensures each { IfOk result (λ doms. AreDomains (domain_at (turn_of self.now) leaf.now shape reads) SLOTS doms.items) }
         ensures length { IfOk result (λ doms. length doms.items ≡ 14) }
     {

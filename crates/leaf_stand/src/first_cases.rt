@@ -13,7 +13,7 @@ ghost use Rattle.leaf_stand.specs.Sets.{IsSetOf};
 ghost use Rattle.leaf_stand.specs.Stands.{turn_of};
 
 use crate::formats::Spans;
-use crate::shape::has_old;
+use crate::shape::{has_address, has_old};
 use crate::stand::Stand;
 use dom_set::{OutOfMemory, Set};
 use fd_prob::{Case, Items, Rel, SLOTS, Slot};
@@ -63,7 +63,6 @@ impl Stand<'_> {
         slot: Slot,
         var: Var,
     ) -> Result<Set, OutOfMemory>
-        requires { same_var Var.Pa var ≡ false }
         ensures { IfOk result (IsSetOf (λ v. in_first_word self.now.word op slot v && all_tests (turn_of self.now) leaf.now var v)) }
     {
         let values = self.first_fields(alloc, op, slot)?;
@@ -90,7 +89,6 @@ impl Stand<'_> {
         has: bool,
         var: Var,
     ) -> Result<Set, OutOfMemory>
-        requires { same_var Var.Pa var ≡ false }
         ensures { IfOk result (IsSetOf (λ v. or_no has true v && all_tests (turn_of self.now) leaf.now var v)) }
     {
         let values = self.any_if(alloc, has)?;
@@ -113,12 +111,12 @@ impl Stand<'_> {
             Slot::Imm => self.first_field(alloc, leaf, op, slot, Var::Imm),
             Slot::Rd => self.first_field(alloc, leaf, op, slot, Var::Rd),
             Slot::Csr => self.first_field(alloc, leaf, op, slot, Var::Csr),
-            Slot::Ea => self.first_words(alloc, leaf, false, Var::Ea),
+            Slot::Ea => self.first_words(alloc, leaf, has_address(op), Var::Ea),
             Slot::A => self.first_words(alloc, leaf, op.reads_rs1(), Var::A),
             Slot::B => self.first_words(alloc, leaf, op.reads_rs2(), Var::B),
             Slot::FirstPte => Spans::one(0).set(alloc),
             Slot::SecondPte => Spans::one(0).set(alloc),
-            Slot::DataWord => Spans::one(0).set(alloc),
+            Slot::DataWord => self.any_if(alloc, has_address(op)),
             Slot::OldCsr => self.any_if(alloc, has_old(op)),
             Slot::Vector => self.vectors.copy(alloc),
         }

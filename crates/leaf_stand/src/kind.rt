@@ -1,8 +1,8 @@
 // Operations by how their steps go on after the sources.
 
-ghost use Rattle.std.specs.Prelude.{◌≡◌, not};
+ghost use Rattle.std.specs.Prelude.{◌≡◌};
 ghost use Rattle.leaf_stand.specs.Kinds.{kind_of};
-ghost use Rattle.leaf_stand.specs.Posed.{is_other};
+ghost use Rattle.leaf_stand.specs.Posed.{is_data};
 
 use rv_isa::Op;
 
@@ -30,8 +30,8 @@ pub enum Kind {
     SupervisorReturn,
     /// SFENCE.VMA.
     AddressFence,
-    /// It is not built.
-    Other,
+    /// Loads and stores.
+    Data,
 }
 
 /// The kind of an operation.
@@ -42,7 +42,7 @@ pub fn kind_of(op: Op) -> Kind
         Op::Jal => Kind::Jump,
         Op::Jalr => Kind::JumpRegister,
         Op::Beq | Op::Bne | Op::Blt | Op::Bge | Op::Bltu | Op::Bgeu => Kind::Branch,
-        Op::Lb | Op::Lh | Op::Lw | Op::Lbu | Op::Lhu | Op::Sb | Op::Sh | Op::Sw => Kind::Other,
+        Op::Lb | Op::Lh | Op::Lw | Op::Lbu | Op::Lhu | Op::Sb | Op::Sh | Op::Sw => Kind::Data,
         Op::Ecall => Kind::Call,
         Op::Ebreak => Kind::Break,
         Op::Csrrw | Op::Csrrs | Op::Csrrc | Op::Csrrwi | Op::Csrrsi | Op::Csrrci => Kind::Csr,
@@ -54,22 +54,9 @@ pub fn kind_of(op: Op) -> Kind
     }
 }
 
-/// Whether leaves with the operation are posed.
-pub fn is_posed(op: Op) -> bool
-    ensures { result ≡ not (is_other (kind_of op)) }
+/// Whether it is a load or a store.
+pub fn is_data(op: Op) -> bool
+    ensures { result ≡ is_data (kind_of op) }
 {
-    match kind_of(op) {
-        Kind::Other => false,
-        Kind::Plain
-        | Kind::Branch
-        | Kind::Jump
-        | Kind::JumpRegister
-        | Kind::Call
-        | Kind::Break
-        | Kind::Illegal
-        | Kind::Csr
-        | Kind::MachineReturn
-        | Kind::SupervisorReturn
-        | Kind::AddressFence => true,
-    }
+    matches!(kind_of(op), Kind::Data)
 }

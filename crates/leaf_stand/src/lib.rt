@@ -1,7 +1,9 @@
 //! What is known where a leaf of a template stands, and what that says of a step: which operations the atoms and a known
-//! word allow, the ways in which the step of each may end, the domains of its variables, first cases, and what atoms and
-//! known registers say of values. It stands on the definition of a leaf's problem, on cases and on sets of words. It
-//! promises that each set has just the words that the definition lets through, and each answer is the definition's.
+//! word allow, the ways in which the step of each may end (those of CSR instructions and of loads and stores stand in
+//! `leaf_csrs` and `data_goals`), the domains of its variables, first cases, and what atoms and known registers say of
+//! values. Where loads or stores may be posed it owns what they may do with the bytes of memory. It stands on `leaf_link`,
+//! `data_goals`, `fd_prob` and `dom_set`. It promises that each set has just the words that the definition lets through,
+//! and each answer is the definition's.
 #![tactic(auto)]
 
 mod atoms;
@@ -21,9 +23,9 @@ mod way;
 
 pub use atoms::{all_judged, are_between, speak_of};
 pub use formats::{FOURS, Spans};
-pub use kind::{Kind, is_posed, kind_of};
+pub use kind::{Kind, is_data, kind_of};
 pub use laws::leaves_are_between;
 pub use relations::{push_atoms, push_taken};
-pub use shape::{End, Shape};
+pub use shape::{End, Shape, same_var};
 pub use stand::{Name, Stand};
 pub use way::{Aim, Way};

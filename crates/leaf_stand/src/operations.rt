@@ -9,7 +9,7 @@ ghost use Rattle.leaf_stand.specs.Posed.{are_posable, is_posable};
 ghost use Rattle.leaf_stand.specs.Stands.{turn_of};
 ghost use Rattle.leaf_stand.specs.Ways.{ways_by};
 
-use crate::kind::{Kind, kind_of};
+use crate::kind::{Kind, is_data};
 use crate::shape::End;
 use crate::stand::Stand;
 use crate::way::{Aim, Way};
@@ -167,16 +167,17 @@ impl Stand<'_> {
                     &SUPERVISOR_RETURNS
                 }
             }
-            // Those of CSR instructions rest on registers.
-            Kind::Csr | Kind::Other => &[],
+            // Those of CSR instructions rest on registers, and those of loads and stores on memory.
+            Kind::Csr | Kind::Data => &[],
         }
     }
 
-    /// Whether an operation is built, or not allowed by the atoms and a known word.
+    /// Whether an operation can be posed, or is not allowed by the atoms and a known word: a load or store can where it is told
+    /// what may be done with the bytes of memory.
     fn is_posable(&self, leaf: &[Atom], op: Op) -> bool
         ensures { result ≡ is_posable self.now leaf.now op }
     {
-        !matches!(kind_of(op), Kind::Other) || !self.allows(leaf, op)
+        !is_data(op) || self.bytes.is_some() || !self.allows(leaf, op)
     }
 
     fn each_is_posable(&self, leaf: &[Atom], ops: &[Op]) -> bool
@@ -190,7 +191,7 @@ impl Stand<'_> {
         true
     }
 
-    /// Whether the atoms and a known word allow no operations but those that are built.
+    /// Whether the atoms and a known word allow no operations but those that can be posed.
     pub fn are_posable(&self, leaf: &[Atom]) -> bool
         ensures { result ≡ are_posable self.now leaf.now }
     {

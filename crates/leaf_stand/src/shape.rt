@@ -1,8 +1,10 @@
 // What a step uses, by its operation and by how it ends.
 
 ghost use Rattle.std.specs.Prelude.{◌≡◌};
-ghost use Rattle.leaf_link.specs.Cases.{uses, uses_condition, uses_rs1, uses_rs2};
+ghost use Rattle.leaf_link.specs.Cases.{uses, uses_address, uses_condition, uses_rs1, uses_rs2};
 ghost use Rattle.leaf_link.specs.Firsts.{has_old};
+ghost use Rattle.leaf_link.specs.Values.{has_address};
+ghost use Rattle.rv_isa.specs.Table.{row_of};
 ghost use Rattle.tpl_ast.specs.Leaves.{same_var, var_number};
 ghost use Rattle.leaf_stand.specs.Stands.{outcome_at, shape_at};
 ghost use Rattle.leaf_stand.specs.Relations.{slot_of};
@@ -19,11 +21,12 @@ pub enum End {
     Traps(Cause),
 }
 
-/// An operation without a data access, and how it ends.
+/// An operation, how it ends, and whether it makes a data access.
 #[derive(Clone, Copy)]
 pub struct Shape {
     pub op: Op,
     pub end: End,
+    pub reaches: bool,
 }
 
 impl End {
@@ -51,6 +54,13 @@ impl Shape {
         ensures { result ≡ uses_rs2 (shape_at self) }
     {
         self.op.reads_rs2() && self.end.outcome() != 2
+    }
+
+    /// The virtual address matters.
+    pub fn uses_address(self) -> bool
+        ensures { result ≡ uses_address (shape_at self) }
+    {
+        (self.op.is_load() || self.op.is_store()) && self.uses_rs1()
     }
 
     /// It is a branch whose condition is looked at.
@@ -81,10 +91,17 @@ impl Shape {
             Var::A => self.uses_rs1(),
             Var::B => self.uses_rs2(),
             Var::Target => self.uses_target(),
-            Var::Ea => (self.op.is_load() || self.op.is_store()) && self.uses_rs1(),
-            Var::Pa => false,
+            Var::Ea => self.uses_address(),
+            Var::Pa => self.reaches,
         }
     }
+}
+
+/// The operation has a virtual address.
+pub fn has_address(op: Op) -> bool
+    ensures { result ≡ has_address (row_of op) }
+{
+    op.is_load() || op.is_store()
 }
 
 /// The operation may read a CSR.

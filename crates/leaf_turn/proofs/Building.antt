@@ -1,7 +1,8 @@
--- Leaves that are built can be posed, and bar writes of satp.
-use Rattle.std.proofs.Common.{◌≡◌, ℕ, Bool, true, false, not, ◌&&◌, ◌||◌, ◌++◌, if◌then◌else◌, List, [], ◌∷◌, refl}
+-- Leaves that are built can be posed, and bar accesses to satp.
+use Rattle.std.proofs.Common.{◌≡◌, ℕ, Bool, true, false, not, ◌&&◌, ◌||◌, ◌++◌, if◌then◌else◌, List, [], ◌∷◌, refl, sym, subst, inl, inr}
 use Rattle.std.specs.List.{list_all, list_any}
-use Rattle.std.proofs.lemmas.Bool.{and_from, and_parts}
+use Rattle.std.proofs.lemmas.Bool.{and_from, and_parts, or_cases, or_left, or_right}
+use Rattle.rv_script.specs.Lists.{HasItem}
 use Rattle.rv_isa.specs.declared.operation.Op.{Op}
 use Rattle.rv_isa.specs.declared.operation.TheConstants.{OPS}
 use Rattle.rv_isa.specs.Numbers.{op_number}
@@ -17,10 +18,10 @@ use Rattle.leaf_link.specs.Cases.{all_tests, tests}
 use Rattle.leaf_link.specs.Values.{has_csr_operand}
 use Rattle.leaf_stand.specs.declared.stand.Stand.{Stand}
 use Rattle.leaf_stand.specs.Kinds.{kind_of}
-use Rattle.leaf_stand.specs.Posed.{allows, is_other, is_posable, reads_as}
+use Rattle.leaf_stand.specs.Posed.{allows, has_bytes, is_data, is_posable, reads_as}
 use Rattle.leaf_stand.specs.Stands.{turn_of}
 use Rattle.leaf_pose.proofs.Whole.{every_op}
-use Rattle.leaf_turn.specs.Built.{BuiltLeavesArePosable, BuiltLeavesBarSatp, all_let, is_built, lets, may_be_satp}
+use Rattle.leaf_turn.specs.Built.{BuiltLeavesArePosable, BuiltLeavesBarSatp, DataLeavesAreAlone, all_let, is_built, lets, lets_data, may_be_data, may_be_satp}
 use Rattle.leaf_turn.specs.Wishes.{mandatory_of, retires, unbiased}
 use Rattle.leaf_turn.proofs.Each.{every}
 
@@ -50,24 +51,53 @@ through_unbiased t (w ∷ ws) u n h = go w.prefer h (through_unbiased t ws u n)
 let_through : (t : Turn) (ws : List Wish) (u : Var) (n : ℕ) → all_tests t (mandatory_of ws) u n ≡ true → all_let ws u n ≡ true
 let_through t ws u n h = through_unbiased t ws u n (first_tests t (unbiased ws) (if list_any fixes_outcome ws then [] else retires ∷ []) u n h)
 
-posable : (other satp through allowed : Bool) → ((not other && not satp) || not through) ≡ true → (allowed ≡ true → through ≡ true) → (not other || not allowed) ≡ true
-posable false satp through allowed h k = refl
-posable true satp true allowed h k = absurd (cc h)
-posable true satp false true h k = absurd (cc (k refl))
-posable true satp false false h k = refl
+posable : (is through told allowed : Bool) → ((is && through) ≡ true → told ≡ true) → (allowed ≡ true → through ≡ true) → ((not is || told) || not allowed) ≡ true
+posable false through told allowed h k = refl
+posable true through true allowed h k = refl
+posable true through false false h k = refl
+posable true true false true h k = absurd (cc (h refl))
+posable true false false true h k = absurd (cc (k refl))
 
-one_posable : (ws : List Wish) (st : Stand) (op : Op) → is_built ws op ≡ true → is_posable st (mandatory_of ws) op ≡ true
-one_posable ws st op h = posable (is_other (kind_of op)) (may_be_satp ws op) (all_let ws vars.Op (op_number op)) (allows st (mandatory_of ws) op) h (λ allowed.
-    let_through (turn_of st) ws vars.Op (op_number op) (and_parts (reads_as st.word op) (all_tests (turn_of st) (mandatory_of ws) vars.Op (op_number op)) allowed).1)
+any_at : (test : Op → Bool) (ops : List Op) (op : Op) → HasItem ops op → test op ≡ true → list_any test ops ≡ true
+any_at test [] op i h = absurd i
+any_at test (x ∷ ops) op i h = elim i [
+  | inl e ↦ or_left (test x) (list_any test ops) (subst (λ (o : Op). test o ≡ true) (sym e) h)
+  | inr j ↦ or_right (test x) (list_any test ops) (any_at test ops op j h)
+]
 
-all_posable : (ws : List Wish) (st : Stand) (ops : List Op) → list_all (is_built ws) ops ≡ true → list_all (is_posable st (mandatory_of ws)) ops ≡ true
-all_posable ws st [] h = refl
-all_posable ws st (op ∷ ops) h = let p = and_parts _ _ h in and_from _ _ (one_posable ws st op p.0) (all_posable ws st ops p.1)
+one_posable : (ws : List Wish) (st : Stand) → (lets_data ws ≡ true → has_bytes st ≡ true) → (op : Op) → is_posable st (mandatory_of ws) op ≡ true
+one_posable ws st told op = posable (is_data (kind_of op)) (all_let ws vars.Op (op_number op)) (has_bytes st) (allows st (mandatory_of ws) op)
+    (λ may. told (any_at (may_be_data ws) OPS op (every_op op) may))
+    (λ allowed. let_through (turn_of st) ws vars.Op (op_number op) (and_parts (reads_as st.word op) (all_tests (turn_of st) (mandatory_of ws) vars.Op (op_number op)) allowed).1)
+
+all_posable : (ws : List Wish) (st : Stand) → (lets_data ws ≡ true → has_bytes st ≡ true) → (ops : List Op) → list_all (is_posable st (mandatory_of ws)) ops ≡ true
+all_posable ws st told [] = refl
+all_posable ws st told (op ∷ ops) = and_from _ _ (one_posable ws st told op) (all_posable ws st told ops)
 
 pub built_leaves_are_posable : BuiltLeavesArePosable
-built_leaves_are_posable ws h st = all_posable ws st OPS h
+built_leaves_are_posable ws st told = all_posable ws st told OPS
 
--- ---- and bar writes of satp
+-- ---- loads and stores are of the first hart
+
+some_at : (test : Op → Bool) (ops : List Op) → list_any test ops ≡ true → (op : Op) × (HasItem ops op × (test op ≡ true))
+some_at test [] h = absurd (cc h)
+some_at test (x ∷ ops) h = elim (or_cases (test x) (list_any test ops) h) [
+  | inl here ↦ (x, (inl refl, here))
+  | inr later ↦ let r = some_at test ops later in (r.0, (inr r.1.0, r.1.1))
+]
+
+only_alone : (alone is satp through : Bool) → (((alone || not is) && not satp) || not through) ≡ true → (is && through) ≡ true → alone ≡ true
+only_alone true is satp through h k = refl
+only_alone false true satp true h k = absurd (cc h)
+only_alone false true satp false h k = absurd (cc k)
+only_alone false false satp through h k = absurd (cc k)
+
+pub data_leaves_are_alone : DataLeavesAreAlone
+data_leaves_are_alone alone ws h lets =
+    let r = some_at (may_be_data ws) OPS lets in
+    only_alone alone (is_data (kind_of r.0)) (may_be_satp ws r.0) (all_let ws vars.Op (op_number r.0)) (every (is_built alone ws) OPS h r.0 r.1.0) r.1.1
+
+-- ---- and they bar accesses to satp
 
 barred : (posed operand satp through tested : Bool) → ((posed && not (operand && satp)) || not through) ≡ true → operand ≡ true → through ≡ true → (tested ≡ true → satp ≡ true) → tested ≡ false
 barred posed operand satp through false h is met k = refl
@@ -78,6 +108,6 @@ barred true true true true true h is met k = absurd (cc h)
 barred false true true true true h is met k = absurd (cc h)
 
 pub built_leaves_bar_satp : BuiltLeavesBarSatp
-built_leaves_bar_satp ws h t op is through =
-    barred (not (is_other (kind_of op))) (has_csr_operand (row_of op)) (all_let ws vars.Csr 0x180) (all_let ws vars.Op (op_number op)) (all_tests t (mandatory_of ws) vars.Csr 0x180)
-    (every (is_built ws) OPS h op (every_op op)) is (let_through t ws vars.Op (op_number op) through) (let_through t ws vars.Csr 0x180)
+built_leaves_bar_satp alone ws h t op is through =
+    barred (alone || not (is_data (kind_of op))) (has_csr_operand (row_of op)) (all_let ws vars.Csr 0x180) (all_let ws vars.Op (op_number op)) (all_tests t (mandatory_of ws) vars.Csr 0x180)
+    (every (is_built alone ws) OPS h op (every_op op)) is (let_through t ws vars.Op (op_number op) through) (let_through t ws vars.Csr 0x180)

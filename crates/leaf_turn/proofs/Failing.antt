@@ -47,7 +47,8 @@ use Rattle.turn_laws.specs.Played.{FaultsArePlayed}
 use Rattle.leaf_turn.specs.Answers.{new_at}
 use Rattle.leaf_turn.specs.Finding.{FaultsArePlayable}
 use Rattle.leaf_turn.specs.Untranslated.{fetch_rows_without}
-use Rattle.leaf_turn.proofs.Untranslated.{fetch_rows_are_there, one_pair, without}
+use Rattle.leaf_link.proofs.NewWords.{without}
+use Rattle.leaf_turn.proofs.Untranslated.{fetch_rows_are_there, one_pair}
 
 -- ---- the step
 

@@ -1,6 +1,6 @@
 -- Names of a template in a test, and what a stand tells of a turn.
 use Rattle.std.proofs.Common.{◌≡◌, ℕ, zero, suc, if◌then◌else◌, ◌≤◌, ◌<◌, ◌/◌, ◌%◌, Bool, true, false, not, ◌&&◌, ◌||◌, eqb, leb, List, [], ◌∷◌, length, Option, None, refl, sym, ap, ◌∙◌, inl, inr, arith}
-use Rattle.std.specs.Prelude.{slice_get, slice_index_or}
+use Rattle.std.specs.Prelude.{IfSome, slice_get, slice_index_or}
 use Rattle.std.specs.List.{list_any}
 use Rattle.std.proofs.lemmas.Bool.{cases_lt}
 use Rattle.sv_walk.specs.declared.entry.Kind.TheVariants.{Fetch as ForFetch}
@@ -35,6 +35,8 @@ use Rattle.leaf_stand.specs.declared.stand.Stand.{Stand}
 use Rattle.leaf_stand.specs.Stands.{IsStandOf, csr_held, held}
 use Rattle.turn_laws.specs.Given.{Setting, turn_at}
 use Rattle.leaf_turn.specs.Grounds.{AreNamesOf, HasSourceSet, IsSettingOf, IsUntranslated, declared_set, is_free_fetch}
+use Rattle.data_goals.specs.Rows.{HasBytes}
+use Rattle.leaf_turn.proofs.Bytes.{data_of_stand}
 use Rattle.leaf_turn.proofs.Freedom.{same_freedom}
 
 pub all_names : (t : Template) (w : Whole) (names : List Name) (count : ℕ) → length w.names ≡ length t.names → length names ≡ count → length t.names ≤ count
@@ -69,6 +71,7 @@ pub record IsMadeOf (t : Template) (k : ℕ) (w : Whole) (own : List Touch) (s :
   pub vectors : s.vectors.now ≡ t.vectors
   pub names : AreNamesOf t w s.names.now
   pub footprint : IsFootprint own (footprints_of (λ j. records_of j w))
+  pub bytes : IfSome s.bytes (λ b. (k ≡ 0) × ((u : Setting) (ts : List Touch) → u.pool ≡ t.pool → IsFootprint ts (footprints_of (λ j. records_of j w)) → HasBytes (turn_at u ts k w) (hart_of k w).pc b))
 
 and_false : (b c : Bool) → c ≡ false → (b && c) ≡ false
 and_false true c h = h
@@ -106,6 +109,7 @@ stand_tells t k w own st s feet test l plain m setting sources footprint =
       satp = ap (λ (b : Bare). b.csrs.satp) is;
       number = ap (λ (b : Bare). b.csrs.hart) is;
       sources = sources;
+      bytes = data_of_stand st s feet k w t.pool (ap (λ (b : Bare). b.pc) is) setting.pool footprint m.bytes;
     }
   where
     free_at : ℕ → Bool

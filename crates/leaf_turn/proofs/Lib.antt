@@ -15,3 +15,4 @@ pub mod Wholly
 pub mod Building
 pub mod Playing
 pub mod Failing
+pub mod Bytes

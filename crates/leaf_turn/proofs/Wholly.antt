@@ -19,7 +19,6 @@ use Rattle.foot_map.specs.Races.{IsFootprint}
 use Rattle.tpl_admit.specs.Races.{footprints_of}
 use Rattle.leaf_link.specs.Answers.{values_in}
 use Rattle.leaf_link.specs.Firsts.{IsTurnAnswer}
-use Rattle.leaf_stand.specs.Posed.{are_posable}
 use Rattle.turn_laws.specs.Ahead.{AreVectors}
 use Rattle.leaf_turn.specs.Answers.{IsFound}
 use Rattle.leaf_turn.specs.Finding.{AnswersAreFound, BarSatp}
@@ -115,14 +114,14 @@ pub found_by : (st : Stand) (k : ℕ) (w : Whole) (s : Setting) (feet : List Tou
     → is_in_ram (λ n. is_there (w.memory n)) (hart_of k w).pc ≡ true
     → IsStandOf st (turn_at s feet k w) [] st.pc → (is_in_ram (λ n. is_there (w.memory n)) st.pc ≡ true → IsFetched (turn_at s feet k w) [] st.pc)
     → ((access : CsrAccess) → fixed_value (fixed_in (hart_of k w) w.memory) access < 2 ^ 32) → AreWords (known_at k w)
-    → are_posable st (mandatory_of ws) ≡ true → BarSatp (turn_at s feet k w) (mandatory_of ws) → IsTurnLeafAnswer (turn_at s feet k w) (hart_of k w).pc (mandatory_of ws) (biases_of ws) draws nodes answer
+    → BarSatp (turn_at s feet k w) (mandatory_of ws) → IsTurnLeafAnswer (turn_at s feet k w) (hart_of k w).pc (mandatory_of ws) (biases_of ws) draws nodes answer
     → answer.solved ≡ answers.Found x → IsFound k w (values_in x)
-found_by st k w s feet ws draws nodes answer x law plain still vectors footprint there stands fetched fixed words posable bars (atoms, judged, is) found =
+found_by st k w s feet ws draws nodes answer x law plain still vectors footprint there stands fetched fixed words bars (atoms, judged, is) found =
     let turn : Turn = turn_at s feet k w in
     let leaf : List Atom = mandatory_of ws in
     let m = judged_more turn (hart_of k w).pc draws nodes 0 (biases_of ws) (record { atoms = leaf; dropped = [] }) (record { atoms = atoms; dropped = answer.dropped }) (plain_biases ws plain) judged in
     let one : IsTurnAnswer turn st.pc atoms draws nodes answer.solved = subst (λ (n : ℕ). IsTurnAnswer turn n atoms draws nodes answer.solved) stands.pc is in
     let two : IsTurnAnswer turn st.pc (leaf ++ m.more) draws nodes (answers.Found x) =
     subst (λ (l : List Atom). IsTurnAnswer turn st.pc l draws nodes (answers.Found x)) m.is (subst (λ (o : Solved). IsTurnAnswer turn st.pc atoms draws nodes o) found one) in
-    law st k w s feet leaf m.more draws nodes x vectors footprint (data_untranslated k w s feet still) stands posable bars
+    law st k w s feet leaf m.more draws nodes x vectors footprint (data_untranslated k w s feet still) stands bars
     (posed_at st k w s feet (leaf ++ m.more) there stands fetched fixed words (both_plain leaf m.more (each_plain leaf (plain_mandatory ws plain)) m.plain)) two

@@ -1,6 +1,5 @@
 -- The answer of a leaf, and the test behind its step.
 use Rattle.std.specs.Prelude.{◌≡◌, ◌%◌, ◌<◌, ◌++◌, ℕ, false, List, [], ◌∷◌, Some, length}
-use Rattle.rv_isa.specs.Table.{row_of}
 use Rattle.rv_script.specs.declared.place.Place.{Place}
 use Rattle.rv_script.specs.Folds.{Answer.Does, Answer.Missing as Lacks, Entry, Known, by_known}
 use Rattle.rv_script.specs.Logs.{answer_told, enlarged}
@@ -17,9 +16,9 @@ use Rattle.tpl_admit.specs.Races.{footprints_of}
 use Rattle.part_machine.specs.Whole.{Whole, fixed_in, hart_of, next_of, records_of, stepped}
 use Rattle.part_state.specs.Meaning.{IsTest, place_given}
 use Rattle.part_state.specs.State.{State, Test, tests}
-use Rattle.leaf_link.specs.Values.{Values, has_address, new_places}
+use Rattle.leaf_link.specs.Values.{Values, new_places}
 use Rattle.leaf_link.specs.Candidates.{IsCandidate, accesses_in}
-use Rattle.leaf_link.specs.Placing.{IsInstruction, KeepsSatp, place_value, writes_satp}
+use Rattle.leaf_link.specs.Placing.{IsInstruction, KeepsSatp, place_value, accesses_satp}
 use Rattle.leaf_link.specs.Problems.{key_of}
 use Rattle.leaf_link.specs.Ways.{IsFetched}
 use Rattle.turn_laws.specs.Ahead.{AreVectors}
@@ -30,7 +29,7 @@ use Rattle.turn_laws.specs.Played.{IsPlayed}
 abbrev pub new_at : ℕ → Whole → Values → Known
 new_at k w x = new_places (fixed_in (hart_of k w) w.memory) (known_at k w) x
 
--- values are those of a candidate for the next step of a hart, which is fetched at its pc; no data access is translated, and the instruction is no load or store and does not write satp
+-- values are those of a candidate for the next step of a hart, which is fetched at its pc; no data access is translated, and the instruction does not access satp
 pub record IsFound (k : ℕ) (w : Whole) (x : Values) : Type 0 where
   pub setting : Setting
   pub feet : List Touch
@@ -44,8 +43,7 @@ pub record IsFound (k : ℕ) (w : Whole) (x : Values) : Type 0 where
   pub plain : is_translated (data_view (turn_at setting feet k w).fixed) ≡ false
   pub candidate : IsCandidate (turn_at setting feet k w) leaf (new_at k w x)
   pub values : (s : Slot) → x s ≡ key_of (turn_at setting feet k w) leaf (new_at k w x) candidate s
-  pub keeps : writes_satp candidate.instr ≡ false
-  pub inner : has_address (row_of candidate.instr.op) ≡ false
+  pub keeps : accesses_satp candidate.instr ≡ false
 
 -- values are those of a step that a hart can make: it is played on what they start, each new place has its value among them, and the step writes no satp
 pub record IsPlayable (k : ℕ) (w : Whole) (x : Values) : Type 0 where

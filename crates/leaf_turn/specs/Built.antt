@@ -1,6 +1,6 @@
--- Leaves whose atoms bar each operation that isn't posed, and each instruction that could write satp.
+-- Leaves whose atoms bar what this build doesn't take: accesses to satp, and loads and stores but of the first hart.
 use Rattle.std.specs.Prelude.{◌≡◌, ℕ, Bool, true, not, ◌&&◌, ◌||◌, if◌then◌else◌, List, [], ◌∷◌}
-use Rattle.std.specs.List.{list_all}
+use Rattle.std.specs.List.{list_all, list_any}
 use Rattle.dom_set.specs.Elements.{is_in}
 use Rattle.rv_isa.specs.declared.operation.Op.{Op}
 use Rattle.rv_isa.specs.declared.operation.TheConstants.{OPS}
@@ -16,7 +16,7 @@ use Rattle.leaf_link.specs.Turns.{Turn}
 use Rattle.leaf_link.specs.Values.{has_csr_operand}
 use Rattle.leaf_stand.specs.declared.stand.Stand.{Stand}
 use Rattle.leaf_stand.specs.Kinds.{kind_of}
-use Rattle.leaf_stand.specs.Posed.{are_posable, is_other}
+use Rattle.leaf_stand.specs.Posed.{are_posable, has_bytes, is_data}
 use Rattle.leaf_turn.specs.Finding.{BarSatp}
 use Rattle.leaf_turn.specs.Wishes.{mandatory_of}
 
@@ -40,18 +40,29 @@ all_let (w ∷ ws) u n = (w.prefer || lets w.atom u n) && all_let ws u n
 abbrev pub may_be_satp : List Wish → Op → Bool
 may_be_satp ws op = has_csr_operand (row_of op) && all_let ws vars.Csr 0x180
 
--- the operation is posed and can't write satp, or it is barred
-abbrev pub is_built : List Wish → Op → Bool
-is_built ws op = (not (is_other (kind_of op)) && not (may_be_satp ws op)) || not (all_let ws vars.Op (op_number op))
+-- the operation is a load or store, and let through
+abbrev pub may_be_data : List Wish → Op → Bool
+may_be_data ws op = is_data (kind_of op) && all_let ws vars.Op (op_number op)
 
--- each operation that a leaf lets through is posed, and can't write satp
-abbrev pub are_built : List Wish → Bool
-are_built ws = list_all (is_built ws) OPS
+abbrev pub lets_data : List Wish → Bool
+lets_data ws = list_any (may_be_data ws) OPS
 
--- then what it asks for can be posed wherever a hart stands
+-- the operation is no load or store unless the hart is the first, and can't access satp, or it is barred
+abbrev pub is_built : Bool → List Wish → Op → Bool
+is_built alone ws op = ((alone || not (is_data (kind_of op))) && not (may_be_satp ws op)) || not (all_let ws vars.Op (op_number op))
+
+-- so it is with each operation that a leaf lets through
+abbrev pub are_built : Bool → List Wish → Bool
+are_built alone ws = list_all (is_built alone ws) OPS
+
+-- then what it asks for can be posed wherever a hart stands, where the bytes of memory are told if a load or store is let through
 abbrev pub BuiltLeavesArePosable : Type 0
-BuiltLeavesArePosable = (ws : List Wish) → are_built ws ≡ true → (st : Stand) → are_posable st (mandatory_of ws) ≡ true
+BuiltLeavesArePosable = (ws : List Wish) (st : Stand) → (lets_data ws ≡ true → has_bytes st ≡ true) → are_posable st (mandatory_of ws) ≡ true
 
--- and they bar writes of satp
+-- which is so in the first hart alone
+abbrev pub DataLeavesAreAlone : Type 0
+DataLeavesAreAlone = (alone : Bool) (ws : List Wish) → are_built alone ws ≡ true → lets_data ws ≡ true → alone ≡ true
+
+-- and they bar accesses to satp
 abbrev pub BuiltLeavesBarSatp : Type 0
-BuiltLeavesBarSatp = (ws : List Wish) → are_built ws ≡ true → (t : Turn) → BarSatp t (mandatory_of ws)
+BuiltLeavesBarSatp = (alone : Bool) (ws : List Wish) → are_built alone ws ≡ true → (t : Turn) → BarSatp t (mandatory_of ws)

@@ -21,22 +21,21 @@ use Rattle.leaf_link.specs.KindLaws.{IsPosed}
 use Rattle.leaf_link.specs.Turns.{Turn}
 use Rattle.leaf_link.specs.Values.{Values, has_csr_operand}
 use Rattle.leaf_stand.specs.declared.stand.Stand.{Stand}
-use Rattle.leaf_stand.specs.Posed.{are_posable}
 use Rattle.leaf_stand.specs.Stands.{IsStandOf}
 use Rattle.turn_laws.specs.Ahead.{AreVectors}
 use Rattle.turn_laws.specs.Given.{Setting, turn_at}
 use Rattle.leaf_turn.specs.Answers.{IsFound, IsPlayable}
 
--- atoms bar writes of satp: of each CSR instruction they bar the operation, or that its CSR is satp
+-- atoms bar accesses to satp: of each CSR instruction they bar the operation, or that its CSR is satp
 abbrev pub BarSatp : Turn → List Atom → Type 0
 BarSatp t leaf = (op : Op) → has_csr_operand (row_of op) ≡ true → all_tests t leaf vars.Op (op_number op) ≡ true → all_tests t leaf vars.Csr 0x180 ≡ false
 
--- what is found for a leaf's atoms and the biases that are kept, where the atoms bar each operation that isn't posed, and writes of satp
+-- what is found for a leaf's atoms and the biases that are kept, where the atoms bar accesses to satp
 abbrev pub AnswersAreFound : Type 0
 AnswersAreFound =
     (st : Stand) (k : ℕ) (w : Whole) (s : Setting) (feet : List Touch) (leaf kept : List Atom) (draws : List ℕ) (nodes : ℕ) (x : Assignment)
     → AreVectors s.vectors → IsFootprint feet (footprints_of (λ j. records_of j w)) → is_translated (data_view (turn_at s feet k w).fixed) ≡ false
-    → IsStandOf st (turn_at s feet k w) [] st.pc → are_posable st leaf ≡ true → BarSatp (turn_at s feet k w) leaf → IsPosed (turn_at s feet k w) [] st.pc (leaf ++ kept)
+    → IsStandOf st (turn_at s feet k w) [] st.pc → BarSatp (turn_at s feet k w) leaf → IsPosed (turn_at s feet k w) [] st.pc (leaf ++ kept)
     → IsTurnAnswer (turn_at s feet k w) st.pc (leaf ++ kept) draws nodes (answers.Found x) → IsFound k w (values_in x)
 
 -- what is found is a step that the hart can make

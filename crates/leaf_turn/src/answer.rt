@@ -1,5 +1,5 @@
 // The answer of a leaf.
-ghost use Rattle.std.specs.Prelude.{◌≡◌, ◌<◌, ◌^◌, true, false, ℕ, List, length, map, All, IfOk};
+ghost use Rattle.std.specs.Prelude.{nat_eq, ◌≡◌, ◌<◌, ◌^◌, true, false, ℕ, List, length, map, All, IfOk};
 ghost use Rattle.std.specs.List.{AllByRecursion};
 ghost use Rattle.rv_mem.specs.Seen.{is_there};
 ghost use Rattle.foot_map.specs.declared.touch.Touch.{Touch as ATouch};
@@ -10,6 +10,7 @@ ghost use Rattle.part_machine.specs.Whole.{hart_of, records_of};
 ghost use Rattle.part_state.specs.State.{here};
 ghost use Rattle.turn_laws.specs.Given.{Setting, turn_at};
 ghost use Rattle.leaf_turn.specs.Grounds.{IsSettingOf, IsUntranslated};
+ghost use Rattle.data_bytes.specs.Frames.{AreFrames};
 ghost use Rattle.leaf_turn.specs.Built.{are_built};
 ghost use Rattle.leaf_turn.specs.Wishes.{biases_of, mandatory_of};
 ghost use Rattle.fd_prob.specs.declared.problem.Assignment.{Assignment as AnAssignment};
@@ -36,6 +37,7 @@ use crate::OutOfMemory;
 use crate::built::built_leaves_are_posable;
 use crate::known::known_is_words;
 use crate::laws::{answers_are_found, rows_are_there};
+use crate::memory::bytes_for;
 use crate::stand::{names_of, sources_of, stand_of};
 use crate::wishes::{biases_of, mandatory_of};
 use fd_prob::Extra;
@@ -86,8 +88,8 @@ pub fn answer_of(
 }
 
 /// The answer of a `do` leaf where a hart of a test stands, in RAM and without translation, with the leaf's biases. The
-/// leaf's atoms bar each operation that is not posed, and writes of satp; the mandatory ones say what an untouched source
-/// may have. The first two draws are for the entries of its fetch, the
+/// leaf's atoms bar accesses to satp, and loads and stores but of the first hart; the mandatory ones say what an untouched
+/// source may have. The first two draws are for the entries of its fetch, the
 /// others for the variables in their order. Dropped biases are told by their positions among the leaf's biases, from 0.
 pub fn leaf_answer(
     alloc: Global,
@@ -104,7 +106,8 @@ pub fn leaf_answer(
     requires untranslated { IsUntranslated hart (here part.now) }
     requires there { is_in_ram (λ n. is_there ((here part.now).memory n)) (hart_of hart (here part.now)).pc ≡ true }
     requires plain { AllByRecursion IsPlain (atoms_of wishes.now) }
-    requires built { are_built wishes.now ≡ true }
+    requires built { are_built (nat_eq hart 0) wishes.now ≡ true }
+    requires frames { AreFrames t.now.pool }
     requires vectors { AreVectors t.now.vectors }
     ensures answer { IfOk result (λ answer. (s : Setting) (feet : List ATouch) → IsSettingOf t.now s → HasSources (turn_at s feet hart (here part.now)) (mandatory_of wishes.now) → IsFootprint feet (footprints_of (λ k. records_of k (here part.now))) → IsTurnLeafAnswer (turn_at s feet hart (here part.now)) (hart_of hart (here part.now)).pc (mandatory_of wishes.now) (biases_of wishes.now) draws.now nodes answer) }
     ensures found { IfOk result (λ answer. (x : AnAssignment) → answer.solved ≡ Found x → IsFound hart (here part.now) (values_in x)) }
@@ -117,6 +120,7 @@ pub fn leaf_answer(
     let biases = biases_of(alloc, wishes)?;
     let names = names_of(alloc, part, t)?;
     let sources = sources_of(alloc, part, hart, t, &names, &atoms)?;
-    let stand = stand_of(part, hart, t, &names, &sources);
+    let bytes = bytes_for(alloc, part, hart, t, wishes)?;
+    let stand = stand_of(part, hart, t, &names, &sources, bytes);
     answer_of(alloc, &stand, &atoms, &biases, draws, nodes)
 }

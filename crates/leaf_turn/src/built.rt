@@ -1,42 +1,14 @@
 // Which leaves are built.
 ghost use Rattle.std.specs.Prelude.{◌≡◌};
-ghost use Rattle.std.specs.List.{list_all};
-ghost use Rattle.tpl_ast.specs.Leaves.{same_var, var_number};
-ghost use Rattle.leaf_turn.specs.Built.{BuiltLeavesArePosable, BuiltLeavesBarSatp, all_let, are_built, is_built, lets, may_be_satp};
+ghost use Rattle.std.specs.List.{list_all, list_any};
+ghost use Rattle.leaf_turn.specs.Built.{BuiltLeavesArePosable, BuiltLeavesBarSatp, DataLeavesAreAlone, all_let, are_built, is_built, lets, lets_data, may_be_data, may_be_satp};
 
-use leaf_pose::is_posed;
+use leaf_pose::{is_data, same_var};
 use rv_isa::{OPS, Op};
 use tpl_ast::{Atom, Var, Wish};
 
 /// The address of satp (Privileged, 2.2).
 const SATP: u32 = 0x180;
-
-/// The place of a variable in their order.
-fn var_number(var: Var) -> u8
-    ensures { result ≡ var_number var }
-{
-    match var {
-        Var::Op => 0,
-        Var::Rs1 => 1,
-        Var::Rs2 => 2,
-        Var::Rd => 3,
-        Var::Imm => 4,
-        Var::Csr => 5,
-        Var::Ea => 6,
-        Var::A => 7,
-        Var::B => 8,
-        Var::Pa => 9,
-        Var::Target => 10,
-        Var::Outcome => 11,
-    }
-}
-
-/// Whether two variables are one.
-fn same_var(var: Var, other: Var) -> bool
-    ensures { result ≡ same_var var other }
-{
-    var_number(var) == var_number(other)
-}
 
 /// Whether an atom lets a variable have a value. Only its sets are looked at.
 fn lets(atom: &Atom, var: Var, value: u32) -> bool
@@ -68,35 +40,66 @@ fn may_be_satp(wishes: &[Wish], op: Op) -> bool
     op.has_csr() && all_let(wishes, Var::Csr, SATP)
 }
 
-fn is_built(wishes: &[Wish], op: Op) -> bool
-    ensures { result ≡ is_built wishes.now op }
+/// Whether an operation is a load or store, and the atoms that have to hold let it through.
+fn may_be_data(wishes: &[Wish], op: Op) -> bool
+    ensures { result ≡ may_be_data wishes.now op }
 {
-    (is_posed(op) && !may_be_satp(wishes, op)) || !all_let(wishes, Var::Op, u32::from(op.number()))
+    is_data(op) && all_let(wishes, Var::Op, u32::from(op.number()))
+}
+
+/// Whether the atoms that have to hold let one of the operations through as a load or store.
+fn some_is_data(wishes: &[Wish], ops: &[Op]) -> bool
+    ensures { result ≡ list_any (may_be_data wishes.now) ops.now }
+{
+    for op in ops {
+        if may_be_data(wishes, *op) {
+            return true;
+        }
+    }
+    false
+}
+
+/// Whether the atoms of a leaf that have to hold let some load or store through.
+pub fn lets_data(wishes: &[Wish]) -> bool
+    ensures { result ≡ lets_data wishes.now }
+{
+    some_is_data(wishes, &OPS)
+}
+
+/// Whether an operation is barred, or can't access satp and is a load or store only where the hart is the first, `alone`.
+fn is_built(alone: bool, wishes: &[Wish], op: Op) -> bool
+    ensures { result ≡ is_built alone wishes.now op }
+{
+    ((alone || !is_data(op)) && !may_be_satp(wishes, op))
+        || !all_let(wishes, Var::Op, u32::from(op.number()))
 }
 
 /// Whether each of the operations is built.
-fn each_is_built(wishes: &[Wish], ops: &[Op]) -> bool
-    ensures { result ≡ list_all (is_built wishes.now) ops.now }
+fn each_is_built(alone: bool, wishes: &[Wish], ops: &[Op]) -> bool
+    ensures { result ≡ list_all (is_built alone wishes.now) ops.now }
 {
     for op in ops {
-        if !is_built(wishes, *op) {
+        if !is_built(alone, wishes, *op) {
             return false;
         }
     }
     true
 }
 
-/// Whether the atoms of a leaf bar each operation that is not posed, and of each CSR instruction either the operation or
-/// that its CSR is satp. So no step of such a leaf writes satp, and where no address is translated none is afterwards.
-pub fn are_built(wishes: &[Wish]) -> bool
-    ensures { result ≡ are_built wishes.now }
+/// Whether the atoms of a leaf bar loads and stores, unless the hart is the first and so alone, and of each CSR instruction
+/// either the operation or that its CSR is satp. So no step of such a leaf writes satp, and where no address is translated
+/// none is afterwards.
+pub fn are_built(alone: bool, wishes: &[Wish]) -> bool
+    ensures { result ≡ are_built alone wishes.now }
 {
-    each_is_built(wishes, &OPS)
+    each_is_built(alone, wishes, &OPS)
 }
 
-/// Does nothing. Its contract says that the atoms of a leaf that is built can be posed wherever a hart stands, and bar
-/// writes of satp.
+/// Does nothing. Its contract says that the atoms of a leaf that is built can be posed wherever a hart stands, where it is
+/// told what may be done with the bytes of memory if they let loads or stores through, which they do only in the first
+/// hart; and that they bar accesses to satp.
 pub fn built_leaves_are_posable()
     ensures posable { BuiltLeavesArePosable }
+    ensures alone { DataLeavesAreAlone }
     ensures satp { BuiltLeavesBarSatp }
 {}

@@ -25,6 +25,12 @@ impl From<dom_set::OutOfMemory> for OutOfMemory {
     }
 }
 
+impl From<data_bytes::OutOfMemory> for OutOfMemory {
+    fn from(_: data_bytes::OutOfMemory) -> Self {
+        OutOfMemory
+    }
+}
+
 impl From<part_state::OutOfMemory> for OutOfMemory {
     fn from(_: part_state::OutOfMemory) -> Self {
         OutOfMemory

@@ -56,7 +56,7 @@ pub fn fault_answer(
     let names = names_of(alloc, part, t)?;
     // A fetch asks for no source, and no page table entry is started where no address is translated.
     let none = Set::new(alloc);
-    let stand = stand_of(part, hart, t, &names, &none);
+    let stand = stand_of(part, hart, t, &names, &none, None);
     let listed = causes.has(1);
     let problem = fault_problem(
         alloc,

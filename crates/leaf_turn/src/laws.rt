@@ -1,15 +1,14 @@
 // Laws of turns without translation.
 ghost use Rattle.leaf_turn.specs.Answers.{TakingsAreOne};
 ghost use Rattle.leaf_turn.specs.Finding.{AnswersAreFound, FaultsArePlayable, FoundArePlayable};
-ghost use Rattle.leaf_turn.specs.Untranslated.{FetchRowsAreThere, LeafAnswersWithoutRows, RowsAreThere};
+ghost use Rattle.leaf_turn.specs.Untranslated.{FetchRowsAreThere, LeafAnswersWithoutRows};
 
 use leaf_link::{biases_are_kept, candidates_are_in_domains, values_are_by_places};
 use turn_laws::{played_steps_are_next, steps_are_played};
 
-/// Does nothing. Its contract says that where no address is translated there are rows for data accesses and for the
-/// fetch, so that a leaf's answer is the answer of its turn, whatever rows are there.
+/// Does nothing. Its contract says that where no address is translated there are rows for the fetch, and that a leaf's answer
+/// over those of data accesses is the answer of its turn.
 pub fn rows_are_there()
-    ensures rows { RowsAreThere }
     ensures fetches { FetchRowsAreThere }
     ensures answers { LeafAnswersWithoutRows }
 {
@@ -17,7 +16,7 @@ pub fn rows_are_there()
 }
 
 /// Does nothing. Its contract says that what is found for a leaf, with the biases that are kept, is the values of a
-/// candidate that can be taken, where the leaf's atoms bar each operation that is not posed, and writes of satp.
+/// candidate that can be taken, where the leaf's atoms bar accesses to satp.
 pub fn answers_are_found()
     ensures { AnswersAreFound }
 {

@@ -1,6 +1,9 @@
 //! A leaf's turn on a test in the making: what is known where its hart stands, the answer of the leaf, and the step of
-//! an answer, with the places that it starts. Addresses are not translated here. CSR instructions are taken where the
-//! leaf's atoms bar that their CSR is satp, so no step that is taken writes it.
+//! an answer, with the places that it starts. Addresses are not translated here. Leaves are taken whose atoms bar accesses
+//! to satp, so no step that is taken writes it, and in harts behind the first loads and stores. For loads and stores of the
+//! first hart it tells what may be done with the bytes of memory. It stands on `leaf_pose`, `data_bytes`, `turn_laws`,
+//! `part_state` and `fd_solve`. It promises that an answer is that of the leaf's turn over candidates, and that the step is
+//! that of the answer.
 #![tactic(auto)]
 
 mod answer;
@@ -9,6 +12,7 @@ mod error;
 mod fault;
 mod known;
 mod laws;
+mod memory;
 mod stand;
 mod taking;
 mod wishes;

@@ -1,12 +1,13 @@
 // What is known where a hart of a test stands.
-ghost use Rattle.std.specs.Prelude.{◌≡◌, ◌<◌, ◌/◌, ◌%◌, ◌^◌, ◌&&◌, ◌||◌, [], true, ℕ, List, length, IfOk};
+ghost use Rattle.std.specs.Prelude.{◌≡◌, ◌<◌, ◌/◌, ◌%◌, ◌^◌, ◌&&◌, ◌||◌, [], true, ℕ, List, length, IfOk, IfSome};
 ghost use Rattle.foot_map.specs.declared.touch.Touch.{Touch as ATouch};
 ghost use Rattle.foot_map.specs.Races.{IsFootprint};
 ghost use Rattle.rv_mem.specs.Seen.{is_there, known_word};
 ghost use Rattle.sv_walk.specs.Translation.{is_in_ram};
 ghost use Rattle.leaf_link.specs.Ways.{IsFetched};
 ghost use Rattle.tpl_admit.specs.Races.{footprints_of};
-ghost use Rattle.part_machine.specs.Whole.{records_of};
+ghost use Rattle.part_machine.specs.Whole.{hart_of, records_of};
+ghost use Rattle.data_goals.specs.Rows.{HasBytes};
 ghost use Rattle.part_state.specs.State.{here};
 ghost use Rattle.leaf_link.specs.Turns.{in_frames};
 ghost use Rattle.dom_set.specs.Elements.{is_in};
@@ -16,6 +17,7 @@ ghost use Rattle.turn_laws.specs.Given.{Setting, turn_at};
 ghost use Rattle.leaf_turn.specs.Grounds.{AreNamesOf, HasSourceSet, IsSettingOf, IsUntranslated, is_free_fetch};
 
 use crate::OutOfMemory;
+use data_bytes::DataBytes;
 use dom_set::Set;
 use foot_map::FootMap;
 use leaf_pose::{Name, Stand};
@@ -87,19 +89,22 @@ fn word_at(part: &Part, addr: u32) -> Option<u32>
     }
 }
 
-/// What is known where a hart stands whose addresses are not translated, and the words that an untouched source may be
-/// started with.
+/// What is known where a hart stands whose addresses are not translated, the words that an untouched source may be started
+/// with, and what loads and stores of the first hart may do with the bytes of memory.
 pub fn stand_of<'t>(
     part: &Part,
     hart: u8,
     t: &'t Template,
     names: &'t [Name<'t>],
     sources: &'t Set,
+    bytes: Option<DataBytes>,
 ) -> Stand<'t>
     requires hart { hart < length part.now.now.harts }
     requires untranslated { IsUntranslated hart (here part.now) }
     requires names { AreNamesOf t.now (here part.now) names.now }
+    requires bytes { IfSome bytes (λ b. (hart ≡ 0) × ((u : Setting) (ts : List ATouch) → u.pool ≡ t.now.pool → IsFootprint ts (footprints_of (λ k. records_of k (here part.now))) → HasBytes (turn_at u ts hart (here part.now)) (hart_of hart (here part.now)).pc b)) }
     ensures stand { (s : Setting) (feet : List ATouch) → IsSettingOf t.now s → HasSourceSet s sources.now → IsFootprint feet (footprints_of (λ k. records_of k (here part.now))) → IsStandOf result (turn_at s feet hart (here part.now)) [] result.pc }
+    ensures told { result.bytes ≡ bytes }
     // there are such footprints
     ensures feet { (feet : List ATouch) × IsFootprint feet (footprints_of (λ k. records_of k (here part.now))) }
     // where the pc is in RAM, its fetch is settled
@@ -116,6 +121,7 @@ pub fn stand_of<'t>(
         word,
         fetches: may_fetch(part.feet(), hart, state.pc, word, t.pool.as_slice()),
         pairs: 1,
+        bytes,
         sources,
         vectors: &t.vectors,
         names,
@@ -138,6 +144,6 @@ pub fn sources_of(
 {
     // What passes atoms does not rest on the sources.
     let none = Set::new(alloc);
-    let stand = stand_of(part, hart, t, names, &none);
+    let stand = stand_of(part, hart, t, names, &none, None);
     Ok(stand.passing(alloc, Set::all(alloc)?, atoms, Var::A)?)
 }

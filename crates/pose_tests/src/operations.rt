@@ -1,6 +1,7 @@
 // Leaves that any operation of those that are built may meet.
 
-use crate::reading::one;
+use crate::reading::{one, two_frames};
+use data_bytes::DataBytes;
 use dom_set::Set;
 use fd_solve::{Solved, solve};
 use leaf_pose::{Stand, are_between, fault_problem, fetch_problem, problem_of};
@@ -11,8 +12,8 @@ use std::process::Abort;
 use std::test::Fail;
 use tpl_ast::{Atom, Var};
 
-/// A hart in M of which nothing but x0 is known.
-fn stand_with(vectors: &Set) -> Stand<'_> {
+/// A hart in M of which nothing but x0 is known, and the bytes of memory where they are told.
+fn stand_with(vectors: &Set, bytes: Option<DataBytes>) -> Stand<'_> {
     let mut registers = [None; 32];
     registers[0] = Some(0);
     Stand {
@@ -23,13 +24,14 @@ fn stand_with(vectors: &Set) -> Stand<'_> {
         word: None,
         fetches: true,
         pairs: 1,
+        bytes,
         sources: vectors,
         vectors,
         names: &[],
     }
 }
 
-/// Whether some instruction of an operation can be started. Operations that are not built can't be posed.
+/// Whether some instruction of an operation can be started. Without the bytes of memory, loads and stores can't be posed.
 fn fits(rt: &impl Abort, alloc: Global, stand: &Stand, op: Op) -> Result<bool, Fail> {
     let mut leaf = Vec::new(alloc);
     leaf.push(Atom::In(Var::Op, one(alloc, u32::from(op as u8))?))?;
@@ -41,19 +43,26 @@ fn fits(rt: &impl Abort, alloc: Global, stand: &Stand, op: Op) -> Result<bool, F
     Ok(matches!(solve(alloc, &posed.problem, u64::MAX)?, Solved::Found(_)))
 }
 
-#[test]
-fn operations_that_fit(rt: HostRuntime) -> Result<(), Fail> {
-    let alloc = rt.alloc();
+/// How many operations can be started.
+fn how_many_fit(rt: &impl Abort, alloc: Global, bytes: Option<DataBytes>) -> Result<u64, Fail> {
     let vectors = one(alloc, 0x8000_0200)?;
-    let stand = stand_with(&vectors);
+    let stand = stand_with(&vectors, bytes);
     let mut count = 0u64;
     for op in OPS {
-        if fits(&rt, alloc, &stand, op)? {
+        if fits(rt, alloc, &stand, op)? {
             count = count.wrapping_add(1);
         }
     }
+    Ok(count)
+}
+
+#[test]
+fn operations_that_fit(rt: HostRuntime) -> Result<(), Fail> {
+    let alloc = rt.alloc();
     // all but 8 loads and stores
-    assert_eq!(&rt; count, 50);
+    assert_eq!(&rt; how_many_fit(&rt, alloc, None)?, 50);
+    let bytes = two_frames(alloc)?;
+    assert_eq!(&rt; how_many_fit(&rt, alloc, Some(bytes))?, 58);
     Ok(())
 }
 
@@ -61,7 +70,7 @@ fn operations_that_fit(rt: HostRuntime) -> Result<(), Fail> {
 fn cases_of_a_bare_leaf(rt: HostRuntime) -> Result<(), Fail> {
     let alloc = rt.alloc();
     let vectors = one(alloc, 0x8000_0200)?;
-    let stand = stand_with(&vectors);
+    let stand = stand_with(&vectors, None);
     let mut leaf = Vec::new(alloc);
     for (from, to) in [(10, 17), (48, 53)] {
         let others = Set::from_ranges(alloc, &[(from, to)], 1)?;
@@ -73,6 +82,22 @@ fn cases_of_a_bare_leaf(rt: HostRuntime) -> Result<(), Fail> {
     // a first case for each of 44 operations, a case for each of 36 that end in one way, two for each of the jumps and
     // three for each of the branches
     assert_eq!(&rt; posed.problem.cases.len(), 44 + 36 + 2 * 2 + 3 * 6);
+    Ok(())
+}
+
+#[test]
+fn cases_of_loads_and_stores(rt: HostRuntime) -> Result<(), Fail> {
+    let alloc = rt.alloc();
+    let vectors = one(alloc, 0x8000_0200)?;
+    let bytes = two_frames(alloc)?;
+    let stand = stand_with(&vectors, Some(bytes));
+    let mut leaf = Vec::new(alloc);
+    leaf.push(Atom::In(Var::Op, Set::from_ranges(alloc, &[(10, 17)], 1)?))?;
+    assert!(&rt; are_between(&leaf));
+    assert!(&rt; stand.are_posable(&leaf));
+    let posed = problem_of(alloc, &stand, &leaf, &[0; 16])?;
+    // of each of 8 operations a first case, and one for each of its goals
+    assert_eq!(&rt; posed.problem.cases.len(), 8 + 8 * 4);
     Ok(())
 }
 
@@ -89,7 +114,7 @@ fn fetches_without_translation(rt: HostRuntime) -> Result<(), Fail> {
     let alloc = rt.alloc();
     let none = Set::new(alloc);
     let vectors = one(alloc, 0x8000_0200)?;
-    let stand = stand_with(&vectors);
+    let stand = stand_with(&vectors, None);
     let fetch = fetch_problem(alloc, &stand, &none, &none, &[0; 16])?;
     assert!(&rt; starts_vector_alone(solve(alloc, &fetch, 1)?, 0));
     let fault = fault_problem(

@@ -1,5 +1,6 @@
 // What stands in the rows of worked leaves. A row that can't be read ends the test.
 
+use data_bytes::DataBytes;
 use dom_set::{OutOfMemory, Set};
 use leaf_pose::Name;
 use rv_isa::{OPS, name_of};
@@ -19,6 +20,18 @@ pub fn count(rt: &impl Abort, text: &str) -> u64 {
 
 pub fn one(alloc: Global, value: u32) -> Result<Set, OutOfMemory> {
     Set::from_ranges(alloc, &[(value, value)], 1)
+}
+
+/// The bytes of a memory of two frames: 80000000 to 80000fff are known and may not be stored, 80001000 to 80001fff have no
+/// value yet.
+pub fn two_frames(alloc: Global) -> Result<DataBytes, OutOfMemory> {
+    Ok(DataBytes {
+        known: Set::from_ranges(alloc, &[(0x8000_0000, 0x8000_0fff)], 1)?,
+        fresh: Set::from_ranges(alloc, &[(0x8000_1000, 0x8000_1fff)], 1)?,
+        outside: Set::from_ranges(alloc, &[(0, 0x7fff_ffff), (0x8000_2000, u32::MAX)], 1)?,
+        not_loaded: Set::new(alloc),
+        not_stored: Set::from_ranges(alloc, &[(0x8000_0000, 0x8000_0fff)], 1)?,
+    })
 }
 
 /// The number of the operation of a name.
@@ -42,6 +55,8 @@ fn variable(rt: &impl Abort, name: &str) -> Var {
         "a" => Var::A,
         "b" => Var::B,
         "target" => Var::Target,
+        "ea" => Var::Ea,
+        "pa" => Var::Pa,
         "outcome" => Var::Outcome,
         _ => panic!(rt; "no variable: {}", name),
     }

@@ -1,7 +1,8 @@
 // Worked leaves, posed and solved.
 ghost use Rattle.std.specs.Prelude.{◌≡◌, All, IfOk, length};
 
-use crate::reading::{atoms, count, name_sets, names, number, vectors};
+use crate::reading::{atoms, count, name_sets, names, number, two_frames, vectors};
+use data_bytes::DataBytes;
 use dom_set::Set;
 use fd_prob::{Assignment, Extra, space};
 use fd_solve::{LeafAnswer, Solved, solve_leaf};
@@ -51,6 +52,16 @@ const LEAVES: &str = "\
 80000000 u | vector=80000200 | op=sfence_vma rs1=0 rs2=0 outcome=2 | - | 1 | 1 | 12000073 0 0 80000200 | -
 80000000 m | unfetched | op=addi rd=5 rs1=0 imm=7 outcome=ff | - | 1 | 1 | none | -
 80000000 m | - | op=beq rs1=1 rs2=2 imm=8 a=3 outcome=ff | taken untaken b=3 outcome=0 | 1 | 1 | 00208463 3 3 0 | 1 none 3 none
+80000000 m | memory | op=lw rd=5 rs1=6 imm=0 a=80000100 outcome=ff | - | 1048577 | 1048577 | 00032283 80000100 0 0 | -
+80000000 m | memory | op=lw rd=5 rs1=6 imm=4 ea=80000100 outcome=ff | - | 2 | 2 | 00432283 800000fc 0 0 | -
+80000000 m | memory | op=lw rd=5 rs1=6 imm=0 a=80001ffc outcome=ff | - | 1048577 | 1048577 | 00032283 80001ffc 0 0 | -
+80000000 m | memory | op=lw rd=5 rs1=6 imm=0 a=80000101 outcome=ff | - | 1048577 | 1048577 | none | -
+80000000 m | memory vector=80000200 | op=lw rd=5 rs1=6 imm=0 a=80000101 outcome=4 | - | 1048577 | 1048577 | 00032283 80000101 0 80000200 | -
+80000000 m | memory vector=80000200 | op=lw rd=5 rs1=0 imm=0 outcome=5 | - | 1048577 | 1048577 | 00002283 0 0 80000200 | -
+80000000 m | memory vector=80000200 | op=lw rd=5 rs1=6 imm=0 pa=80002000 | - | 1048577 | 1048577 | none | -
+80000000 m | memory | op=lw rd=5 rs1=6 imm=0 a=80000100 outcome=ff | pa=80000104 ea=80000100 pa=80000100 | 1048577 | 1048577 | 00032283 80000100 0 0 | 0 none
+80000000 m | memory | op=sw rs1=6 rs2=7 imm=0 a=80000100 b=5 outcome=ff | - | 1048577 | 1048577 | none | -
+80000000 m | memory | op=sw rs1=6 rs2=7 imm=0 a=80001000 b=5 outcome=ff | - | 1048577 | 1048577 | 00732023 80001000 5 0 | -
 ";
 
 /// The parts of a row.
@@ -118,10 +129,20 @@ fn csrs(known: &str) -> Csrs {
     csrs
 }
 
+/// The bytes of memory: `memory` for two frames.
+fn bytes_of(alloc: Global, known: &str) -> Result<Option<DataBytes>, Fail> {
+    if !known.contains("memory") {
+        return Ok(None);
+    }
+    let bytes = two_frames(alloc)?;
+    Ok(Some(bytes))
+}
+
 fn stand_of<'t>(
     rt: &impl Abort,
     hart: &str,
     known: &str,
+    bytes: Option<DataBytes>,
     vectors: &'t Set,
     names: &'t [Name],
 ) -> Stand<'t> {
@@ -134,6 +155,7 @@ fn stand_of<'t>(
         word: word_of(rt, known),
         fetches: !known.contains("unfetched"),
         pairs: 1,
+        bytes,
         sources: vectors,
         vectors,
         names,
@@ -225,7 +247,8 @@ fn is_right(rt: &impl Abort, alloc: Global, line: &str) -> Result<bool, Fail> {
     let vectors = vectors(rt, alloc, known)?;
     let sets = name_sets(rt, alloc, known)?;
     let names = names(rt, alloc, known, &sets)?;
-    let stand = stand_of(rt, hart, known, &vectors, &names);
+    let bytes = bytes_of(alloc, known)?;
+    let stand = stand_of(rt, hart, known, bytes, &vectors, &names);
     let answer = answer(rt, alloc, &stand, &mut row)?;
     let right = is_solved(rt, answer.solved, row.part(rt));
     Ok(right && are_dropped(rt, answer.dropped.as_slice(), row.part(rt)))

@@ -27,4 +27,4 @@ is_item_built-are_ways_built-requires t c =
 
 pub is_item_built-returns-in-Choose : goal.is_item_built-returns-in-Choose
 is_item_built-returns-in-Choose t c =
-    c.are_ways_built.ensures ∙ ap are_ways_built c.deref-in-Choose.ensures.value ∙ sym (choose_built c.in-Choose.line c.in-Choose.ways) ∙ ap is_item_built (sym c.in-Choose.is)
+    c.are_ways_built.ensures ∙ ap (are_ways_built c.args.alone) c.deref-in-Choose.ensures.value ∙ sym (choose_built c.args.alone c.in-Choose.line c.in-Choose.ways) ∙ ap (is_item_built c.args.alone) (sym c.in-Choose.is)

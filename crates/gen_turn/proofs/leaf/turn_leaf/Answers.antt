@@ -1,12 +1,17 @@
-use Rattle.std.proofs.Common.{ℕ, Bool, List, refl, sym, ◌∙◌, subst, arith}
+use Rattle.std.proofs.Common.{◌≡◌, ℕ, Bool, true, List, refl, sym, ◌∙◌, subst, arith}
+use Rattle.std.specs.List.{list_all}
+use Rattle.tpl_ast.specs.Leaves.{atoms_of, is_name_below}
 use Rattle.fd_solve.specs.declared.answers.Solved.{Solved}
 use Rattle.leaf_link.specs.Answers.{values_in}
 use Rattle.gen_search.specs.Search.{Turned.Taken, Turned.NoneFits, Turned.Spent}
 use Rattle.part_state.specs.State.{here}
 use Rattle.gen_turn.specs.Drafts.{drafted}
 use Rattle.gen_turn.specs.Turns.{EndsAs, IsLeafTaken}
-use Rattle.gen_turn.proofs.Turning.{ended, out}
+use Rattle.gen_turn.proofs.Turning.{ended, out, spent}
 use Rattle.gen_turn.proofs.leaf.turn_leaf.Goals as goal
+
+pub returns-then-nodes-lt1-clause-turned : goal.returns-then-nodes-lt1-clause-turned
+returns-then-nodes-lt1-clause-turned c = spent c.args.t.now c.args.nodes c.args.hart (here c.args.part.now) c.args.wishes.now c.args.draws.now c.requires.ground.untranslated (omega (arith, c.if-nodes-lt1.true))
 
 pub returns-then-not-is_in_ram-clause-turned : goal.returns-then-not-is_in_ram-clause-turned
 returns-then-not-is_in_ram-clause-turned c =
@@ -29,3 +34,6 @@ returns-clause-turned c =
 
 pub take_leaf-requires-clause-playable : goal.take_leaf-requires-clause-playable
 take_leaf-requires-clause-playable c = c.answers_are_playable.ensures.found c.args.hart (here c.args.part.now) (values_in c.in-Found.x) (c.in_ok-answer.ensures.found c.in-Found.x c.in-Found.is)
+
+pub take_leaf-requires-clause-below : goal.take_leaf-requires-clause-below
+take_leaf-requires-clause-below c = subst (λ (n : ℕ). list_all (is_name_below n) (atoms_of c.args.wishes.now) ≡ true) (sym c.requires.ground.names) c.requires.built.below

@@ -1,7 +1,6 @@
-use Rattle.std.proofs.Common.{◌≡◌, true, false, sym, ◌∙◌, ap, subst}
+use Rattle.std.proofs.Common.{◌≡◌, true, sym, ◌∙◌, ap}
 use Rattle.std.proofs.lemmas.Bool.{and_parts}
 use Rattle.leaf_stand.specs.declared.shape.End.{End}
-use Rattle.leaf_stand.specs.declared.shape.Shape.{Shape}
 use Rattle.leaf_stand.specs.Posed.{is_posed_at}
 use Rattle.leaf_stand.specs.Stands.{shape_at}
 use Rattle.leaf_stand.specs.Ways.{shape_with}

@@ -5,7 +5,7 @@ use Rattle.leaf_pose.proofs.problem.problem_of.Goals as goal
 
 pub returns-clause-problem : goal.returns-clause-problem
 returns-clause-problem c =
-    whole_problem c.args.stand.now c.args.leaf.now c.args.draws.now c.pivots.result (record { cases = c.new.result; shapes = c.new-2.result }) c.push_firsts.new.shaped c.push_operations.new.shaped c.requires.posable c.new.ensures c.pivots.ensures
+    whole_problem (record { there = c.accesses_are_goals.ensures.back; back = c.accesses_are_goals.ensures.there }) c.args.stand.now c.args.leaf.now c.args.draws.now c.pivots.result (record { cases = c.new.result; shapes = c.new-2.result }) c.push_firsts.new.shaped c.push_operations.new.shaped c.requires.posable c.new.ensures c.pivots.ensures
     c.in_ok-push_firsts.ensures c.in_ok-push_operations.ensures
 
 pub returns-clause-shapes : goal.returns-clause-shapes

@@ -6,6 +6,6 @@ use Rattle.leaf_turn.proofs.answer.answer_of.Goals as goal
 pub returns : goal.returns
 returns c = λ t walk pa stands plain posed biases.
     c.rows_are_there.ensures.answers t walk pa c.args.atoms.now _ c.args.draws.now c.in_ok-posed.posed.problem c.in_ok-extras.extras.items c.args.nodes c.in_ok-solve_leaf.field-0 plain posed biases
-    (λ loads stores. c.in_ok-posed.ensures.problem t walk pa loads stores stands)
+    (c.in_ok-posed.ensures.problem t walk pa stands)
     (c.in_ok-extras.ensures.extras c.args.atoms.now c.in_ok-posed.ensures.shapes t walk pa stands posed biases)
     (subst (λ (es : List Extra). IsLeafAnswer c.in_ok-posed.posed.problem es c.args.nodes c.in_ok-solve_leaf.field-0) c.deref.ensures.value c.in_ok-solve_leaf.ensures)

@@ -8,6 +8,10 @@ use Rattle.leaf_stand.specs.Relations.{are_between}
 use Rattle.part_state.specs.State.{here}
 use Rattle.turn_laws.specs.Given.{turn_at}
 use Rattle.leaf_turn.proofs.Plainness.{biases_between, plain_mandatory}
+use Rattle.std.proofs.Common.{Option}
+use Rattle.std.specs.Option.{is_some}
+use Rattle.data_bytes.specs.declared.memory.DataBytes.{DataBytes}
+use Rattle.leaf_stand.specs.Posed.{are_posable}
 use Rattle.leaf_turn.proofs.Wholly.{answered, found_by}
 use Rattle.leaf_turn.proofs.Grounding.{setting_at, setting_is}
 use Rattle.leaf_turn.proofs.answer.leaf_answer.Goals as goal
@@ -19,6 +23,12 @@ answer_of-requires-clause-between c =
 pub answer_of-requires-clause-biases : goal.answer_of-requires-clause-biases
 answer_of-requires-clause-biases c =
     subst (λ (bs : List (Vec Atom Global)). All (λ b. are_between b.items ≡ true) bs) (sym c.deref-5.ensures.value) (biases_between c.leaves_are_between.ensures c.args.wishes.now c.in_ok-biases.biases.items c.requires.plain c.in_ok-biases.ensures)
+
+pub answer_of-requires-clause-posable : goal.answer_of-requires-clause-posable
+answer_of-requires-clause-posable c =
+    subst (λ (l : List Atom). are_posable c.stand_of-stand.result l ≡ true) (sym (c.deref-4.ensures.value ∙ c.in_ok-atoms.ensures))
+    (c.built_leaves_are_posable.ensures.posable c.args.wishes.now c.stand_of-stand.result
+    (λ lets. ap (λ (o : Option DataBytes). is_some o) c.stand_of-stand.ensures.told ∙ c.in_ok-bytes.ensures.told ∙ lets))
 
 pub returns-clause-answer : goal.returns-clause-answer
 returns-clause-answer c = IfOk-weaker c.answer_of.result _ _
@@ -39,8 +49,8 @@ returns-clause-found c = IfOk-weaker c.answer_of.result _ _
     let feet = c.stand_of-stand.ensures.feet in
     let stands = c.stand_of-stand.ensures.stand s feet.0 setting (λ v small. refl) feet.1 in
     found_by c.stand_of-stand.result c.args.hart (here c.args.part.now) s feet.0 c.args.wishes.now c.args.draws.now c.args.nodes answer x c.answers_are_found.ensures c.requires.plain c.requires.untranslated
-    c.requires.vectors feet.1 c.requires.there stands (c.stand_of-stand.ensures.fetched s feet.0) c.known_is_words.ensures.fixed c.known_is_words.ensures.words (c.built_leaves_are_posable.ensures.posable c.args.wishes.now c.requires.built c.stand_of-stand.result)
-    (c.built_leaves_are_posable.ensures.satp c.args.wishes.now c.requires.built (turn_at s feet.0 c.args.hart (here c.args.part.now)))
+    c.requires.vectors feet.1 c.requires.there stands (c.stand_of-stand.ensures.fetched s feet.0) c.known_is_words.ensures.fixed c.known_is_words.ensures.words
+    (c.built_leaves_are_posable.ensures.satp _ c.args.wishes.now c.requires.built (turn_at s feet.0 c.args.hart (here c.args.part.now)))
     (answered c.stand_of-stand.result c.args.hart (here c.args.part.now) s feet.0 c.args.wishes.now c.deref-4.result.now (map (λ b. b.items) c.deref-5.result.now) c.args.draws.now c.args.nodes answer
     (c.deref-4.ensures.value ∙ c.in_ok-atoms.ensures) (ap (λ (bs : List (Vec Atom Global)). map (λ b. b.items) bs) c.deref-5.ensures.value ∙ c.in_ok-biases.ensures)
     c.requires.plain c.requires.untranslated c.requires.there stands (c.stand_of-stand.ensures.fetched s feet.0)

@@ -1,8 +1,5 @@
-use Rattle.leaf_turn.proofs.Untranslated.{answers_without_rows, fetch_rows_are_there, rows_are_there}
+use Rattle.leaf_turn.proofs.Untranslated.{answers_without_rows, fetch_rows_are_there}
 use Rattle.leaf_turn.proofs.laws.rows_are_there.Goals as goal
-
-pub returns-clause-rows : goal.returns-clause-rows
-returns-clause-rows c = rows_are_there
 
 pub returns-clause-fetches : goal.returns-clause-fetches
 returns-clause-fetches c = fetch_rows_are_there

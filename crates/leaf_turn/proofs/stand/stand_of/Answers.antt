@@ -18,6 +18,7 @@ returns-clause-stand c = λ s feet setting sources footprint.
       vectors = refl;
       names = c.requires.names;
       footprint = c.feet.ensures;
+      bytes = c.requires.bytes;
     }) setting sources footprint
 
 pub returns-clause-fetched : goal.returns-clause-fetched

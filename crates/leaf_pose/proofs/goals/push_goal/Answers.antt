@@ -1,0 +1,31 @@
+use Rattle.std.proofs.Common.{◌≡◌, true, sym, ◌∙◌, ap}
+use Rattle.std.proofs.lemmas.Bool.{and_parts}
+use Rattle.leaf_stand.specs.declared.shape.Shape.{Shape}
+use Rattle.leaf_stand.specs.Posed.{is_posed_at}
+use Rattle.leaf_stand.specs.Stands.{shape_at}
+use Rattle.leaf_pose.specs.Goals.{goal_case, goal_shape}
+use Rattle.leaf_pose.proofs.Accessing.{goal_posed, goal_shaped, goal_unposed}
+use Rattle.leaf_pose.proofs.Steps.{allowed_case, nothing_added, one_added}
+use Rattle.leaf_pose.proofs.goals.push_goal.Goals as goal
+
+pub case_of-requires-clause-judged : goal.case_of-requires-clause-judged
+case_of-requires-clause-judged c =
+    let posed : is_posed_at c.args.stand.now c.args.leaf.now (shape_at (goal_shape c.args.op c.args.goal)) ≡ true =
+    ap (λ (sh : Shape). is_posed_at c.args.stand.now c.args.leaf.now (shape_at sh)) (sym c.shape_of-shape.ensures) ∙ sym c.is_posed.ensures ∙ c.if-not-is_posed.false in
+    (and_parts _ _ (and_parts _ _ posed).1).0
+
+pub returns-then-not-is_posed : goal.returns-then-not-is_posed
+returns-then-not-is_posed c =
+    nothing_added c.args.stand.now c.args.leaf.now c.args.shaped.now (goal_case c.args.stand.now c.args.bytes.now c.args.leaf.now c.args.op c.args.goal)
+    (goal_unposed c.args.stand.now c.args.bytes.now c.args.leaf.now c.args.op c.args.goal (ap (λ (sh : Shape). is_posed_at c.args.stand.now c.args.leaf.now (shape_at sh)) (sym c.shape_of-shape.ensures) ∙ sym c.is_posed.ensures ∙ c.if-not-is_posed.true))
+
+pub returns : goal.returns
+returns c =
+    let s = c.args.stand.now in
+    let leaf = c.args.leaf.now in
+    let op = c.args.op in
+    let posed : is_posed_at s leaf (shape_at (goal_shape op c.args.goal)) ≡ true = ap (λ (sh : Shape). is_posed_at s leaf (shape_at sh)) (sym c.shape_of-shape.ensures) ∙ sym c.is_posed.ensures ∙ c.if-not-is_posed.false in
+    one_added s leaf c.args.shaped.now c.push.new.self c.in_ok-case.case c.shape_of-shape.result (goal_case s c.args.bytes.now leaf op c.args.goal) c.in_ok-push.ensures.cases c.in_ok-push.ensures.shapes c.in_ok-case.ensures.shape
+    (goal_shaped s c.args.bytes.now leaf op c.args.goal c.shape_of-shape.result c.in_ok-case.case c.requires.kind c.requires.bytes c.shape_of-shape.ensures posed c.in_ok-case.ensures.fits)
+    (allowed_case s leaf op c.in_ok-case.case c.in_ok-case.ensures.number c.requires.allowed)
+    (goal_posed s c.args.bytes.now leaf op c.args.goal c.in_ok-case.case posed c.in_ok-case.ensures.fits)
