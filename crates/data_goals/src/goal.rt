@@ -21,9 +21,6 @@ pub enum Goal {
     Fresh,
 }
 
-/// All goals.
-pub const GOALS: [Goal; 4] = [Goal::Misaligned, Goal::Outside, Goal::Known, Goal::Fresh];
-
 impl Goal {
     /// The cause of the trap of a load or store that goes there, and nothing where it retires.
     pub fn cause(self, op: Op) -> Option<Cause>

@@ -9,5 +9,5 @@ mod goal;
 mod laws;
 
 pub use cuts::goal_cut;
-pub use goal::{GOALS, Goal};
+pub use goal::Goal;
 pub use laws::accesses_are_goals;

@@ -67,7 +67,7 @@ abbrev pub StepsKeepSatp : Type 0
 StepsKeepSatp =
     (t : Turn) (walk : List Entry) (pa : ℕ) (leaf : List Atom) (new : Known) → IsFetched t walk pa → (w : IsCandidate t leaf new) → accesses_satp w.instr ≡ false → KeepsSatp w.change.control
 
--- where data accesses are not translated, each new word is the fetched one, or that of the data access
+-- where data accesses are not translated, each new word is the fetched one or one other
 pub record AreTwoWords (new : Known) (pa : ℕ) : Type 0 where
   pub other : ℕ
   pub aligned : other % 4 ≡ 0

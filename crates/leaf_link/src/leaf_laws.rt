@@ -73,7 +73,7 @@ pub fn candidates_are_in_domains()
 
 /// Does nothing. Its contract says that where data accesses are not translated the place alone tells which of a candidate's
 /// values a new place has, and that these values are those of the candidate's instruction; that no step writes satp but
-/// those of CSR instructions with its address; and that each new word is the fetched one or that of the data access.
+/// those of CSR instructions with its address; and that a step starts two words at most, the fetched one and one other.
 pub fn values_are_by_places()
     ensures places { PlacesHaveValues }
     ensures instructions { ValuesAreInstructions }

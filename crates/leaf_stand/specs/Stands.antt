@@ -51,7 +51,7 @@ known_of s (Reg n) = held (slice_get s.registers n)
 known_of s (Csr addr) = csr_held s.csrs (register_at addr)
 known_of s (Word addr) = s.word
 
--- a turn of which just this is known. What a stand leaves out is of no weight for operations without a data access
+-- a turn of which just this is known. Of memory, of races and of the pool a stand tells loads and stores by its bytes; all else that it leaves out is of no weight
 abbrev pub turn_of : Stand → Turn
 turn_of s = record {
   fixed = record { pc = s.pc; privilege = s.privilege; mstatus = s.csrs.mstatus; medeleg = s.csrs.medeleg; satp = s.csrs.satp; number = s.csrs.hart; ram = λ n. true };

@@ -1,4 +1,4 @@
--- Where no address is translated: the rows of all addresses, and the answers of leaves.
+-- Where no address is translated: the row of a fetch, and the answers of leaves.
 use Rattle.std.specs.Prelude.{◌≡◌, ℕ, false, List, [], ◌∷◌}
 use Rattle.rv_script.specs.Folds.{Entry}
 use Rattle.sv_walk.specs.declared.entry.Kind.TheVariants.{Fetch as ForFetch, Load as ForLoad, Store as ForStore}

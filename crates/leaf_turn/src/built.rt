@@ -86,8 +86,8 @@ fn each_is_built(alone: bool, wishes: &[Wish], ops: &[Op]) -> bool
     true
 }
 
-/// Whether the atoms of a leaf bar loads and stores, unless the hart is the first and so alone, and of each CSR instruction
-/// either the operation or that its CSR is satp. So no step of such a leaf writes satp, and where no address is translated
+/// Whether the atoms of a leaf bar loads and stores, unless no hart comes before this one (`alone`), and of each CSR
+/// instruction either the operation or that its CSR is satp. So no step of such a leaf writes satp, and where no address is translated
 /// none is afterwards.
 pub fn are_built(alone: bool, wishes: &[Wish]) -> bool
     ensures { result ≡ are_built alone wishes.now }
