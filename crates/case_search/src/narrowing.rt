@@ -3,6 +3,7 @@ ghost use Rattle.std.specs.Prelude.{IfOk};
 ghost use Rattle.fd_prob.specs.Fitting.{IsCase};
 ghost use Rattle.case_search.specs.Equivalent.{IsEquivalent};
 
+use crate::classes::are_contradictory;
 use crate::stronger::{can_be_stronger, stronger};
 use dom_set::OutOfMemory;
 use fd_narrow::{Domains, Losses};
@@ -89,6 +90,9 @@ pub fn narrow_again(
     requires { IsCase case }
     ensures { IfOk result (IsEquivalent case) }
 {
+    if are_contradictory(case.rels.as_slice()) {
+        return Ok(case);
+    }
     if can_be_stronger(&case) {
         return narrow_case(alloc, &case);
     }

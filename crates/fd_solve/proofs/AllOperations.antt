@@ -1,5 +1,5 @@
 -- Operations, upwards from their pivot and round to it again.
-use Rattle.std.proofs.Common.{◌≡◌, ℕ, zero, suc, ◌+◌, ◌^◌, ◌<◌, Bool, true, false, cond, ◌==◌, List, [], ◌∷◌, length, get_or, MatchOption, find, Option, Some, None, ◌⊎◌, inl, inr, refl, sym, subst, arith}
+use Rattle.std.proofs.Common.{◌≡◌, ℕ, zero, suc, ◌+◌, ◌^◌, ◌<◌, ◌≤◌, Bool, true, false, cond, ◌==◌, List, [], ◌∷◌, length, get_or, MatchOption, find, Option, Some, None, ◌⊎◌, inl, inr, refl, sym, ap, ◌∙◌, subst, arith}
 use Rattle.std.proofs.lemmas.Bool.{cases_lt}
 use Rattle.std.proofs.lemmas.Bool.Decides.{nat_tests}
 use Rattle.fd_prob.specs.declared.problem.Assignment.{Assignment}
@@ -13,7 +13,8 @@ use Rattle.fd_prob.specs.Order.{ComesBefore, pivot_of, rank}
 use Rattle.fd_prob.specs.Relations.{value_of}
 use Rattle.fd_prob.specs.Slots.{slot_number}
 use Rattle.fd_solve.specs.Answers.{IsLeast, NothingFits}
-use Rattle.fd_solve.specs.Operations.{IsFitting, IsLeastFrom, IsMadeOfAny, NoneBetween}
+use Rattle.case_search.specs.Search.{IsLeastOf}
+use Rattle.fd_solve.specs.Operations.{ArePivots, IsFitting, IsLeastFrom, IsMadeOfAny, NoneBetween}
 use Rattle.case_search.proofs.Putting.{value_word}
 use Rattle.case_search.proofs.Ranks.{rank_round, rank_up}
 
@@ -75,6 +76,20 @@ module _ (p : Problem) (law : FittingIsOfACase) where
     | inl less ↦ none y fitting above less
     | inr from_op ↦ nothing y (of_any op y fitting (omega (arith, below, from_op)))
   ]
+
+  -- the first operation with which anything fits has the least from there on
+  pub first_least : (from op : ℕ) (ps : List ℕ) (x : Assignment) → from ≤ op → NoneBetween p from op → ArePivots p op ps → IsLeastOf ps (IsMadeOfAny op p.cases) x → IsLeastFrom p from x
+  first_least from op ps x le none pivots best =
+      let op_is : value_of x slots.Op ≡ op = best.meets.1 in
+      record {
+        fitting = (best.meets.0, (law p x).1 best.meets.2);
+        above = omega (arith, le, op_is);
+        lower = λ y fitting above below. none y fitting above (omega (arith, below, op_is));
+        least = λ y fitting same before.
+            let s : Slot = before.0 in
+            let P : ℕ → Type 0 = λ n. rank n (value_of y s) < rank n (value_of x s) in
+            best.least y (of_any op y fitting (same ∙ op_is)) (s, before.1, subst P (ap (λ (k : ℕ). pivot_of p k s) (same ∙ op_is) ∙ sym (pivots s)) before.2);
+      }
 
   module _ (problem : IsProblem p) (pivot : ℕ) (pivot_is : (op : ℕ) → pivot ≡ pivot_of p op slots.Op) where
     -- what comes before x has a lower rank of its operation, or the same operation

@@ -19,7 +19,7 @@ use Rattle.fd_solve.specs.Ready.{IsReady}
 use Rattle.fd_solve.specs.Shrinking.{shrinks}
 use Rattle.fd_solve.specs.Taking.{IsTakenBy, IsTold, kept_of}
 use Rattle.fd_solve.proofs.Existing.{some_least}
-use Rattle.fd_solve.proofs.FirstMarks.{ready_after, ready_wider}
+use Rattle.fd_solve.proofs.FirstMarks.{ready_after}
 use Rattle.fd_solve.proofs.Lists.{drop_here, drop_past}
 use Rattle.fd_solve.proofs.Marking.{many_marked, marked_false, marked_true, whole_marked}
 use Rattle.fd_solve.proofs.FittingMarks.{nothing_more}
@@ -163,7 +163,7 @@ module _ (p : Problem) (biases : List Extra) (nodes : ℕ) (taken : Taken) where
             (one_dropped whole nodes (length taken.marks.items) e taken.dropped known spent kept known_next)
 
 -- with the first cases that were made and what was found out
-pub told_kept : (p : Problem) (biases : List Extra) (nodes : ℕ) (after : List Bool) (made : Problem) (known : Known) (new : Taken) → AreSound p biases after made → IsKnown (with_marked after biases p) nodes known → new.marks.items ≡ after → new.firsts ≡ Some made → new.known ≡ known → IsReady p biases after (length after - 1) new.ready → IsTold p biases nodes new
+pub told_kept : (p : Problem) (biases : List Extra) (nodes : ℕ) (after : List Bool) (made : Problem) (known : Known) (new : Taken) → AreSound p biases after made → IsKnown (with_marked after biases p) nodes known → new.marks.items ≡ after → new.firsts ≡ Some made → new.known ≡ known → IsReady p biases after (length after) new.ready → IsTold p biases nodes new
 told_kept p biases nodes after made known new sound known_is marks_are firsts_are is ready =
     let same : with_marked new.marks.items biases p ≡ with_marked after biases p = ap (λ (ms : List Bool). with_marked ms biases p) marks_are in
     let base : base_of new.firsts p ≡ made = ap (λ (o : Option Problem). base_of o p) firsts_are in
@@ -171,5 +171,5 @@ told_kept p biases nodes after made known new sound known_is marks_are firsts_ar
       base = subst IsProblem (sym base) sound.whole;
       firsts = subst (λ (q : Problem). HasFirstsOf q (base_of new.firsts p)) (sym same) (subst (HasFirstsOf (with_marked after biases p)) (sym base) sound.firsts);
       known = subst (λ (q : Problem). IsKnown q nodes new.known) (sym same) (subst (IsKnown (with_marked after biases p) nodes) (sym is) known_is);
-      ready = subst (λ (ms : List Bool). IsReady p biases ms (length ms) new.ready) (sym marks_are) (ready_wider p biases after (length after - 1) (length after) new.ready (omega arith) ready);
+      ready = subst (λ (ms : List Bool). IsReady p biases ms (length ms) new.ready) (sym marks_are) ready;
     }

@@ -4,7 +4,7 @@ use Rattle.std.specs.Prelude.{slice_set}
 use Rattle.std.proofs.Math.Seq.{get_or-append_seam}
 use Rattle.std.proofs.lemmas.Bool.{cases_lt}
 use Rattle.std.proofs.lemmas.List.{append_assoc, append-nil, get_or_append_left}
-use Rattle.std.proofs.lemmas.List.Elements.{All-cons, All-head, All-nil, All-tail}
+use Rattle.std.proofs.lemmas.List.Elements.{All-cons, All-head, All-nil, All-push, All-tail}
 use Rattle.rv_isa.specs.Numbers.{op_numbered}
 use Rattle.fd_prob.specs.declared.problem.Assignment.{Assignment}
 use Rattle.fd_prob.specs.declared.problem.Case.{Case}
@@ -13,7 +13,7 @@ use Rattle.fd_prob.specs.declared.problem.Problem.{Problem}
 use Rattle.fd_prob.specs.Fitting.{IsCase, IsProblem, fits_case}
 use Rattle.fd_prob.proofs.Fitted.{fits_its_case, of_case}
 use Rattle.case_search.specs.Equivalent.{IsEquivalent}
-use Rattle.fd_solve.specs.Equivalent.{AreEquivalent, AreMarked}
+use Rattle.fd_solve.specs.Equivalent.{AreEquivalent, AreMarked, AreTried, IsTried}
 use Rattle.fd_solve.specs.Marks.{marked_case, with_marked}
 use Rattle.fd_solve.specs.Meeting.{meets_marked}
 use Rattle.case_search.specs.Search.{IsMadeOf, LeastOrNone}
@@ -128,3 +128,25 @@ replaced cases [] n e d less here is are = absurd (omega (arith, less))
 replaced [] (m ∷ made) n e d less here is are = absurd are
 replaced (c ∷ cases) (m ∷ made) zero e d less here is are = (after c m d are.0 (subst (λ (k : Case). IsEquivalent k d) here is), are.1)
 replaced (c ∷ cases) (m ∷ made) (suc n) e d less here is are = (are.0, replaced cases made n e d (omega (arith, less)) here is are.1)
+
+-- a case with what marked biases add to it stands for the one of the whole
+pub tried_at : (marks : List Bool) (es : List Extra) (p : Problem) (n : ℕ) (own plain : Case) → IsProblem p → All (λ e. length e.cases ≡ length p.cases) es → n < length p.cases → own ≡ get_or p.cases n own → IsEquivalent own plain → IsTried (with_marked marks es p).cases (n, marked_case marks es n plain)
+tried_at marks es p n own plain problem entries less here is =
+    let whole : List Case = (with_marked marks es p).cases in
+    let case : Case = marked_case marks es n own in
+    let many : length whole ≡ length p.cases = many_marked marks es p (length p.cases) entries refl in
+    let lt : n < length whole = omega (arith, less, many) in
+    let at : case ≡ get_or whole n case = marked_at marks es p (length p.cases) n own entries refl less here in
+    let made : IsEquivalent case (marked_case marks es n plain) = marked_equivalent marks es n own plain (subst IsCase (sym here) (problem n own less)) is in
+    (lt, λ c. subst (λ (e : Case). IsEquivalent e (marked_case marks es n plain)) (at ∙ any_default whole n case c lt) made)
+
+-- one more that was made
+pub tried_more : (cases : List Case) (old new : List (ℕ × Case)) (n : ℕ) (c d : Case) → IsTried cases (n, c) → IsEquivalent c d → new ≡ old ++ (n, d) ∷ [] → AreTried cases old → AreTried cases new
+tried_more cases old new n c d at is new_is are = subst (AreTried cases) (sym new_is) (All-push (IsTried cases) old (n, d) are (at.0, λ e. after (get_or cases n e) c d (at.1 e) is))
+
+-- it takes the place of another that stands for the same
+pub put_at : (cases made : List Case) (n : ℕ) (d : Case) → IsTried cases (n, d) → AreEquivalent cases made → AreEquivalent cases (slice_set made n d)
+put_at [] made n d at are = absurd (omega (arith, at.0))
+put_at (c ∷ cases) [] n d at are = absurd are
+put_at (c ∷ cases) (m ∷ made) zero d at are = (at.1 c, are.1)
+put_at (c ∷ cases) (m ∷ made) (suc n) d at are = (are.0, put_at cases made n d (omega (arith, at.0), at.1) are.1)

@@ -129,6 +129,10 @@ module _ (p : Problem) (es : List Extra) (marks : List Bool) (most : ℕ) (ready
     narrow = subst (StandFor (base_of new.problem p).cases) (sym narrow_is) (subst (λ (o : Option Problem). StandFor (base_of o p).cases ready.narrow) (sym problem_is) is.narrow);
   }
 
+-- brought up to all marks it is the problem with them
+pub whole_ready : (p : Problem) (es : List Extra) (marks : List Bool) (ready : Ready) → ready.from ≡ length marks → IsReady p es marks (length marks) ready → base_of ready.problem p ≡ with_marked marks es p
+whole_ready p es marks ready from is = is.first ∙ ap (λ (ms : List Bool). with_marked ms es p) (ap (λ (n : ℕ). take n marks) from ∙ take_all (length marks) marks (omega arith))
+
 -- a mark more
 pub ready_next : (p : Problem) (es : List Extra) (marks after : List Bool) (mark : Bool) (ready : Ready) → after ≡ marks ++ mark ∷ [] → IsReady p es marks (length marks) ready → IsReady p es after (length after - 1) ready
 ready_next p es marks after mark ready is so_far = record {

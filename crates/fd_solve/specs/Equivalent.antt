@@ -1,5 +1,5 @@
 -- Cases that stand for those of a problem.
-use Rattle.std.specs.Prelude.{◌≡◌, ◌<◌, ℕ, Bool, ⊤, List, [], ◌∷◌, length, slice_index_or, Option, IfSome}
+use Rattle.std.specs.Prelude.{◌≡◌, ◌<◌, ℕ, Bool, ⊤, All, List, [], ◌∷◌, length, slice_index_or, Option, IfSome}
 use Rattle.fd_prob.specs.declared.problem.Case.{Case}
 use Rattle.fd_prob.specs.declared.problem.Extra.{Extra}
 use Rattle.case_search.specs.Equivalent.{IsEquivalent}
@@ -15,6 +15,14 @@ AreEquivalent _ _ = ⊥
 pub record AreMarked (marks : List Bool) (biases : List Extra) (cases made : List Case) : Type 0 where
   pub count : length made ≡ length cases
   pub each : (n : ℕ) (c d : Case) → n < length cases → IsEquivalent (marked_case marks biases n (slice_index_or cases n c)) (slice_index_or made n d)
+
+-- a case that was made stands for the one at its place
+abbrev pub IsTried : List Case → ℕ × Case → Type 0
+IsTried cases made = (made.0 < length cases) × ((c : Case) → IsEquivalent (slice_index_or cases made.0 c) made.1)
+
+-- each of them does
+abbrev pub AreTried : List Case → List (ℕ × Case) → Type 0
+AreTried cases made = All (IsTried cases) made
 
 -- where others are given, they are so
 abbrev pub StandFor : List Case → Option (List Case) → Type 0

@@ -1,17 +1,73 @@
 // The cases of one operation.
-ghost use Rattle.std.specs.Prelude.{◌≡◌, ◌<◌, ◌≤◌, All, IfOk, length};
+ghost use Rattle.std.specs.Prelude.{◌≡◌, ◌<◌, ◌≤◌, All, IfOk, List, OnOk, length};
+ghost use Rattle.fd_prob.specs.declared.problem.Case.{Case};
 ghost use Rattle.fd_prob.specs.Fitting.{IsCase};
-ghost use Rattle.fd_solve.specs.Equivalent.{AreEquivalent};
+ghost use Rattle.fd_solve.specs.Equivalent.{AreEquivalent, AreTried, IsTried};
 ghost use Rattle.fd_solve.specs.Marks.{IsSound, marked_case, whole_of};
+ghost use Rattle.case_search.specs.Equivalent.{IsEquivalent};
 ghost use Rattle.case_search.specs.Search.{IsMadeOf, LeastOrNone};
 ghost use Rattle.fd_solve.specs.Operations.{IsMadeOfAny};
 
 use crate::marked::{Marked, marked_case};
-use crate::sought::{Sought, losses_by};
-use case_search::{lesser, solve_again, solve_case};
+use crate::sought::{Narrowing, Sought, Tried, losses_by};
+use case_search::{lesser, narrow_again, solve_again, solve_case};
 use dom_set::OutOfMemory;
 use fd_prob::{Assignment, Case};
 use std::alloc::Global;
+
+/// The least assignment that is of a case whose domains are narrow.
+fn solve_narrow(
+    alloc: Global,
+    case: &Case,
+    pivots: &[u32; 14],
+) -> Result<Option<Assignment>, OutOfMemory>
+    requires { IsCase case.now }
+    ensures { IfOk result (LeastOrNone pivots.now (IsMadeOf case.now)) }
+{
+    let known = case.rels.as_slice().len();
+    solve_again(alloc, case, pivots, known, &losses_by(&[], &[]))
+}
+
+/// The case at a place with what the marked biases add to it, narrow where the case is.
+fn tried_case(
+    alloc: Global,
+    marked: &Marked,
+    case: &Case,
+    place: usize,
+    narrowing: &Narrowing,
+) -> Result<Case, OutOfMemory>
+    requires case { IsCase case.now }
+    requires entries { All (λ e. place < length e.cases) marked.now.biases.now }
+    requires marks { length marked.now.marks.now ≤ length marked.now.biases.now }
+    ensures { IfOk result (IsEquivalent (marked_case marked.now.marks.now marked.now.biases.now place case.now)) }
+{
+    let made = marked_case(alloc, case, place, marked.biases, marked.marks)?;
+    let since = narrowing.with(&losses_by(marked.biases, marked.marks));
+    narrow_again(alloc, made, since.known, &since.losses)
+}
+
+/// The least assignment that is of the narrow case at a place, with what the marked biases add to it. The case that is made
+/// for that is noted.
+fn try_narrow(
+    alloc: Global,
+    marked: &Marked,
+    case: &Case,
+    place: usize,
+    pivots: &[u32; 14],
+    narrowing: &Narrowing,
+    tried: &mut Tried,
+) -> Result<Option<Assignment>, OutOfMemory>
+    requires case { IsCase case.now }
+    requires entries { All (λ e. place < length e.cases) marked.now.biases.now }
+    requires marks { length marked.now.marks.now ≤ length marked.now.biases.now }
+    ensures least { IfOk result (LeastOrNone pivots.now (IsMadeOf (marked_case marked.now.marks.now marked.now.biases.now place case.now))) }
+    ensures tried { OnOk result ((cases : List Case) → IsTried cases (place, marked_case marked.now.marks.now marked.now.biases.now place case.now) → AreTried cases tried.old.items → AreTried cases tried.new.items) }
+{
+    let made = tried_case(alloc, marked, case, place, narrowing)?;
+    let least = solve_narrow(alloc, &made, pivots)?;
+    tried.push((place, made))?;
+    Ok(least)
+}
 
 /// The least assignment that is of the case at a place, with what the marked biases add to it.
 fn solve_marked(
@@ -20,47 +76,61 @@ fn solve_marked(
     case: &Case,
     place: usize,
     pivots: &[u32; 14],
-    is_narrow: bool,
+    narrowing: Option<Narrowing>,
+    tried: &mut Tried,
 ) -> Result<Option<Assignment>, OutOfMemory>
     requires case { IsCase case.now }
     requires entries { All (λ e. place < length e.cases) marked.now.biases.now }
     requires marks { length marked.now.marks.now ≤ length marked.now.biases.now }
-    ensures { IfOk result (LeastOrNone pivots.now (IsMadeOf (marked_case marked.now.marks.now marked.now.biases.now place case.now))) }
+    ensures least { IfOk result (LeastOrNone pivots.now (IsMadeOf (marked_case marked.now.marks.now marked.now.biases.now place case.now))) }
+    ensures tried { OnOk result ((cases : List Case) → IsTried cases (place, marked_case marked.now.marks.now marked.now.biases.now place case.now) → AreTried cases tried.old.items → AreTried cases tried.new.items) }
 {
-    if marked.marks.is_empty() {
-        return solve_case(alloc, case, pivots);
+    match narrowing {
+        Some(narrowing) => {
+            if marked.marks.is_empty() {
+                return solve_narrow(alloc, case, pivots);
+            }
+            try_narrow(alloc, marked, case, place, pivots, &narrowing, tried)
+        }
+        None => {
+            if marked.marks.is_empty() {
+                return solve_case(alloc, case, pivots);
+            }
+            let made = marked_case(alloc, case, place, marked.biases, marked.marks)?;
+            solve_case(alloc, &made, pivots)
+        }
     }
-    let made = marked_case(alloc, case, place, marked.biases, marked.marks)?;
-    if is_narrow {
-        let known = case.rels.as_slice().len();
-        return solve_again(
-            alloc,
-            &made,
-            pivots,
-            known,
-            &losses_by(marked.biases, marked.marks),
-        );
-    }
-    solve_case(alloc, &made, pivots)
 }
 
 /// The least assignment that has the operation and is of one of the cases, with what the marked biases add to them. The cases
-/// that are searched stand for those of the problem; where they are narrow, their relations were asked.
+/// that are searched stand for those of the problem. Where they are narrow, what is made of them with marked biases is narrow
+/// too, and is added to `tried`.
 pub fn solve_cases(
     alloc: Global,
     marked: &Marked,
     sought: &Sought,
     op: u8,
     pivots: &[u32; 14],
+    tried: &mut Tried,
 ) -> Result<Option<Assignment>, OutOfMemory>
     requires sound { IsSound marked.now }
     requires cases { AreEquivalent marked.now.problem.now.cases sought.now.cases.now }
-    ensures { IfOk result (LeastOrNone pivots.now (IsMadeOfAny op (whole_of marked.now).cases)) }
+    requires tried { AreTried (whole_of marked.now).cases tried.old.items }
+    ensures least { IfOk result (LeastOrNone pivots.now (IsMadeOfAny op (whole_of marked.now).cases)) }
+    ensures tried { OnOk result (AreTried (whole_of marked.now).cases tried.new.items) }
 {
     let mut best = None;
     for (place, case) in sought.cases.iter().enumerate() {
         if case.op == op {
-            let least = solve_marked(alloc, marked, case, place, pivots, sought.are_narrow)?;
+            let least = solve_marked(
+                alloc,
+                marked,
+                case,
+                place,
+                pivots,
+                sought.narrowing(place),
+                tried,
+            )?;
             best = lesser(pivots, best, least);
         }
     }

@@ -2,6 +2,7 @@
 ghost use Rattle.std.specs.Prelude.{◌≡◌, ◌<◌, ◌≤◌, ◌-◌, nat_lt, true, IfOk, OnOk, length};
 ghost use Rattle.fd_prob.specs.Spaces.{space};
 ghost use Rattle.fd_solve.specs.Answers.{IsAnswer, NothingFits};
+ghost use Rattle.fd_solve.specs.Equivalent.{AreTried};
 ghost use Rattle.fd_solve.specs.Known.{IsKnown, dropping, fitting_of, has_none, was_spent};
 ghost use Rattle.fd_solve.specs.Marks.{IsSound, whole_of};
 ghost use Rattle.fd_solve.specs.Ready.{IsReady};
@@ -10,6 +11,7 @@ use crate::answers::Solved;
 use crate::marked::Marked;
 use crate::meeting::fits_marked;
 use crate::ready::Ready;
+use crate::sought::Tried;
 use case_search::words;
 use dom_set::OutOfMemory;
 use fd_prob::{Assignment, space};
@@ -85,7 +87,7 @@ fn is_spent(marked: &Marked, within: bool, nodes: u64) -> bool
 
 /// What is known of the problem with its marked biases, by what was known of it before the last bias was marked. There is
 /// no search where nothing fitted before, nor where the assignment that is known to have fitted still does. The space is
-/// not counted where it is known to be within the budget.
+/// not counted where it is known to be within the budget. Beside it the narrow cases that a search made.
 pub fn known_after(
     alloc: Global,
     before: &Known,
@@ -93,29 +95,31 @@ pub fn known_after(
     marked: &Marked,
     within: bool,
     nodes: u64,
-) -> Result<Known, OutOfMemory>
+) -> Result<(Known, Tried), OutOfMemory>
     requires sound { IsSound marked.now }
     requires last { 0 < length marked.now.marks.now }
     requires ready { IsReady marked.now.problem.now marked.now.biases.now marked.now.marks.now (length marked.now.marks.now - 1) ready.old }
     requires none { has_none before.now ≡ true → NothingFits (whole_of marked.now) }
     requires within { within ≡ true → space (whole_of marked.now) ≤ nodes }
-    ensures known { IfOk result (IsKnown (whole_of marked.now) nodes) }
+    ensures known { IfOk result (λ done. IsKnown (whole_of marked.now) nodes done.0) }
+    ensures tried { IfOk result (λ done. AreTried (whole_of marked.now).cases done.1.items) }
     ensures ready { OnOk result (IsReady marked.now.problem.now marked.now.biases.now marked.now.marks.now (length marked.now.marks.now - 1) ready.new) }
 {
     if is_spent(marked, within, nodes) {
-        return Ok(Known::Answer(Solved::Spent));
+        return Ok((Known::Answer(Solved::Spent), Vec::new(alloc)));
     }
     if before.has_none() {
-        return Ok(Known::Answer(Solved::NoneFits));
+        return Ok((Known::Answer(Solved::NoneFits), Vec::new(alloc)));
     }
     if let Some(x) = before.fitting() {
         words(&x.values);
         if fits_marked(&x, marked) {
-            return Ok(Known::Fits(x));
+            return Ok((Known::Fits(x), Vec::new(alloc)));
         }
     }
-    let solved = ready.searched(alloc, marked, marked.marks.len() - 1)?;
-    Ok(Known::Answer(solved))
+    let done = ready.searched(alloc, marked, marked.marks.len() - 1)?;
+    let (solved, tried) = done;
+    Ok((Known::Answer(solved), tried))
 }
 
 /// The answer of the problem with its marked biases, after what is known of it.
@@ -133,6 +137,9 @@ pub fn answer_after(
 {
     match known {
         Known::Answer(solved) => Ok(*solved),
-        Known::Fits(_) => ready.searched(alloc, marked, marked.marks.len()),
+        Known::Fits(_) => {
+            let done = ready.searched(alloc, marked, marked.marks.len())?;
+            Ok(done.0)
+        }
     }
 }

@@ -5,6 +5,7 @@ ghost use Rattle.std.specs.Prelude.{◌≡◌, ◌+◌, ◌-◌, ◌<◌, ◌≤
 ghost use Rattle.fd_prob.specs.Fitting.{IsProblem};
 ghost use Rattle.fd_prob.specs.Spaces.{space};
 ghost use Rattle.fd_solve.specs.Answers.{IsAnswer, IsLeafAnswer, NothingFits};
+ghost use Rattle.fd_solve.specs.Equivalent.{AreTried};
 ghost use Rattle.fd_solve.specs.Known.{IsKnown, has_none, was_spent};
 ghost use Rattle.fd_solve.specs.Marks.{IsSound, whole_of, with_marked};
 ghost use Rattle.fd_solve.specs.Ready.{IsReady};
@@ -17,6 +18,7 @@ use crate::known::{Known, answer_after, known_after};
 use crate::marked::{Marked, base_of};
 use crate::operations::answer_alone;
 use crate::ready::Ready;
+use crate::sought::Tried;
 use dom_set::OutOfMemory;
 use fd_prob::{Extra, Items, Problem, Slot};
 use std::alloc::Global;
@@ -31,7 +33,8 @@ fn shrinks(bias: &Extra) -> bool
         .all(|cut| !matches!(cut.0, Slot::Op | Slot::A))
 }
 
-/// What is known of the problem with its marked biases, of which the last one is a further bias.
+/// What is known of the problem with its marked biases, of which the last one is a further bias, and the narrow cases that a
+/// search made.
 fn known_next(
     alloc: Global,
     before: &Known,
@@ -39,13 +42,14 @@ fn known_next(
     marked: &Marked,
     bias: &Extra,
     nodes: u64,
-) -> Result<Known, OutOfMemory>
+) -> Result<(Known, Tried), OutOfMemory>
     requires sound { IsSound marked.now }
     requires last { 0 < length marked.now.marks.now }
     requires ready { IsReady marked.now.problem.now marked.now.biases.now marked.now.marks.now (length marked.now.marks.now - 1) ready.old }
     requires none { has_none before.now ≡ true → NothingFits (whole_of marked.now) }
     requires within { shrinks bias.now ≡ true → was_spent before.now ≡ false → space (whole_of marked.now) ≤ nodes }
-    ensures known { IfOk result (IsKnown (whole_of marked.now) nodes) }
+    ensures known { IfOk result (λ done. IsKnown (whole_of marked.now) nodes done.0) }
+    ensures tried { IfOk result (λ done. AreTried (whole_of marked.now).cases done.1.items) }
     ensures ready { OnOk result (IsReady marked.now.problem.now marked.now.biases.now marked.now.marks.now (length marked.now.marks.now - 1) ready.new) }
 {
     let within = shrinks(bias) && !before.was_spent();
@@ -113,9 +117,11 @@ impl Taken {
             marks: &self.marks,
             firsts: &firsts,
         };
-        let known = known_next(alloc, &self.known, &mut self.ready, &marked, bias, nodes)?;
+        let done = known_next(alloc, &self.known, &mut self.ready, &marked, bias, nodes)?;
+        let (known, tried) = done;
         match known.dropping() {
             None => {
+                self.ready.keep(alloc, &marked, tried)?;
                 self.firsts = Some(firsts);
                 self.known = known;
             }

@@ -7,7 +7,7 @@ ghost use Rattle.fd_prob.specs.Order.{pivot_of};
 ghost use Rattle.fd_prob.specs.Spaces.{space};
 ghost use Rattle.fd_solve.specs.declared.answers.Solved.TheVariants.{Found, NoneFits, Spent};
 ghost use Rattle.fd_solve.specs.Answers.{IsAnswer, IsLeast, NothingFits};
-ghost use Rattle.fd_solve.specs.Equivalent.{StandFor};
+ghost use Rattle.fd_solve.specs.Equivalent.{AreTried, StandFor};
 ghost use Rattle.fd_solve.specs.Marks.{IsSound, whole_of};
 ghost use Rattle.fd_solve.specs.Operations.{IsLeastFrom, IsMadeOfAny, NoneBetween};
 ghost use Rattle.case_search.specs.Search.{LeastOrNone};
@@ -16,28 +16,32 @@ use crate::Solved;
 use crate::cases::solve_cases;
 use crate::marked::{Marked, pivots_with};
 use crate::pivots::operation_pivot;
-use crate::sought::{Narrow, settle, sought_of};
+use crate::sought::{Narrow, Tried, settle, sought_of};
 use dom_set::OutOfMemory;
 use fd_prob::{Assignment, Problem, fitting_laws, space};
 use std::alloc::Global;
 
 /// The least assignment that has the operation and is of one of the cases, with what the marked biases add to them. Of the
-/// cases that stand for the problem's those that are searched are narrowed, and stay so.
+/// cases that stand for the problem's those that are searched are narrowed, and stay so; what is made of them with the marked
+/// biases is added to `tried`.
 fn solve_operation(
     alloc: Global,
     marked: &Marked,
     narrow: &mut Option<Narrow>,
+    tried: &mut Tried,
     op: u8,
     pivots: &[u32; 14],
 ) -> Result<Option<Assignment>, OutOfMemory>
     requires sound { IsSound marked.now }
     requires narrow { StandFor marked.now.problem.now.cases narrow.old }
+    requires tried { AreTried (whole_of marked.now).cases tried.old.items }
     ensures least { IfOk result (LeastOrNone pivots.now (IsMadeOfAny op (whole_of marked.now).cases)) }
     ensures narrow { OnOk result (StandFor marked.now.problem.now.cases narrow.new) }
+    ensures tried { OnOk result (AreTried (whole_of marked.now).cases tried.new.items) }
 {
-    settle(narrow, alloc, marked.problem, op)?;
+    settle(narrow, alloc, marked.problem, op, !marked.marks.is_empty())?;
     let sought = sought_of(narrow, marked.problem);
-    let least = solve_cases(alloc, marked, &sought, op, pivots)?;
+    let least = solve_cases(alloc, marked, &sought, op, pivots, tried)?;
     Ok(least)
 }
 
@@ -46,20 +50,23 @@ fn solve_between(
     alloc: Global,
     marked: &Marked,
     narrow: &mut Option<Narrow>,
+    tried: &mut Tried,
     pivot: u8,
     from: u8,
     to: u8,
 ) -> Result<Option<Assignment>, OutOfMemory>
     requires sound { IsSound marked.now }
     requires narrow { StandFor marked.now.problem.now.cases narrow.old }
+    requires tried { AreTried (whole_of marked.now).cases tried.old.items }
     requires pivot { (op : ℕ) → pivot ≡ pivot_of (whole_of marked.now) op slots.Op }
     ensures least { IfOk result (λ o. MatchOption o (NoneBetween (whole_of marked.now) from to) (IsLeastFrom (whole_of marked.now) from)) }
     ensures narrow { OnOk result (StandFor marked.now.problem.now.cases narrow.new) }
+    ensures tried { OnOk result (AreTried (whole_of marked.now).cases tried.new.items) }
 {
     fitting_laws();
     for op in from..to {
         if let Some(pivots) = pivots_with(marked, op, pivot) {
-            if let Some(x) = solve_operation(alloc, marked, narrow, op, &pivots)? {
+            if let Some(x) = solve_operation(alloc, marked, narrow, tried, op, &pivots)? {
                 return Ok(Some(x));
             }
         }
@@ -72,36 +79,42 @@ fn least(
     alloc: Global,
     marked: &Marked,
     narrow: &mut Option<Narrow>,
+    tried: &mut Tried,
     pivot: u8,
 ) -> Result<Option<Assignment>, OutOfMemory>
     requires sound { IsSound marked.now }
     requires narrow { StandFor marked.now.problem.now.cases narrow.old }
+    requires tried { AreTried (whole_of marked.now).cases tried.old.items }
     requires pivot { (op : ℕ) → pivot ≡ pivot_of (whole_of marked.now) op slots.Op }
     ensures least { IfOk result (λ o. MatchOption o (NothingFits (whole_of marked.now)) (IsLeast (whole_of marked.now))) }
     ensures narrow { OnOk result (StandFor marked.now.problem.now.cases narrow.new) }
+    ensures tried { OnOk result (AreTried (whole_of marked.now).cases tried.new.items) }
 {
     fitting_laws();
-    if let Some(x) = solve_between(alloc, marked, narrow, pivot, pivot, 58)? {
+    if let Some(x) = solve_between(alloc, marked, narrow, tried, pivot, pivot, 58)? {
         return Ok(Some(x));
     }
-    let lower = solve_between(alloc, marked, narrow, pivot, 0, pivot)?;
+    let lower = solve_between(alloc, marked, narrow, tried, pivot, 0, pivot)?;
     Ok(lower)
 }
 
 /// The answer of the problem with its marked biases under each budget that its space is within, by a search of the cases that
-/// stand for the problem's.
+/// stand for the problem's. Narrow cases that it makes of these with the marked biases are added to `tried`.
 pub fn searched(
     alloc: Global,
     marked: &Marked,
     narrow: &mut Option<Narrow>,
+    tried: &mut Tried,
 ) -> Result<Solved, OutOfMemory>
     requires sound { IsSound marked.now }
     requires narrow { StandFor marked.now.problem.now.cases narrow.old }
+    requires tried { AreTried (whole_of marked.now).cases tried.old.items }
     ensures solved { IfOk result (λ solved. (nodes : ℕ) → space (whole_of marked.now) ≤ nodes → IsAnswer (whole_of marked.now) nodes solved) }
     ensures narrow { OnOk result (StandFor marked.now.problem.now.cases narrow.new) }
+    ensures tried { OnOk result (AreTried (whole_of marked.now).cases tried.new.items) }
 {
     let pivot = operation_pivot(alloc, marked.firsts)?;
-    match least(alloc, marked, narrow, pivot)? {
+    match least(alloc, marked, narrow, tried, pivot)? {
         Some(x) => Ok(Solved::Found(x)),
         None => Ok(Solved::NoneFits),
     }
@@ -115,7 +128,7 @@ pub fn answer_of(alloc: Global, marked: &Marked, nodes: u64) -> Result<Solved, O
     if nodes < space(marked.firsts) {
         return Ok(Solved::Spent);
     }
-    let solved = searched(alloc, marked, &mut None)?;
+    let solved = searched(alloc, marked, &mut None, &mut Vec::new(alloc))?;
     Ok(solved)
 }
 

@@ -4,14 +4,14 @@ ghost use Rattle.std.specs.List.{list_all};
 ghost use Rattle.fd_prob.specs.Spaces.{space};
 ghost use Rattle.fd_solve.specs.Answers.{IsAnswer};
 ghost use Rattle.fd_prob.specs.Fitting.{IsProblem};
-ghost use Rattle.fd_solve.specs.Equivalent.{AreEquivalent, StandFor};
+ghost use Rattle.fd_solve.specs.Equivalent.{AreTried, StandFor};
 ghost use Rattle.fd_solve.specs.Marks.{IsSound, base_of, whole_of, with_marked};
 ghost use Rattle.fd_solve.specs.Ready.{IsReady};
 
 use crate::answers::Solved;
 use crate::marked::{Marked, base_of, with_marked};
 use crate::operations::searched;
-use crate::sought::Narrow;
+use crate::sought::{Narrow, Tried, put_tried};
 use dom_set::OutOfMemory;
 use fd_prob::{Extra, Problem};
 use std::alloc::Global;
@@ -80,7 +80,8 @@ impl Ready {
         requires sound { IsSound marked.now }
         requires to { to ≤ length marked.now.marks.now }
         requires ready { IsReady marked.now.problem.now marked.now.biases.now marked.now.marks.now to self.old }
-        ensures { OnOk result (IsReady marked.now.problem.now marked.now.biases.now marked.now.marks.now to self.new) }
+        ensures ready { OnOk result (IsReady marked.now.problem.now marked.now.biases.now marked.now.marks.now to self.new) }
+        ensures from { OnOk result (self.new.from ≡ to) }
     {
         let pending = &marked.marks[self.from..to];
         if !are_unmarked(pending) {
@@ -112,11 +113,16 @@ impl Ready {
     }
 
     /// The answer of the problem with its marked biases under each budget that its space is within, by a search of the
-    /// problem that is here, with the marks that are left.
-    fn search_rest(&mut self, alloc: Global, marked: &Marked) -> Result<Solved, OutOfMemory>
+    /// problem that is here, with the marks that are left, and the narrow cases that it made with these.
+    fn search_rest(
+        &mut self,
+        alloc: Global,
+        marked: &Marked,
+    ) -> Result<(Solved, Tried), OutOfMemory>
         requires sound { IsSound marked.now }
         requires ready { IsReady marked.now.problem.now marked.now.biases.now marked.now.marks.now (length marked.now.marks.now) self.old }
-        ensures solved { IfOk result (λ solved. (nodes : ℕ) → space (whole_of marked.now) ≤ nodes → IsAnswer (whole_of marked.now) nodes solved) }
+        ensures solved { IfOk result (λ done. (nodes : ℕ) → space (whole_of marked.now) ≤ nodes → IsAnswer (whole_of marked.now) nodes done.0) }
+        ensures tried { IfOk result (λ done. AreTried (whole_of marked.now).cases done.1.items) }
         ensures problem { self.new.problem ≡ self.old.problem }
         ensures from { self.new.from ≡ self.old.from }
         ensures narrow { OnOk result (StandFor (base_of self.old.problem marked.now.problem.now).cases self.new.narrow) }
@@ -127,26 +133,45 @@ impl Ready {
             marks: &marked.marks[self.from..],
             firsts: marked.firsts,
         };
-        let solved = searched(alloc, &rest, &mut self.narrow)?;
-        Ok(solved)
+        let mut tried = Vec::new(alloc);
+        let solved = searched(alloc, &rest, &mut self.narrow, &mut tried)?;
+        Ok((solved, tried))
     }
 
-    /// The same answer. Before the search it is brought up to the first marks, `to` of them.
+    /// The same answer and cases. Before the search it is brought up to the first marks, `to` of them.
     pub fn searched(
         &mut self,
         alloc: Global,
         marked: &Marked,
         to: usize,
-    ) -> Result<Solved, OutOfMemory>
+    ) -> Result<(Solved, Tried), OutOfMemory>
         requires sound { IsSound marked.now }
         requires to { to ≤ length marked.now.marks.now }
         requires ready { IsReady marked.now.problem.now marked.now.biases.now marked.now.marks.now to self.old }
-        ensures solved { IfOk result (λ solved. (nodes : ℕ) → space (whole_of marked.now) ≤ nodes → IsAnswer (whole_of marked.now) nodes solved) }
+        ensures solved { IfOk result (λ done. (nodes : ℕ) → space (whole_of marked.now) ≤ nodes → IsAnswer (whole_of marked.now) nodes done.0) }
+        ensures tried { IfOk result (λ done. AreTried (whole_of marked.now).cases done.1.items) }
         ensures ready { OnOk result (IsReady marked.now.problem.now marked.now.biases.now marked.now.marks.now to self.new) }
     {
         self.bring(alloc, marked, to)?;
         self.settle(alloc, marked)?;
-        let solved = self.search_rest(alloc, marked)?;
-        Ok(solved)
+        let done = self.search_rest(alloc, marked)?;
+        Ok(done)
+    }
+
+    /// Goes on from the narrow cases that a search of the problem with all marks made: it is brought up to these marks, and
+    /// the cases stand in their places.
+    pub fn keep(&mut self, alloc: Global, marked: &Marked, tried: Tried) -> Result<(), OutOfMemory>
+        requires sound { IsSound marked.now }
+        requires ready { IsReady marked.now.problem.now marked.now.biases.now marked.now.marks.now (length marked.now.marks.now) self.old }
+        requires tried { AreTried (whole_of marked.now).cases tried.items }
+        ensures { OnOk result (IsReady marked.now.problem.now marked.now.biases.now marked.now.marks.now (length marked.now.marks.now) self.new) }
+    {
+        if tried.is_empty() {
+            return Ok(());
+        }
+        self.bring(alloc, marked, marked.marks.len())?;
+        let base = base_of(&self.problem, marked.problem);
+        put_tried(&mut self.narrow, base, tried);
+        Ok(())
     }
 }

@@ -2,7 +2,7 @@
 ghost use Rattle.std.specs.Prelude.{◌≡◌, ◌<◌, ◌≤◌, All, IfOk, List, OnOk, length, slice_index_or, slice_set};
 ghost use Rattle.fd_prob.specs.declared.problem.Case.{Case};
 ghost use Rattle.fd_prob.specs.Fitting.{IsCase, IsProblem};
-ghost use Rattle.fd_solve.specs.Equivalent.{AreEquivalent, AreMarked, StandFor};
+ghost use Rattle.fd_solve.specs.Equivalent.{AreEquivalent, AreMarked, AreTried, StandFor};
 
 use crate::marked::marked_case;
 use case_search::narrow_again;
@@ -16,18 +16,24 @@ use std::marker::Model;
 #[derive(Clone, Copy)]
 pub struct Sought<'a> {
     pub cases: &'a [Case],
-    /// Whether their domains are narrowed by their relations already.
-    pub are_narrow: bool,
+    // One for each case, by its place. There are none where the cases are the problem's own.
+    narrowings: &'a [Narrowing],
 }
 
 /// What the domains of a case were narrowed by.
 #[derive(Clone, Copy)]
-struct Narrowing {
+pub struct Narrowing {
     /// How many of its relations, the first ones.
-    known: usize,
+    pub known: usize,
     /// The variables that lost values since.
-    losses: Losses,
+    pub losses: Losses,
+    /// Whether a search tried the case with further biases since it was narrowed or lost values; where it was never narrowed,
+    /// whether any did.
+    was_tried: bool,
 }
+
+/// Narrow cases that a search made, each with the place of the case that it stands for.
+pub type Tried = Vec<(usize, Case)>;
 
 /// Cases that stand for those of a problem. Each is narrowed where a search comes to it, and stays so.
 #[derive(Drop)]
@@ -80,6 +86,7 @@ impl Narrowing {
         Narrowing {
             known: 0,
             losses: [true; 14],
+            was_tried: false,
         }
     }
 
@@ -88,14 +95,25 @@ impl Narrowing {
         Narrowing {
             known: case.rels.as_slice().len(),
             losses: [false; 14],
+            was_tried: false,
         }
     }
 
     /// The same, where more variables lost values.
-    fn with(&self, more: &Losses) -> Narrowing {
+    pub fn with(&self, more: &Losses) -> Narrowing {
         Narrowing {
             known: self.known,
             losses: either(&self.losses, more),
+            was_tried: self.was_tried && self.known == 0,
+        }
+    }
+
+    /// The same, where a search tries the case with further biases.
+    fn tried(&self) -> Narrowing {
+        Narrowing {
+            known: self.known,
+            losses: self.losses,
+            was_tried: true,
         }
     }
 
@@ -105,6 +123,16 @@ impl Narrowing {
             return false;
         }
         self.known < case.rels.as_slice().len() || self.losses.iter().any(|lost| *lost)
+    }
+}
+
+impl<'a> Sought<'a> {
+    /// By what the case at a place was narrowed. None where it is the problem's own.
+    pub fn narrowing(&self, place: usize) -> Option<Narrowing> {
+        match self.narrowings.get(place) {
+            Some(narrowing) => Some(*narrowing),
+            None => None,
+        }
     }
 }
 
@@ -194,8 +222,31 @@ impl Narrow {
         self.cases[place] = case;
     }
 
-    /// Narrows the case at a place, if it may lose values by that.
-    fn settle_at(&mut self, alloc: Global, place: usize) -> Result<(), OutOfMemory>
+    /// Puts a narrow case in the place of another one.
+    fn put_narrow(&mut self, place: usize, case: Case)
+        requires { place < length self.old }
+        ensures { self.new ≡ slice_set self.old place case }
+    {
+        self.note(place, Narrowing::whole(&case));
+        self.put(place, case);
+    }
+
+    /// Puts cases that a search made in the places of those that stand for the same.
+    fn put_tried(&mut self, p: &Problem, tried: Tried)
+        requires cases { AreEquivalent p.now.cases self.old }
+        requires tried { AreTried p.now.cases tried.items }
+        ensures { AreEquivalent p.now.cases self.new }
+    {
+        let mut left = tried;
+        while let Some(last) = left.pop() {
+            let (place, case) = last;
+            self.put_narrow(place, case);
+        }
+    }
+
+    /// Narrows the case at a place, if it may lose values by that. Where the search tries it with further biases, it is left as
+    /// it is the first time: what is made of it is narrowed by all at once.
+    fn settle_at(&mut self, alloc: Global, place: usize, tries: bool) -> Result<(), OutOfMemory>
         requires cases { All IsCase self.old }
         requires place { place < length self.old }
         ensures { OnOk result ((cases : List Case) → AreEquivalent cases self.old → AreEquivalent cases self.new) }
@@ -205,24 +256,39 @@ impl Narrow {
         if !narrowing.is_pending(case) {
             return Ok(());
         }
+        if tries && !narrowing.was_tried {
+            self.note(place, narrowing.tried());
+            return Ok(());
+        }
         let same = case.copy(alloc)?;
         let made = narrow_again(alloc, same, narrowing.known, &narrowing.losses)?;
-        self.note(place, Narrowing::whole(&made));
-        self.put(place, made);
+        self.put_narrow(place, made);
         Ok(())
     }
 
     /// Narrows the cases of an operation.
-    pub fn settle(&mut self, alloc: Global, op: u8) -> Result<(), OutOfMemory>
+    pub fn settle(&mut self, alloc: Global, op: u8, tries: bool) -> Result<(), OutOfMemory>
         requires { All IsCase self.old }
         ensures { OnOk result ((cases : List Case) → AreEquivalent cases self.old → AreEquivalent cases self.new) }
     {
         for place in 0..self.count() {
             if self.case_at(place).op == op {
-                self.settle_at(alloc, place)?;
+                self.settle_at(alloc, place, tries)?;
             }
         }
         Ok(())
+    }
+}
+
+/// Puts narrow cases that a search made in the places of those that stand for a problem's, where there are some.
+pub fn put_tried(narrow: &mut Option<Narrow>, p: &Problem, tried: Tried)
+    requires narrow { StandFor p.now.cases narrow.old }
+    requires tried { AreTried p.now.cases tried.items }
+    ensures { StandFor p.now.cases narrow.new }
+{
+    match narrow {
+        Some(cases) => cases.put_tried(p, tried),
+        None => {}
     }
 }
 
@@ -245,18 +311,20 @@ fn marked_cases(
     Ok(made)
 }
 
-/// Narrows the cases of an operation that stand for those of a problem, where there are some.
+/// Narrows the cases of an operation that stand for those of a problem, where there are some. `tries` says that the search
+/// tries them with further biases.
 pub fn settle(
     narrow: &mut Option<Narrow>,
     alloc: Global,
     p: &Problem,
     op: u8,
+    tries: bool,
 ) -> Result<(), OutOfMemory>
     requires narrow { StandFor p.now.cases narrow.old }
     ensures { OnOk result (StandFor p.now.cases narrow.new) }
 {
     match narrow {
-        Some(cases) => cases.settle(alloc, op),
+        Some(cases) => cases.settle(alloc, op, tries),
         None => Ok(()),
     }
 }
@@ -270,11 +338,11 @@ pub fn sought_of<'a>(narrow: &'a Option<Narrow>, p: &'a Problem) -> Sought<'a>
     match narrow {
         Some(narrow) => Sought {
             cases: narrow.cases(),
-            are_narrow: true,
+            narrowings: &narrow.narrowings,
         },
         None => Sought {
             cases: p.cases.as_slice(),
-            are_narrow: false,
+            narrowings: &[],
         },
     }
 }

@@ -1,9 +1,10 @@
-use Rattle.std.proofs.Common.{◌≡◌, ℕ, ◌+◌, ◌<◌, ◌∙◌, List, length, get_or, refl, sym, subst, arith}
+use Rattle.std.proofs.Common.{◌≡◌, ℕ, ◌+◌, ◌<◌, ◌∙◌, Global, List, Vec, length, get_or, refl, sym, subst, arith}
 use Rattle.fd_prob.specs.declared.problem.Case.{Case}
 use Rattle.fd_solve.specs.Marks.{marked_case, whole_of}
 use Rattle.fd_prob.specs.Fitting.{IsCase}
 use Rattle.case_search.specs.Search.{IsLesser, IsMadeOf, LeastOrNone}
-use Rattle.fd_solve.proofs.Equivalence.{equivalent_at, equivalent_count, least_marked}
+use Rattle.fd_solve.specs.Equivalent.{AreTried}
+use Rattle.fd_solve.proofs.Equivalence.{equivalent_at, equivalent_count, least_marked, tried_at}
 use Rattle.fd_solve.proofs.Marking.{entry_at, many_marked, marked_at, marked_op}
 use Rattle.fd_solve.proofs.OneOperation.{IsMadeBefore, all_before, no_more_case, one_more_case}
 use Rattle.fd_solve.proofs.cases.solve_cases.Goals.{then-case-op+in_ok-least, else-case-op}
@@ -35,18 +36,24 @@ loop-place-preserved c =
     let lt : n < length cases = subst (λ (k : ℕ). n < k) (sym many) less in
     let here : case ≡ get_or cases n case = marked_at m.marks.now m.biases.now m.problem.now (length m.problem.now.cases) n own c.requires.sound.entries refl less at.1 in
     let op_is : case.op ≡ plain.op = marked_op m.marks.now m.biases.now n own ∙ sym at.2.op in
-    elim c.if-case-op.branch [
-      | then-case-op+in_ok-least w ↦
-          let least : LeastOrNone ps (IsMadeOf case) w.in_ok-least.least = least_marked m.marks.now m.biases.now n own plain (subst IsCase (sym at.1) (c.requires.sound.problem n own less)) at.2 ps w.in_ok-least.least w.in_ok-least.ensures in
-          one_more_case c.args.op cases n case lt here (op_is ∙ w.if-case-op.true) ps c.loop-place.best w.in_ok-least.least c.if-case-op.best c.loop-place.invariant least (subst (IsLesser ps c.loop-place.best w.in_ok-least.least) (sym w.best-is) w.lesser-best.ensures)
-      | else-case-op w ↦ subst (LeastOrNone ps (IsMadeBefore c.args.op cases (n + 1))) (sym w.best-is) (no_more_case c.args.op cases n case lt here (λ same. w.if-case-op.false (sym op_is ∙ same)) ps c.loop-place.best c.loop-place.invariant)
-    ]
+    record {
+      least = elim c.if-case-op.branch [
+        | then-case-op+in_ok-least w ↦
+            let least : LeastOrNone ps (IsMadeOf case) w.in_ok-least.least = least_marked m.marks.now m.biases.now n own plain (subst IsCase (sym at.1) (c.requires.sound.problem n own less)) at.2 ps w.in_ok-least.least w.in_ok-least.ensures.least in
+            one_more_case c.args.op cases n case lt here (op_is ∙ w.if-case-op.true) ps c.loop-place.best w.in_ok-least.least c.if-case-op.best c.loop-place.invariant.least least (subst (IsLesser ps c.loop-place.best w.in_ok-least.least) (sym w.best-is) w.lesser-best.ensures)
+        | else-case-op w ↦ subst (LeastOrNone ps (IsMadeBefore c.args.op cases (n + 1))) (sym w.best-is) (no_more_case c.args.op cases n case lt here (λ same. w.if-case-op.false (sym op_is ∙ same)) ps c.loop-place.best c.loop-place.invariant.least)
+      ];
+      tried = elim c.if-case-op.branch [
+        | then-case-op+in_ok-least w ↦ subst (λ (v : Vec (ℕ × Case) Global). AreTried cases v.items) (sym w.tried-is) (w.in_ok-least.ensures.tried cases (tried_at m.marks.now m.biases.now m.problem.now n own plain c.requires.sound.problem c.requires.sound.entries less at.1 at.2) c.loop-place.invariant.tried)
+        | else-case-op w ↦ subst (λ (v : Vec (ℕ × Case) Global). AreTried cases v.items) (sym w.tried-is) c.loop-place.invariant.tried
+      ];
+    }
 
-pub returns : goal.returns
-returns c =
+pub returns-clause-least : goal.returns-clause-least
+returns-clause-least c =
     let m = c.args.marked.now in
     let cases : List Case = (whole_of m).cases in
     let n : ℕ = c.loop-place.place in
     let many : length cases ≡ length m.problem.now.cases = many_marked m.marks.now m.biases.now m.problem.now (length m.problem.now.cases) c.requires.sound.entries refl in
     let items = equivalent_count m.problem.now.cases c.args.sought.now.cases.now c.requires.cases in
-    all_before c.args.op cases n (omega (arith, c.loop-place-test.false, many, items)) c.args.pivots.now c.loop-place.best c.loop-place.invariant
+    all_before c.args.op cases n (omega (arith, c.loop-place-test.false, many, items)) c.args.pivots.now c.loop-place.best c.loop-place.invariant.least

@@ -19,4 +19,4 @@ pub returns-then-fits_marked-clause-known : goal.returns-then-fits_marked-clause
 returns-then-fits_marked-clause-known c = (within _ _ (sym c.if-is_spent.ensures), (record { length = search (rules); words = c.words.ensures }, sym c.if-fits_marked.ensures))
 
 pub returns-clause-known : goal.returns-clause-known
-returns-clause-known c = c.in_ok-solved.ensures.solved c.args.nodes (within _ _ (sym c.if-is_spent.ensures))
+returns-clause-known c = c.in_ok-done.ensures.solved c.args.nodes (within _ _ (sym c.if-is_spent.ensures))

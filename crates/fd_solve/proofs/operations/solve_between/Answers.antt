@@ -1,7 +1,8 @@
-use Rattle.std.proofs.Common.{sym, subst}
-use Rattle.fd_solve.specs.Equivalent.{StandFor}
+use Rattle.std.proofs.Common.{ℕ, Global, Vec, sym, subst}
+use Rattle.fd_prob.specs.declared.problem.Case.{Case}
+use Rattle.fd_solve.specs.Equivalent.{AreTried, StandFor}
 use Rattle.fd_solve.specs.Marks.{whole_of}
-use Rattle.fd_solve.proofs.AllOperations.{no_case, no_fit}
+use Rattle.fd_solve.proofs.AllOperations.{first_least, no_case, no_fit}
 use Rattle.fd_solve.proofs.operations.solve_between.Goals.{in-Some+in_ok-x+in_default-2, in_default}
 use Rattle.fd_solve.proofs.operations.solve_between.Goals as goal
 
@@ -15,4 +16,11 @@ loop-op-preserved c = record {
     | in-Some+in_ok-x+in_default-2 w ↦ subst (StandFor c.args.marked.now.problem.now.cases) (sym w.narrow-is) w.in_ok-x.ensures.narrow
     | in_default w ↦ subst (StandFor c.args.marked.now.problem.now.cases) (sym w.narrow-is) c.loop-op.invariant.stands
   ];
+  tried = elim c.match-pivots_with.branch [
+    | in-Some+in_ok-x+in_default-2 w ↦ subst (λ (v : Vec (ℕ × Case) Global). AreTried (whole_of c.args.marked.now).cases v.items) (sym w.tried-is) w.in_ok-x.ensures.tried
+    | in_default w ↦ subst (λ (v : Vec (ℕ × Case) Global). AreTried (whole_of c.args.marked.now).cases v.items) (sym w.tried-is) c.loop-op.invariant.tried
+  ];
 }
+
+pub returns-in-Some-2-clause-least : goal.returns-in-Some-2-clause-least
+returns-in-Some-2-clause-least c = first_least (whole_of c.args.marked.now) c.fitting_laws.ensures.fitting c.args.from c.loop-op.op c.in-Some.pivots c.in-Some-2.x c.loop-op.auto.op c.loop-op.invariant.none c.in-Some.ensures (rw c.in-Some-2.is at c.in_ok-x.ensures.least)

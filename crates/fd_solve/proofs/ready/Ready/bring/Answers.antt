@@ -30,8 +30,8 @@ with_marked-requires-clause-entries c =
     let m = c.args.marked.now in
     entries_left m.problem.now m.biases.now m.marks.now c.args.to c.args.self.now c.requires.ready c.base_of-base.result.now c.base_of-base.ensures c.requires.sound.entries
 
-pub returns : goal.returns
-returns c =
+pub returns-clause-ready : goal.returns-clause-ready
+returns-clause-ready c =
     let m = c.args.marked.now in
     let before : Ready = c.args.self.now in
     let mid : Ready = c.if-not-are_unmarked.self in

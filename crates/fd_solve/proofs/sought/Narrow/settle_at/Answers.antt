@@ -1,4 +1,4 @@
-use Rattle.std.proofs.Common.{List, ◌∙◌, ap, sym, subst, slice_set}
+use Rattle.std.proofs.Common.{sym, subst}
 use Rattle.fd_prob.specs.declared.problem.Case.{Case}
 use Rattle.case_search.specs.Equivalent.{IsEquivalent}
 use Rattle.fd_solve.specs.Equivalent.{AreEquivalent}
@@ -11,4 +11,4 @@ returns c cases are =
     let case : Case = c.case_at-case.result.now in
     let made : Case = c.in_ok-made.made in
     let one : IsEquivalent case made = subst (λ (d : Case). IsEquivalent d made) c.in_ok-same.ensures c.in_ok-made.ensures in
-    subst (AreEquivalent cases) (sym (c.put.ensures ∙ ap (λ (cs : List Case). slice_set cs c.args.place made) c.note.ensures)) (replaced cases before c.args.place case made c.requires.place c.case_at-case.ensures one are)
+    subst (AreEquivalent cases) (sym c.put_narrow.ensures) (replaced cases before c.args.place case made c.requires.place c.case_at-case.ensures one are)

@@ -1,0 +1,12 @@
+use Rattle.std.proofs.Common.{length}
+use Rattle.fd_solve.specs.Equivalent.{AreEquivalent, AreTried}
+use Rattle.fd_solve.proofs.sought.Narrow.put_tried.Given as goal
+
+abbrev pub invariant-loop-last : goal.invariant-loop-last
+invariant-loop-last l = record {
+  stand : AreEquivalent l.p.cases l.self;
+  tried : AreTried l.p.cases l.left.items;
+}
+
+abbrev pub decreases-loop-last : goal.decreases-loop-last
+decreases-loop-last l = length l.left.items
