@@ -15,7 +15,7 @@ use Rattle.part_state.specs.State.{whole}
 use Rattle.part_state.specs.Told.{FitsFile, Tells}
 use Rattle.leaf_link.specs.Admitted.{MetAreTrue, StepsAreFetched}
 use Rattle.leaf_link.specs.Placing.{NewWordsAreTwo}
-use Rattle.leaf_turn.specs.Built.{BuiltLeavesBarSatp}
+use Rattle.leaf_turn.specs.Built.{LeavesBarSatp, LeavesWithoutDataBarIt}
 use Rattle.leaf_turn.specs.Finding.{AnswersAreFound}
 use Rattle.gen_search.specs.declared.draws.Tally.{Tally}
 use Rattle.gen_search.specs.Laws.{StillAllows}
@@ -28,14 +28,14 @@ use Rattle.gen_turn.proofs.Ending.{comes_keep, own, walks_keep}
 use Rattle.gen_turn.proofs.HartRuns.{made_later}
 use Rattle.gen_turn.proofs.NamesAhead.{harts_ahead}
 use Rattle.gen_turn.proofs.FitTests.{done_fits}
-use Rattle.gen_turn.proofs.Paths.{IsCarried, IsPath, search_ends, sets_of, walk_ends}
+use Rattle.gen_turn.proofs.Paths.{EntriesAreByPlaces, IsCarried, IsPath, search_ends, sets_of, walk_ends}
 
 nothing_at : {A : Type 0} (n i : ℕ) (d : A) → slice_index_or (replicate n d) i d ≡ d
 nothing_at zero i d = refl
 nothing_at (suc n) zero d = refl
 nothing_at (suc n) (suc i) d = nothing_at n i d
 
-module _ (met_are_true : MetAreTrue) (are_fetched : StepsAreFetched) (words_are_two : NewWordsAreTwo) (found_law : AnswersAreFound) (barred : BuiltLeavesBarSatp) (still : StillAllows can_be_taken draft_rules) (t : Template) (seed nodes turns : ℕ) (keeps : KeepsLimits t.text t) (last : Shown) (tally : Tally) (comes : Comes t seed nodes turns (Done last tally))
+module _ (met_are_true : MetAreTrue) (are_fetched : StepsAreFetched) (words_are_two : NewWordsAreTwo) (entries : EntriesAreByPlaces) (found_law : AnswersAreFound) (bar : LeavesWithoutDataBarIt) (barred : LeavesBarSatp) (still : StillAllows can_be_taken draft_rules) (t : Template) (seed nodes turns : ℕ) (keeps : KeepsLimits t.text t) (last : Shown) (tally : Tally) (comes : Comes t seed nodes turns (Done last tally))
     (ready : BodiesAreReady (can_be_taken (shown t nodes comes.first)) t.harts) where
   abbrev first : Shown
   first = shown t nodes comes.first
@@ -43,11 +43,11 @@ module _ (met_are_true : MetAreTrue) (are_fetched : StepsAreFetched) (words_are_
   abbrev w : Whole
   w = whole last.now
 
-  carried : IsCarried met_are_true are_fetched words_are_two found_law barred still t turns (all_items 0 t.harts) first
+  carried : IsCarried met_are_true are_fetched words_are_two entries found_law bar barred still t turns (all_items 0 t.harts) first
   carried = record { ready = ready; test = comes.test; template = refl }
 
   path : IsPath t (all_items 0 t.harts) first last
-  path = search_ends met_are_true are_fetched words_are_two found_law barred still t turns carried comes.searches.2 (walk_ends met_are_true are_fetched words_are_two found_law barred still t turns comes.searches.1 carried)
+  path = search_ends met_are_true are_fetched words_are_two entries found_law bar barred still t turns carried comes.searches.2 (walk_ends met_are_true are_fetched words_are_two entries found_law bar barred still t turns comes.searches.1 carried)
 
   stays : IsOfStart first last
   stays = comes_keep first turns comes.searches.2 (walks_keep first turns comes.searches.1 (own first turns))

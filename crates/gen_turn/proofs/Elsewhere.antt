@@ -26,7 +26,7 @@ module _ (k j : ℕ) (other : j ≢ k) where
   one_stays (Csr addr) v w = get_or-set_other w.harts k j (with_csr addr v (hart_of k w)) no_hart other
   one_stays (Word addr) v w = refl
 
-  all_stay : (es : List (Place × ℕ)) (w : Whole) → hart_of j (all_given k es w) ≡ hart_of j w
+  pub all_stay : (es : List (Place × ℕ)) (w : Whole) → hart_of j (all_given k es w) ≡ hart_of j w
   all_stay [] w = refl
   all_stay (e ∷ es) w = all_stay es (place_given k e.0 e.1 w) ∙ one_stays e.0 e.1 w
 

@@ -71,7 +71,7 @@ behind d fetched Spent stays kept = tt
 
 goes_keeps : (d : Drafted) (k : ℕ) (ws : List Wish) (draws : List ℕ) (s : Solved) (r : Turned Drafted) → GoesOn d k ws draws s r → StartIsKept d r
 goes_keeps d k ws draws (answers.Found x) r a =
-    behind d a.fetched r (by_same d.now _ a.fetched a.placed.is (given_stays k a.placed.places d.now)) (ended_keeps (at_test d a.fetched) k ws a.answer.dropped a.answer.solved r a.ends)
+    behind d a.fetched r (by_same d.now _ a.fetched a.placed.is (given_stays k a.placed.places d.now)) (ended_keeps (at_test d a.fetched) k ws a.answered.answer.dropped a.answered.answer.solved r a.answered.ends)
 goes_keeps d k ws draws answers.NoneFits r a = subst (StartIsKept d) (sym a) tt
 goes_keeps d k ws draws answers.Spent r a = subst (StartIsKept d) (sym a) tt
 

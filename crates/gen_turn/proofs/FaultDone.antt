@@ -1,14 +1,16 @@
 -- What the turn of a `fault` leaf that is taken does to a test, and that its leaf admits the step.
-use Rattle.std.proofs.Common.{◌≡◌, ℕ, ◌+◌, ◌<◌, ◌≤◌, ◌^◌, ◌⊎◌, ◌&&◌, true, List, [], length, Option, Some, None, refl, sym, ap, ◌∙◌, subst, inl, arith}
+use Rattle.std.proofs.Common.{◌≡◌, ℕ, ◌+◌, ◌<◌, ◌≤◌, ◌^◌, ◌⊎◌, ◌&&◌, true, List, [], length, Option, Some, None, sym, ap, ◌∙◌, subst, inl, arith}
 use Rattle.std.specs.Prelude.{slice_index_or}
+use Rattle.std.proofs.lemmas.Bool.{and_from}
 use Rattle.dom_set.specs.Elements.{is_in}
 use Rattle.rv_script.specs.declared.place.Place.TheVariants.{Word}
-use Rattle.rv_script.specs.Folds.{Answer, Answer.Does, Answer.Missing, Answer.Nowhere, Entry, by_known}
-use Rattle.rv_script.specs.Logs.{enlarged, started}
+use Rattle.rv_script.specs.Folds.{Answer, Answer.Does, Answer.Missing, Answer.Nowhere, Entry}
 use Rattle.rv_hart.specs.declared.record.Change.{Change}
 use Rattle.rv_hart.specs.declared.record.Outcome.{Outcome}
 use Rattle.rv_hart.specs.declared.record.Record.{Record}
 use Rattle.rv_hart.specs.Changes.{outcome_of}
+use Rattle.rv_hart.specs.Machine.{fetch_view}
+use Rattle.sv_walk.specs.Translation.{root_address}
 use Rattle.tpl_admit.specs.Admitting.{is_unfetched}
 use Rattle.tpl_admit.specs.Variables.{outcome_in}
 use Rattle.part_machine.specs.Whole.{Whole, records_of}
@@ -17,33 +19,27 @@ use Rattle.fd_solve.specs.declared.answers.Solved.{Solved}
 use Rattle.fd_solve.specs.declared.answers.Solved.TheVariants as answers
 use Rattle.leaf_link.specs.Answers.{values_in}
 use Rattle.leaf_link.specs.FetchAnswers.{IsFaultAnswer}
+use Rattle.leaf_link.specs.FetchPlacing.{FaultWordsAreTwo, FaultsAreUnfetched, root_word}
+use Rattle.leaf_link.specs.Placing.{AreTwoWords}
 use Rattle.leaf_link.specs.Turns.{Turn}
-use Rattle.turn_laws.specs.Given.{given_to}
 use Rattle.leaf_turn.specs.Answers.{new_at}
-use Rattle.leaf_turn.proofs.Failing.{IsFetchTrap, fetch_trap, none_new}
 use Rattle.gen_search.specs.Search.{Turned.Taken}
 use Rattle.gen_turn.specs.Drafts.{Drafted, at_test, turn_of}
 use Rattle.gen_turn.specs.Grounds.{IsGround}
 use Rattle.gen_turn.specs.Turns.{EndsAs, IsFailed, IsLeafTaken}
-use Rattle.gen_turn.proofs.Failing.{plain}
 use Rattle.gen_turn.proofs.Listing.{place_of_step}
 use Rattle.gen_turn.proofs.StepDone.{AreListedBehind, IsStepDone, dropped_after, names_after, record_done, same_taken, step_done}
-use Rattle.gen_turn.proofs.WordCounts.{two_words, words_in}
+use Rattle.gen_turn.proofs.WordCounts.{aligned_word, two_words, words_in}
 
 -- the step was made, and its fetch failed with a listed cause
 pub record IsFaultDone (sets : ℕ → List ℕ) (k : ℕ) (causes : List ℕ) (old after : Whole) : Type 0 where
   pub step : IsStepDone sets k [] old after
   pub fails : (is_unfetched step.record_is.outcome && is_in causes (outcome_in step.record_is.outcome)) ≡ true
 
-module _ (d : Drafted) (k : ℕ) (g : IsGround d k) (causes draws : List ℕ) where
+module _ (are_unfetched : FaultsAreUnfetched) (words_are_two : FaultWordsAreTwo) (d : Drafted) (k : ℕ) (g : IsGround d k) (causes draws : List ℕ) where
   module _ (x : Assignment) (answer : IsFaultAnswer (turn_of d [] k) (is_in causes) draws d.nodes (answers.Found x)) (after : Whole) (l : IsLeafTaken k [] [] (values_in x) d.now after) where
     abbrev t : Turn
     t = turn_of d [] k
-
-    trap : IsFetchTrap t answer.1.is.log answer.1.is.change
-    trap =
-        let c = answer.1.is in
-        fetch_trap t (by_known (enlarged t.known (new_at k d.now (values_in x)))) c.log c.change (plain d k g.untranslated causes draws) c.plays c.meets.fails
 
     same_change : l.taken.change ≡ answer.1.is.change
     same_change = ap (λ (a : Answer Entry Change). elim a [ Does xs c ↦ c | Missing place ↦ l.taken.change | Nowhere ↦ l.taken.change ]) (sym l.taken.plays ∙ answer.1.is.plays)
@@ -54,17 +50,13 @@ module _ (d : Drafted) (k : ℕ) (g : IsGround d k) (causes draws : List ℕ) wh
     fails : (is_unfetched l.done.outcome && is_in causes (outcome_in l.done.outcome)) ≡ true
     fails =
         ap (λ (o : Outcome). is_unfetched o && is_in causes (outcome_in o)) outcome_is
-        ∙ ap (λ (c : Change). is_unfetched (outcome_of t.fixed c.control) && is_in causes (outcome_in (outcome_of t.fixed answer.1.is.change.control))) trap.change_is
-        ∙ answer.1.is.meets.cause
+        ∙ and_from _ _ (are_unfetched t (is_in causes) (new_at k d.now (values_in x)) answer.1.is) answer.1.is.meets.cause
 
-    -- no word is started
-    no_word : (a u : ℕ) → given_to l.taken.places.places (Word a) ≡ Some u → ⊥
-    no_word a u h =
-        none_new (t.known (Word a)) u
-        (sym (l.taken.places.listed (Word a) ∙ answer.1.is.exact (Word a) ∙ ap (λ (es : List Entry). started t.known es (Word a)) trap.log_is) ∙ h)
-
+    -- the root entry and the second one alone are new words
     few_words : words_in l.taken.places.places ≤ 2
-    few_words = two_words k 0 0 l.taken.places.places d.now g.test g.hart refl refl l.taken.places.can (λ a u h. absurd (no_word a u h))
+    few_words =
+        let two : AreTwoWords (new_at k d.now (values_in x)) (root_word t) = words_are_two t (is_in causes) (new_at k d.now (values_in x)) answer.1.is in
+        two_words k (root_word t) two.other l.taken.places.places d.now g.test g.hart (aligned_word (root_address (fetch_view t.fixed) t.fixed.pc)) two.aligned l.taken.places.can (λ a u h. two.either a u (sym (l.taken.places.listed (Word a)) ∙ h))
 
     nothing_listed : AreListedBehind k d.now after.dropped
     nothing_listed harts few small = (

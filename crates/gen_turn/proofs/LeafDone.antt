@@ -23,7 +23,7 @@ use Rattle.tpl_admit.specs.Admitting.{false_atoms, fixes_outcome, is_drop, is_ex
 use Rattle.tpl_admit.specs.Truth.{holds, is_among}
 use Rattle.tpl_admit.specs.Variables.{Moment, outcome_in, value_of}
 use Rattle.part_laws.specs.Partial.{Partial}
-use Rattle.part_machine.specs.Whole.{Whole, hart_of, records_of}
+use Rattle.part_machine.specs.Whole.{Whole, records_of}
 use Rattle.part_state.specs.Meaning.{IsTest, partial_of}
 use Rattle.fd_prob.specs.declared.problem.Assignment.{Assignment}
 use Rattle.fd_solve.specs.declared.answers.LeafAnswer.{LeafAnswer}
@@ -43,21 +43,22 @@ use Rattle.turn_laws.specs.Laws.{IsStartOn}
 use Rattle.turn_laws.proofs.Places.{known}
 use Rattle.turn_laws.proofs.Starts.{start_then}
 use Rattle.leaf_turn.specs.Answers.{IsFound, new_at}
-use Rattle.leaf_turn.specs.Built.{BuiltLeavesBarSatp}
+use Rattle.leaf_turn.specs.Built.{LeavesBarSatp, LeavesWithoutDataBarIt}
 use Rattle.leaf_turn.specs.Finding.{AnswersAreFound}
 use Rattle.leaf_turn.specs.Grounds.{declared_set}
 use Rattle.leaf_turn.specs.Wishes.{biases_of, mandatory_of, retires}
 use Rattle.gen_search.specs.Search.{Turned.Taken}
+use Rattle.gen_turn.specs.Bodies.{is_plain}
 use Rattle.gen_turn.specs.Drafts.{Drafted, at_test, turn_of}
 use Rattle.gen_turn.specs.Grounds.{IsBuilt, IsGround}
-use Rattle.gen_turn.specs.Turns.{EndsAs, GoesOn, IsDone, IsLeafTaken, is_listed, listed_as, moment_at, names_bound, next_bias}
+use Rattle.gen_turn.specs.Turns.{EndsAs, IsAnswered, IsLeafTaken, is_listed, listed_as, moment_at, names_bound, next_bias}
 use Rattle.gen_turn.proofs.BoundNames.{IsWishAt, name_bound, name_was, names_kept}
 use Rattle.gen_turn.proofs.Filled.{IsFilled, known_filled, registers_past, registers_zero}
 use Rattle.gen_turn.proofs.Judged.{any_second, atoms_stay, bias_listed, mandatory_has, mandatory_retires, wish_judged}
 use Rattle.gen_turn.proofs.Listing.{listed_between}
 use Rattle.gen_turn.proofs.MoreTruth.{IsKnownIn, holds_more}
 use Rattle.gen_turn.proofs.SmallValues.{value_small}
-use Rattle.gen_turn.proofs.Settling.{IsAnswered, answered, found}
+use Rattle.gen_turn.proofs.Settling.{found}
 use Rattle.gen_turn.proofs.StepDone.{AreListedBehind, IsStepDone, same_taken}
 use Rattle.gen_turn.proofs.StepDone as steps
 use Rattle.gen_turn.proofs.WordCounts.{two_words, words_in}
@@ -129,54 +130,49 @@ registers_same f g first (suc n) same = λ i. same (Reg first) i ∷ registers_s
 
 -- ---- what a turn that is taken was made of
 
-module _ (d : Drafted) (k : ℕ) (g : IsGround d k) (ws : List Wish) (built : IsBuilt k (length d.template.names) ws) (draws : List ℕ) where
-  -- its leaf was answered where the hart stands, and the step of the answer was taken
+module _ (d : Drafted) (k : ℕ) (ws : List Wish) (draws : List ℕ) where
+  -- its leaf was answered where the pc leads, and the step of the answer was taken
   pub record IsTurn (after : Whole) : Type 0 where
-    pub fetched : IsFetched (turn_of d (mandatory_of ws) k) [] (hart_of k d.now).pc
+    pub walk : List Entry
+    pub pa : ℕ
+    pub fetched : IsFetched (turn_of d (mandatory_of ws) k) walk pa
     pub answer : LeafAnswer
-    pub is : IsTurnLeafAnswer (turn_of d (mandatory_of ws) k) (hart_of k d.now).pc (mandatory_of ws) (biases_of ws) draws d.nodes answer
+    pub is : IsTurnLeafAnswer (turn_of d (mandatory_of ws) k) pa (mandatory_of ws) (biases_of ws) draws d.nodes answer
     pub values : Assignment
     pub found : answer.solved ≡ answers.Found values
-    pub found_is : IsFound k d.now (values_in values)
+    pub found_is : IsFound (is_plain d.template) k d.now pa (values_in values)
     pub taken : IsLeafTaken k ws answer.dropped (values_in values) d.now after
 
-  module _ (found_law : AnswersAreFound) (barred : BuiltLeavesBarSatp) where
-    answer_made : (e : Drafted) → IsAnswered d k g ws built draws (Taken e) → IsTurn e.now
-    answer_made e a = go a.answer.solved refl a.ends
-      where
-        go : (s : Solved) → a.answer.solved ≡ s → EndsAs d k ws a.answer.dropped s (Taken e) → IsTurn e.now
-        go (answers.Found x) is ends = record {
-          fetched = a.fetched;
-          answer = a.answer;
-          is = a.is;
-          values = x;
-          found = is;
-          found_is = found d k g ws built found_law barred draws (Taken e) a x is;
-          taken = subst (IsLeafTaken k ws a.answer.dropped (values_in x) d.now) (sym (ap (λ (f : Drafted). f.now) (same_taken e (at_test d ends.0) ends.2))) ends.1;
-        }
-        go answers.NoneFits is ends = absurd (cc ends)
-        go answers.Spent is ends = absurd (cc ends)
-
-    pub turn_made : (e : Drafted) → IsDone d k ws draws (Taken e) → IsTurn e.now
-    turn_made e done = go done.fetch done.goes_on
-      where
-        go : (s : Solved) → GoesOn d k ws draws s (Taken e) → IsTurn e.now
-        go (answers.Found x) a = answer_made e (answered d k g ws built draws (values_in x) (Taken e) a)
-        go answers.NoneFits is = absurd (cc is)
-        go answers.Spent is = absurd (cc is)
+pub answer_made : AnswersAreFound → LeavesWithoutDataBarIt → LeavesBarSatp → (d : Drafted) (k : ℕ) (g : IsGround d k) (ws : List Wish) (built : IsBuilt d.template k ws) (draws : List ℕ) (e : Drafted) → IsAnswered d k ws draws (Taken e) → IsTurn d k ws draws e.now
+answer_made found_law bar barred d k g ws built draws e a = go a.answer.solved refl a.ends
+  where
+    go : (s : Solved) → a.answer.solved ≡ s → EndsAs d k ws a.answer.dropped s (Taken e) → IsTurn d k ws draws e.now
+    go (answers.Found x) is ends = record {
+      walk = a.walk;
+      pa = a.pa;
+      fetched = a.leads;
+      answer = a.answer;
+      is = a.is;
+      values = x;
+      found = is;
+      found_is = found d k g ws built found_law bar barred draws (Taken e) a x is;
+      taken = subst (IsLeafTaken k ws a.answer.dropped (values_in x) d.now) (sym (ap (λ (f : Drafted). f.now) (same_taken e (at_test d ends.0) ends.2))) ends.1;
+    }
+    go answers.NoneFits is ends = absurd (cc ends)
+    go answers.Spent is ends = absurd (cc ends)
 
 -- ---- what it did
 
-module _ (met_are_true : MetAreTrue) (are_fetched : StepsAreFetched) (words_are_two : NewWordsAreTwo) (d : Drafted) (k : ℕ) (ws : List Wish) (ground : IsGround d k) (built : IsBuilt k (length d.template.names) ws) (draws : List ℕ) (after : Whole)
-    (turn : IsTurn d k ground ws built draws after) where
+module _ (met_are_true : MetAreTrue) (are_fetched : StepsAreFetched) (words_are_two : NewWordsAreTwo) (d : Drafted) (k : ℕ) (ws : List Wish) (ground : IsGround d k) (built : IsBuilt d.template k ws) (draws : List ℕ) (after : Whole)
+    (turn : IsTurn d k ws draws after) where
   abbrev old : Whole
   old = d.now
 
   abbrev t : Turn
   t = turn_of d (mandatory_of ws) k
 
-  abbrev pc : ℕ
-  pc = (hart_of k d.now).pc
+  abbrev pa : ℕ
+  pa = turn.pa
 
   abbrev x : Values
   x = values_in turn.values
@@ -221,27 +217,30 @@ module _ (met_are_true : MetAreTrue) (are_fetched : StepsAreFetched) (words_are_
   dropped_to harts few small = (
     map (listed_as k (length (records_of k old)) ws) turn.answer.dropped,
     dropped_after,
-    listed_between harts k (length (records_of k old)) ws few small built.short t pc draws d.nodes (mandatory_of ws) (record { atoms = turn.is.0; dropped = turn.answer.dropped }) turn.is.1,
+    listed_between harts k (length (records_of k old)) ws few small built.short t pa draws d.nodes (mandatory_of ws) (record { atoms = turn.is.0; dropped = turn.answer.dropped }) turn.is.1,
   )
 
   -- the fetched word and that of the data access alone are new
 
   few_words : words_in es ≤ 2
-  few_words = two_words k turn.found_is.pa two.other es old ground.test ground.hart aligned two.aligned l.taken.places.can (λ a u h. two.either a u (sym (l.taken.places.listed (Word a)) ∙ h))
+  few_words = two_words k pa two.other es old ground.test ground.hart aligned two.aligned l.taken.places.can (λ a u h. two.either a u (sym (l.taken.places.listed (Word a)) ∙ h))
     where
-      aligned : turn.found_is.pa % 4 ≡ 0
-      aligned = offset_kept _ _ _ _ _ turn.found_is.walk turn.found_is.pa turn.found_is.fetched.translates ∙ turn.found_is.fetched.aligned
+      aligned : turn.pa % 4 ≡ 0
+      aligned = offset_kept _ _ _ _ _ turn.found_is.walk turn.pa turn.found_is.fetched.translates ∙ turn.found_is.fetched.aligned
 
-      two : AreTwoWords (new_at k old x) turn.found_is.pa
-      two = words_are_two (turn_at turn.found_is.setting turn.found_is.feet k old) turn.found_is.walk turn.found_is.pa turn.found_is.leaf (new_at k old x) turn.found_is.fetched turn.found_is.plain turn.found_is.candidate
+      two : AreTwoWords (new_at k old x) turn.pa
+      two = words_are_two (turn_at turn.found_is.setting turn.found_is.feet k old) turn.found_is.walk turn.pa turn.found_is.leaf (new_at k old x) turn.found_is.fetched turn.found_is.candidate turn.found_is.plain
+
+  pub few_new : length after.words ≤ length old.words + 2
+  few_new = steps.words_after k ws turn.answer.dropped x old after ground.test ground.hart ground.words l few_words
 
   -- the candidate
 
   abbrev atoms_kept : List Atom
   atoms_kept = turn.is.0
 
-  least : IsTurnAnswer t pc atoms_kept draws d.nodes (answers.Found turn.values)
-  least = subst (IsTurnAnswer t pc atoms_kept draws d.nodes) turn.found turn.is.2
+  least : IsTurnAnswer t pa atoms_kept draws d.nodes (answers.Found turn.values)
+  least = subst (IsTurnAnswer t pa atoms_kept draws d.nodes) turn.found turn.is.2
 
   abbrev cand : IsCandidate t atoms_kept (new_at k old x)
   cand = least.1.is
@@ -286,7 +285,7 @@ module _ (met_are_true : MetAreTrue) (are_fetched : StepsAreFetched) (words_are_
   ]
 
   was_fetched : is_unfetched l.done.outcome ≡ false
-  was_fetched = ap (λ (r : Record). is_unfetched r.outcome) (sym done_is) ∙ are_fetched t [] pc atoms_kept (new_at k old x) turn.fetched cand
+  was_fetched = ap (λ (r : Record). is_unfetched r.outcome) (sym done_is) ∙ are_fetched t turn.walk pa atoms_kept (new_at k old x) turn.fetched cand
 
   -- what the leaf asks for is true
 
@@ -349,7 +348,7 @@ module _ (met_are_true : MetAreTrue) (are_fetched : StepsAreFetched) (words_are_
         judged : (b1 : Bool) → is_listed turn.answer.dropped b ≡ b1 → w.prefer ≡ true → (holds w.atom m || is_excused dropped k (length (records_of k old)) n w) ≡ true
         judged true listed prefer =
             or_second (holds w.atom m) _ (ap (λ (c : Bool). c && list_any (is_drop k (length (records_of k old)) n) dropped) prefer ∙ from_end (bias_listed k (length (records_of k old)) ws turn.answer.dropped w n b at prefer listed))
-        judged false listed prefer = elim (wish_judged t pc draws d.nodes ws 0 0 _ _ turn.is.1 w n b at prefer) [
+        judged false listed prefer = elim (wish_judged t pa draws d.nodes ws 0 0 _ _ turn.is.1 w n b at prefer) [
           | inl was ↦ absurd (cc (sym listed ∙ was))
           | inr has_atom ↦ or_first (holds w.atom m) _ (kept_true w n b at (ap (λ (c : Bool). w.prefer && c) listed ∙ and_none w.prefer) has_atom)
         ]
@@ -358,7 +357,7 @@ module _ (met_are_true : MetAreTrue) (are_fetched : StepsAreFetched) (words_are_
         go true is = judged (is_listed turn.answer.dropped b) refl is
         go false is =
             or_first (holds w.atom m) _
-            (kept_true w n b at (ap (λ (c : Bool). c && is_listed turn.answer.dropped b) is) (atoms_stay t pc draws d.nodes 0 (biases_of ws) _ _ turn.is.1 w.atom (mandatory_has ws w n b at is)))
+            (kept_true w n b at (ap (λ (c : Bool). c && is_listed turn.answer.dropped b) is) (atoms_stay t pa draws d.nodes 0 (biases_of ws) _ _ turn.is.1 w.atom (mandatory_has ws w n b at is)))
 
     retired : unretired m ws ≡ []
     retired = go (list_any fixes_outcome ws) refl
@@ -366,7 +365,7 @@ module _ (met_are_true : MetAreTrue) (are_fetched : StepsAreFetched) (words_are_
         go : (b : Bool) → list_any fixes_outcome ws ≡ b → (if list_any fixes_outcome ws || outcome_in l.done.outcome == 255 then [] else numbered (length ws) ∷ []) ≡ []
         go true is = ap (λ (c : Bool). if c || outcome_in l.done.outcome == 255 then [] else numbered (length ws) ∷ []) is
         go false is =
-            let has_atom : HasItem atoms_kept retires = atoms_stay t pc draws d.nodes 0 (biases_of ws) _ _ turn.is.1 retires (mandatory_retires ws is) in
+            let has_atom : HasItem atoms_kept retires = atoms_stay t pa draws d.nodes 0 (biases_of ws) _ _ turn.is.1 retires (mandatory_retires ws is) in
             let met : is_met t m0 retires ≡ true = met_of t m0 atoms_kept retires cand.is.meets.atoms has_atom in
             let here : (outcome_in l.done.outcome == 255) ≡ true = only_one 255 (outcome_in l.done.outcome) (ap (λ (r : Record). is_in (255 ∷ []) (outcome_in r.outcome)) (sym done_is) ∙ met) in
             ap (λ (c : Bool). if c || outcome_in l.done.outcome == 255 then [] else numbered (length ws) ∷ []) is
@@ -382,11 +381,11 @@ module _ (met_are_true : MetAreTrue) (are_fetched : StepsAreFetched) (words_are_
   wish_met w n b at kept = met_of t m0 atoms_kept w.atom cand.is.meets.atoms (go w.prefer refl kept)
     where
       go : (p : Bool) → w.prefer ≡ p → (p && is_listed turn.answer.dropped b) ≡ false → HasItem atoms_kept w.atom
-      go true is h = elim (wish_judged t pc draws d.nodes ws 0 0 _ _ turn.is.1 w n b at is) [
+      go true is h = elim (wish_judged t pa draws d.nodes ws 0 0 _ _ turn.is.1 w n b at is) [
         | inl was ↦ absurd (cc (sym was ∙ h))
         | inr has_atom ↦ has_atom
       ]
-      go false is h = atoms_stay t pc draws d.nodes 0 (biases_of ws) _ _ turn.is.1 w.atom (mandatory_has ws w n b at is)
+      go false is h = atoms_stay t pa draws d.nodes 0 (biases_of ws) _ _ turn.is.1 w.atom (mandatory_has ws w n b at is)
 
   name_value : (n v : ℕ) → slice_index_or after.names n None ≡ Some v → (slice_index_or old.names n None ≡ Some v) ⊎ ((v < 2 ^ 32) × (is_in (t.sets n) v ≡ true))
   name_value n v h = elim (name_was (λ u. value_of u (moment_at k x l.done old)) turn.answer.dropped ws 0 0 old.names n v (ap (λ (ns : List (Option ℕ)). slice_index_or ns n None) (sym names_after) ∙ h)) [

@@ -1,15 +1,14 @@
 pub mod Touching
-pub mod Fetching
 pub mod Names
 pub mod Drops
 pub mod Elsewhere
 pub mod Takes
-pub mod Turning
-pub mod Standing
 pub mod Settling
 pub mod FirstWords
 pub mod Readiness
 pub mod Drafting
+pub mod Behind
+pub mod Turning
 pub mod Staying
 pub mod Agreeing
 pub mod Ending
@@ -22,6 +21,7 @@ pub mod BoundNames
 pub mod Judged
 pub mod Filled
 pub mod LeafDone
+pub mod Earlier
 pub mod Laying
 pub mod NamesAhead
 pub mod Paths

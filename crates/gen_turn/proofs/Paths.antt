@@ -1,5 +1,5 @@
 -- The path of a walk that is finished: the pieces that it went through, and the tests between them.
-use Rattle.std.proofs.Common.{◌≡◌, ℕ, zero, suc, ◌+◌, ◌<◌, List, [], ◌∷◌, ◌++◌, append_assoc, append-nil, drop, take, length, Some, refl, sym, ap, ◌∙◌, subst, arith}
+use Rattle.std.proofs.Common.{◌≡◌, ℕ, zero, suc, ◌+◌, ◌<◌, true, List, [], ◌∷◌, ◌++◌, append_assoc, append-nil, drop, take, length, Some, refl, sym, ap, ◌∙◌, subst, arith}
 use Rattle.std.specs.Prelude.{Vec}
 use Rattle.std.specs.Global.{Global}
 use Rattle.std.specs.List.{slice_get}
@@ -14,8 +14,9 @@ use Rattle.part_state.specs.Meaning.{IsTest}
 use Rattle.part_state.specs.State.{data_of, whole}
 use Rattle.part_state.proofs.States.{whole_again}
 use Rattle.leaf_link.specs.Admitted.{MetAreTrue, StepsAreFetched}
+use Rattle.leaf_link.specs.FetchPlacing.{FaultWordsAreTwo, FaultsAreUnfetched, FetchWordsAreTwo}
 use Rattle.leaf_link.specs.Placing.{NewWordsAreTwo}
-use Rattle.leaf_turn.specs.Built.{BuiltLeavesBarSatp}
+use Rattle.leaf_turn.specs.Built.{LeavesBarSatp, LeavesWithoutDataBarIt}
 use Rattle.leaf_turn.specs.Finding.{AnswersAreFound}
 use Rattle.leaf_turn.specs.Grounds.{declared_set}
 use Rattle.gen_search.specs.declared.draws.Tally.{Tally}
@@ -31,7 +32,8 @@ use Rattle.gen_turn.specs.Rules.{Shown, can_be_taken, draft_of, draft_rules, tur
 use Rattle.gen_turn.specs.Turns.{IsDone, IsTurnedTo, with_name, with_names}
 use Rattle.gen_turn.proofs.Laying.{AreWays, IsWay, LaidOut, Tagged, laid_choice, laid_fault, laid_label, laid_leaf, laid_out, laid_repeat, laid_seq}
 use Rattle.gen_turn.proofs.FaultDone.{IsFaultDone, fault_done}
-use Rattle.gen_turn.proofs.LeafDone.{IsLeafDone, leaf_done, turn_made}
+use Rattle.gen_turn.proofs.Earlier.{turn_done}
+use Rattle.gen_turn.proofs.LeafDone.{IsLeafDone}
 use Rattle.gen_turn.proofs.Names.{many_with_name}
 use Rattle.gen_turn.proofs.NamesAhead.{AreInOrder, AreNamedAhead, choice_ahead, fault_ahead, label_ahead, leaf_ahead, repeat_ahead, seq_ahead}
 use Rattle.gen_turn.proofs.Ending.{StartIsKept, turned_keeps}
@@ -128,10 +130,15 @@ EndsInWay t all k todo s (GaveUp u) = Unit {0}
 one_piece : (p : Tagged) (l : LaidOut) (ps : List Tagged) → l ≡ record { pieces = ps; left = Some [] } → ◌≡◌ {A = LaidOut} (record { pieces = p ∷ l.pieces; left = l.left }) (record { pieces = p ∷ ps; left = Some [] })
 one_piece p l ps h = ap (λ (m : LaidOut). record { pieces = p ∷ m.pieces; left = m.left }) h
 
-module _ (met_are_true : MetAreTrue) (are_fetched : StepsAreFetched) (words_are_two : NewWordsAreTwo) (found_law : AnswersAreFound) (barred : BuiltLeavesBarSatp) (still : StillAllows can_be_taken draft_rules) (t : Template) (turns : ℕ) where
-  done_by : (s : Shown) (k : ℕ) (ws : Vec Wish Global) (can : IsGround (draft_of s) k × IsBuilt k (length s.template.names) ws.items) (e : Drafted) (draws : List ℕ) → IsDone (draft_of s) k ws.items draws (Taken e) → IsLeafDone (sets_of s.template) k ws.items (whole s.now) e.now
-  done_by s k ws can e draws is =
-      leaf_done met_are_true are_fetched words_are_two (draft_of s) k ws.items can.0 can.1 draws e.now (turn_made (draft_of s) k can.0 ws.items can.1 draws found_law barred e is)
+-- what is used of the new words of a fetch, and of one that fails
+pub record EntriesAreByPlaces : Type 0 where
+  pub fetch_words : FetchWordsAreTwo
+  pub fault_words : FaultWordsAreTwo
+  pub unfetched : FaultsAreUnfetched
+
+module _ (met_are_true : MetAreTrue) (are_fetched : StepsAreFetched) (words_are_two : NewWordsAreTwo) (entries : EntriesAreByPlaces) (found_law : AnswersAreFound) (bar : LeavesWithoutDataBarIt) (barred : LeavesBarSatp) (still : StillAllows can_be_taken draft_rules) (t : Template) (turns : ℕ) where
+  done_by : (s : Shown) (k : ℕ) (ws : Vec Wish Global) (can : IsGround (draft_of s) k × IsBuilt s.template k ws.items) (e : Drafted) (draws : List ℕ) → IsDone (draft_of s) k ws.items draws (Taken e) → IsLeafDone (sets_of s.template) k ws.items (whole s.now) e.now
+  done_by s k ws can e draws is = turn_done met_are_true are_fetched words_are_two entries.fetch_words found_law bar barred (draft_of s) k ws.items can.0 can.1 draws e is
 
   -- behind a turn that is taken is the test that it made
   taken_is : (next : Shown) (e : Drafted) → Taken next ≡ turn_shown (Taken e) → IsTest e.now → whole next.now ≡ e.now
@@ -162,7 +169,7 @@ module _ (met_are_true : MetAreTrue) (are_fetched : StepsAreFetched) (words_are_
     where
       go : (r : Turned Drafted) → IsTurnedTo (draft_of s) k (items.FetchFault line causes) draws r → Taken next ≡ turn_shown r → IsPath t ((k, items.FetchFault line causes) ∷ todo) s last
       go (Taken e) is same =
-          let done : IsFaultDone (sets_of t) k causes (whole s.now) e.now = fault_done (draft_of s) k can causes draws (sets_of t) e is in
+          let done : IsFaultDone (sets_of t) k causes (whole s.now) e.now = fault_done entries.unfetched entries.fault_words (draft_of s) k can causes draws (sets_of t) e is in
           let now_is : whole next.now ≡ e.now = taken_is next e same done.step.test in
           record {
             choices = p.choices;
@@ -180,7 +187,7 @@ module _ (met_are_true : MetAreTrue) (are_fetched : StepsAreFetched) (words_are_
   label_path : (k name : ℕ) (todo : List (ℕ × Item)) (s last : Shown) → can_be_taken s k (items.Label name) → IsPath t todo (draft_rules.label k name s) last → IsPath t ((k, items.Label name) ∷ todo) s last
   label_path k name todo s last can p =
       let now_is : whole (data_of (labelled k name (whole s.now))) ≡ labelled k name (whole s.now) =
-      whole_again (labelled k name (whole s.now)) ((named_ground _ (whole s.now) (many_with_name name (Some (hart_of k (whole s.now)).pc) s.now.names)).test can.0.test) in
+      whole_again (labelled k name (whole s.now)) ((named_ground true _ (whole s.now) (many_with_name name (Some (hart_of k (whole s.now)).pc) s.now.names)).test can.0.test) in
       record {
         choices = p.choices;
         ps = (k, pieces.Label name) ∷ p.ps;
@@ -195,7 +202,7 @@ module _ (met_are_true : MetAreTrue) (are_fetched : StepsAreFetched) (words_are_
   choice_path : (k line : ℕ) (ways : Vec (ℕ × Vec Item Global) Global) (todo : List (ℕ × Item)) (s last : Shown) (x : ℕ × Vec Item Global) → IsTest (whole s.now)
       → IsWay ways.items x → IsPath t (of_hart k x.1.items ++ todo) (draft_rules.way x.0 s) last → IsPath t ((k, views.Choose line ways) ∷ todo) s last
   choice_path k line ways todo s last x test way p =
-      let now_is : whole (data_of (chosen x.0 (whole s.now))) ≡ chosen x.0 (whole s.now) = whole_again (chosen x.0 (whole s.now)) ((chosen_ground x.0 (whole s.now)).test test) in
+      let now_is : whole (data_of (chosen x.0 (whole s.now))) ≡ chosen x.0 (whole s.now) = whole_again (chosen x.0 (whole s.now)) ((chosen_ground true x.0 (whole s.now)).test test) in
       record {
         choices = x.0 ∷ p.choices;
         ps = p.ps;
@@ -223,7 +230,7 @@ module _ (met_are_true : MetAreTrue) (are_fetched : StepsAreFetched) (words_are_
   leaf_test k line item s next draws (fault _ causes) can gives = go gives.0 gives.1 gives.2
     where
       go : (r : Turned Drafted) → IsTurnedTo (draft_of s) k (items.FetchFault line causes) draws r → Taken next ≡ turn_shown r → IsTest (whole next.now)
-      go (Taken e) is same = let done = fault_done (draft_of s) k can causes draws (sets_of s.template) e is in subst IsTest (sym (taken_is next e same done.step.test)) done.step.test
+      go (Taken e) is same = let done = fault_done entries.unfetched entries.fault_words (draft_of s) k can causes draws (sets_of s.template) e is in subst IsTest (sym (taken_is next e same done.step.test)) done.step.test
       go NoneFits is same = absurd (cc same)
       go Spent is same = absurd (cc same)
 
@@ -243,7 +250,7 @@ module _ (met_are_true : MetAreTrue) (are_fetched : StepsAreFetched) (words_are_
   label_carried : (k name : ℕ) (todo : List (ℕ × Item)) (s : Shown) → IsCarried ((k, items.Label name) ∷ todo) s → IsCarried todo (draft_rules.label k name s)
   label_carried k name todo s c =
       let can : can_be_taken s k (items.Label name) = first_label (can_be_taken s) k name todo c.ready in
-      let new : IsTest (labelled k name (whole s.now)) = (named_ground _ (whole s.now) (many_with_name name (Some (hart_of k (whole s.now)).pc) s.now.names)).test c.test in
+      let new : IsTest (labelled k name (whole s.now)) = (named_ground true _ (whole s.now) (many_with_name name (Some (hart_of k (whole s.now)).pc) s.now.names)).test c.test in
       record {
         ready = ready_still Shown can_be_taken s (draft_rules.label k name s) (still.label k name s can) todo c.ready.1;
         test = subst IsTest (sym (whole_again (labelled k name (whole s.now)) new)) new;
@@ -252,7 +259,7 @@ module _ (met_are_true : MetAreTrue) (are_fetched : StepsAreFetched) (words_are_
 
   way_carried : (k n : ℕ) (body : Vec Item Global) (todo : List (ℕ × Item)) (s : Shown) → AreAllowed (can_be_taken s) k (parts_of_body body.items) → IsCarried todo s → IsCarried (of_hart k body.items ++ todo) (draft_rules.way n s)
   way_carried k n body todo s allowed c =
-      let new : IsTest (chosen n (whole s.now)) = (chosen_ground n (whole s.now)).test c.test in
+      let new : IsTest (chosen n (whole s.now)) = (chosen_ground true n (whole s.now)).test c.test in
       record {
         ready = ready_still Shown can_be_taken s (draft_rules.way n s) (still.way n s) (of_hart k body.items ++ todo) (body_before (can_be_taken s) k body todo allowed c.ready);
         test = subst IsTest (sym (whole_again (chosen n (whole s.now)) new)) new;

@@ -29,7 +29,7 @@ use Rattle.gen_turn.specs.Drafts.{Drafted, at_test, drafted}
 use Rattle.gen_turn.specs.Generating.{Comes, IsGenerated, IsOfTest}
 use Rattle.gen_turn.specs.Laws.{SearchesHaveOneResult, TextsTellWhatIsBuilt, TextsTellWhatIsMade, retold}
 use Rattle.gen_turn.specs.Rules.{Shown, draft_of, draft_rules, shown, turn_shown}
-use Rattle.gen_turn.specs.Turns.{EndsAs, GoesOn, IsDone, IsFailed, IsTurnedTo}
+use Rattle.gen_turn.specs.Turns.{EndsAs, GoesOn, IsAnswered, IsDone, IsFailed, IsTurnedTo}
 use Rattle.gen_turn.proofs.BuiltLines.{built_alike}
 use Rattle.gen_turn.proofs.OneGenerated.{done_or_not, one_last, one_result, one_tally}
 
@@ -75,17 +75,18 @@ module _ (hs : List HartDecl) where
   ends_moved d k ws dropped answers.NoneFits r ends = ap moved_turn ends
   ends_moved d k ws dropped answers.Spent r ends = ap moved_turn ends
 
-  goes_moved : (d : Drafted) (k : ℕ) (ws : List Wish) (draws : List ℕ) (fetch : Solved) (r : Turned Drafted) → GoesOn d k ws draws fetch r → GoesOn (moved_draft d) k ws draws fetch (moved_turn r)
-  goes_moved d k ws draws (answers.Found x) r behind = record {
-    fetched = behind.fetched;
-    placed = behind.placed;
-    walk = behind.walk;
-    pa = behind.pa;
-    leads = behind.leads;
-    answer = behind.answer;
-    is = behind.is;
-    ends = ends_moved (at_test d behind.fetched) k ws behind.answer.dropped behind.answer.solved r behind.ends;
+  answered_moved : (d : Drafted) (k : ℕ) (ws : List Wish) (draws : List ℕ) (r : Turned Drafted) → IsAnswered d k ws draws r → IsAnswered (moved_draft d) k ws draws (moved_turn r)
+  answered_moved d k ws draws r answered = record {
+    walk = answered.walk;
+    pa = answered.pa;
+    leads = answered.leads;
+    answer = answered.answer;
+    is = answered.is;
+    ends = ends_moved d k ws answered.answer.dropped answered.answer.solved r answered.ends;
   }
+
+  goes_moved : (d : Drafted) (k : ℕ) (ws : List Wish) (draws : List ℕ) (fetch : Solved) (r : Turned Drafted) → GoesOn d k ws draws fetch r → GoesOn (moved_draft d) k ws draws fetch (moved_turn r)
+  goes_moved d k ws draws (answers.Found x) r behind = record { fetched = behind.fetched; placed = behind.placed; test = behind.test; words = behind.words; answered = answered_moved (at_test d behind.fetched) k ws draws r behind.answered }
   goes_moved d k ws draws answers.NoneFits r ends = ap moved_turn ends
   goes_moved d k ws draws answers.Spent r ends = ap moved_turn ends
 

@@ -68,7 +68,7 @@ pub record IsStepDone (sets : ℕ → List ℕ) (k : ℕ) (ws : List Wish) (old 
   pub values : (n v : ℕ) → slice_index_or after.names n None ≡ Some v → (slice_index_or old.names n None ≡ Some v) ⊎ ((v < 2 ^ 32) × (is_in (sets n) v ≡ true))
   pub listed : (test : Dropped → Bool) → list_any test old.dropped ≡ true → list_any test after.dropped ≡ true
   pub dropped : AreListedBehind k old after.dropped
-  pub words : length after.words ≤ length old.words + 2
+  pub words : length after.words ≤ length old.words + 4
   pub start : IsStartOn (partial_of old) (partial_of after)
   -- admission follows the registers
   pub filled : (end : Partial) (regs : List (Option ℕ)) → IsStartOn (partial_of after) end → IsFilled (partial_of old) k (end.start k).places regs → IsFilled (partial_of after) k (end.start k).places (written record_is.rd regs)
@@ -185,7 +185,7 @@ module _ (k : ℕ) (ws : List Wish) (dropped : List (ℕ × Bool)) (x : Values) 
       ∙ ap (λ (r : Record). slice_set given.traces k (records_of k given ++ r ∷ [])) (sym record_given)
       ∙ ap (λ (ts : List (List Record)). slice_set ts k (slice_index_or ts k [] ++ l.done ∷ [])) beside_given.traces
 
-  words_after : words_in es ≤ 2 → length after.words ≤ length old.words + 2
+  pub words_after : words_in es ≤ 2 → length after.words ≤ length old.words + 2
   words_after few =
       let all : length after.words ≡ length old.words + words_in es =
       ap (λ (w : Whole). length w.words) l.is ∙ ap (λ (w : Whole). length w.words) l.taken.now ∙ ap (λ (w : Whole). length w.words) l.taken.places.now ∙ words_given k es old in
@@ -224,7 +224,7 @@ module _ (k : ℕ) (ws : List Wish) (dropped : List (ℕ × Bool)) (x : Values) 
       (subst (λ (p : Partial). IsFilled p k (end.start k).places (written change.rd regs)) (sym part_after)
       (step_filled k (accesses_in log) change (partial_of given) (end.start k).places regs sound (filled_given end regs (start_then (partial_of given) (partial_of after) end start_step on) filled)))
 
-  -- two words at most are new, the names that are bound have values of their sets, and the biases that are listed are of this step
+  -- two words at most are new behind those of its fetch, the names that are bound have values of their sets, and the biases that are listed are of this step
   pub step_done : (sets : ℕ → List ℕ) → words_in es ≤ 2 → ((n v : ℕ) → slice_index_or after.names n None ≡ Some v → (slice_index_or old.names n None ≡ Some v) ⊎ ((v < 2 ^ 32) × (is_in (sets n) v ≡ true)))
       → AreListedBehind k old after.dropped → IsStepDone sets k ws old after
   step_done sets few values dropped_to = record {
@@ -245,7 +245,7 @@ module _ (k : ℕ) (ws : List Wish) (dropped : List (ℕ × Bool)) (x : Values) 
     values = values;
     listed = λ test h. ap (list_any test) dropped_after ∙ any_first test old.dropped _ h;
     dropped = dropped_to;
-    words = words_after few;
+    words = (let h = words_after few in omega (arith, h));
     start = start_after;
     filled = filled_after;
   }

@@ -1,9 +1,10 @@
--- How many words a start gives: each step starts two at most.
+-- How many words a start gives: each step starts two at most, and so does its fetch.
 use Rattle.std.proofs.Common.{◌≡◌, ℕ, ◌+◌, ◌*◌, ◌/◌, ◌%◌, ◌<◌, ◌≤◌, ◌⊎◌, Bool, true, false, eqb, if◌then◌else◌, List, [], ◌∷◌, ◌++◌, length, Option, Some, None, refl, sym, ap, ◌∙◌, subst, inl, inr, arith}
 use Rattle.std.specs.Option.{is_some, option_or}
 use Rattle.std.proofs.lemmas.Bool.{cases_eq, eq-eqb, eqb-true, ne_eqb}
 use Rattle.rv_script.specs.declared.place.Place.{Place}
 use Rattle.rv_script.specs.declared.place.Place.TheVariants.{Reg, Csr, Word}
+use Rattle.rv_script.specs.Bytes.{word_address}
 use Rattle.rv_script.specs.Logs.{same_place}
 use Rattle.rv_script.proofs.Plays.{same_is}
 use Rattle.part_told.specs.Words.{AreListed as AreWordsListed, ListsWords}
@@ -36,6 +37,9 @@ words_one k (Word addr) v w = length_last w.words (addr / 4, v)
 pub words_given : (k : ℕ) (es : List (Place × ℕ)) (w : Whole) → length (all_given k es w).words ≡ length w.words + words_in es
 words_given k [] w = omega arith
 words_given k (e ∷ es) w = let one = words_one k e.0 e.1 w in let rest = words_given k es (place_given k e.0 e.1 w) in omega (arith, one, rest)
+
+pub aligned_word : (addr : ℕ) → word_address addr % 4 ≡ 0
+aligned_word addr = omega arith
 
 -- ---- a word that is known isn't given again
 

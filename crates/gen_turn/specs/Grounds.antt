@@ -1,9 +1,10 @@
 -- Which leaves and labels this build can take.
-use Rattle.std.specs.Prelude.{◌≡◌, ℕ, nat_eq, ◌%◌, ◌^◌, ◌<◌, ◌≤◌, true, List, length}
+use Rattle.std.specs.Prelude.{◌≡◌, ℕ, Bool, ◌%◌, ◌^◌, ◌<◌, ◌≤◌, true, List, length}
 use Rattle.std.specs.List.{AllByRecursion, list_all}
 use Rattle.rv_csr.specs.declared.access.CsrAccess.{CsrAccess}
 use Rattle.tpl_ast.specs.declared.template.Item.{Item}
 use Rattle.tpl_ast.specs.declared.template.Item.TheVariants as items
+use Rattle.tpl_ast.specs.declared.template.Template.{Template}
 use Rattle.tpl_ast.specs.declared.template.Wish.{Wish}
 use Rattle.tpl_ast.specs.Leaves.{IsPlain, NamedOnce, atoms_of, is_name_below}
 use Rattle.tpl_ast.specs.Limits.{most_atoms}
@@ -12,10 +13,11 @@ use Rattle.part_state.specs.Meaning.{IsTest}
 use Rattle.leaf_link.specs.Values.{fixed_value}
 use Rattle.leaf_link.specs.Ways.{AreWords}
 use Rattle.data_bytes.specs.Frames.{AreFrames}
-use Rattle.leaf_turn.specs.Built.{are_built}
-use Rattle.leaf_turn.specs.Grounds.{IsUntranslated}
+use Rattle.leaf_turn.specs.Built.{bars_satp, lets_data}
+use Rattle.leaf_turn.specs.Grounds.{HasFewForms, IsUntranslated}
 use Rattle.turn_laws.specs.Ahead.{AreVectors}
 use Rattle.turn_laws.specs.Given.{known_at}
+use Rattle.gen_turn.specs.Bodies.{is_plain}
 use Rattle.gen_turn.specs.Drafts.{Drafted}
 
 -- what is known of hart k and of memory is words, and so are the hart's CSRs that are always known; its pc is a multiple of 4
@@ -24,37 +26,40 @@ pub record IsOfWords (k : ℕ) (w : Whole) : Type 0 where
   pub known : AreWords (known_at k w)
   pub fixed : (access : CsrAccess) → fixed_value (fixed_in (hart_of k w) w.memory) access < 2 ^ 32
 
--- a hart of a test of the template, whose addresses are not translated
+-- a hart of a test of the template. Where the template is plain, satp is 0
 pub record IsGround (d : Drafted) (k : ℕ) : Type 0 where
   pub hart : k < length d.now.harts
   pub few : k < 2 ^ 8
   pub names : length d.now.names ≡ length d.template.names
   pub few_names : length d.template.names < 2 ^ 32
   pub frames : AreFrames d.template.pool
+  pub forms : HasFewForms d.template
   pub vectors : AreVectors d.template.vectors
-  pub untranslated : IsUntranslated k d.now
+  pub untranslated : is_plain d.template ≡ true → IsUntranslated k d.now
   pub test : IsTest d.now
   pub words : IsOfWords k d.now
 
--- a leaf's atoms are those of a leaf of the template, and bar accesses to satp, and loads and stores but of the first hart
-pub record IsBuilt (k names : ℕ) (ws : List Wish) : Type 0 where
+-- a leaf's atoms are those of a leaf of the template. They let loads and stores through in the first hart alone, and where no address is translated; and there they bar accesses
+-- to satp
+pub record IsBuilt (t : Template) (k : ℕ) (ws : List Wish) : Type 0 where
   pub plain : AllByRecursion IsPlain (atoms_of ws)
-  pub built : are_built (nat_eq k 0) ws ≡ true
-  pub below : list_all (is_name_below names) (atoms_of ws) ≡ true
+  pub loads : lets_data ws ≡ true → (is_plain t ≡ true) × (k ≡ 0)
+  pub satp : is_plain t ≡ true → bars_satp ws ≡ true
+  pub below : list_all (is_name_below (length t.names)) (atoms_of ws) ≡ true
   pub short : length ws ≤ most_atoms
   pub once : NamedOnce (atoms_of ws)
 
 -- a leaf or a label that can be taken
 abbrev pub CanTake : Drafted → ℕ → Item → Type 0
-CanTake d k (items.Leaf line ws) = IsGround d k × IsBuilt k (length d.template.names) ws.items
+CanTake d k (items.Leaf line ws) = IsGround d k × IsBuilt d.template k ws.items
 CanTake d k (items.FetchFault line causes) = IsGround d k
 CanTake d k (items.Label name) = IsGround d k × (name < length d.template.names)
 CanTake d k _ = ⊥
 
--- as many harts and names, and what is translated stays; it is still a test, and what is known is still words
-pub record IsSameGround (old new : Whole) : Type 0 where
+-- as many harts and names, and where that is asked (`keeps`), what is translated stays; it is still a test, and what is known is still words
+pub record IsSameGround (keeps : Bool) (old new : Whole) : Type 0 where
   pub harts : length new.harts ≡ length old.harts
   pub names : length new.names ≡ length old.names
-  pub satp : (k : ℕ) → (hart_of k new).csrs.satp ≡ (hart_of k old).csrs.satp
+  pub satp : keeps ≡ true → (k : ℕ) → (hart_of k new).csrs.satp ≡ (hart_of k old).csrs.satp
   pub test : IsTest old → IsTest new
   pub words : (k : ℕ) → IsOfWords k old → IsOfWords k new

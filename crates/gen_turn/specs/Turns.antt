@@ -2,8 +2,7 @@
 use Rattle.std.specs.Prelude.{◌≡◌, ℕ, ◌+◌, ◌==◌, ◌&&◌, Bool, List, [], ◌∷◌, ◌++◌, map, length, Option, Some, None, is_some, slice_index, slice_index_or, slice_set, take, if◌then◌else◌}
 use Rattle.std.specs.List.{list_any}
 use Rattle.dom_set.specs.Elements.{is_in}
-use Rattle.rv_script.specs.declared.place.Place.{Place}
-use Rattle.rv_script.specs.Folds.{Entry, Known}
+use Rattle.rv_script.specs.Folds.{Entry}
 use Rattle.rv_script.specs.Logs.{enlarged}
 use Rattle.rv_hart.specs.declared.record.Record.{Record}
 use Rattle.rv_hart.specs.Clauses.{IsFitRecord}
@@ -28,8 +27,8 @@ use Rattle.leaf_link.specs.Fetches.{fetch_places}
 use Rattle.leaf_link.specs.FetchAnswers.{IsFaultAnswer, IsFetchAnswer}
 use Rattle.leaf_link.specs.Values.{Values}
 use Rattle.leaf_link.specs.Ways.{IsFetched}
-use Rattle.turn_laws.specs.Given.{AreListed, CanGive, all_given, known_at}
-use Rattle.leaf_turn.specs.Answers.{AreAsked, IsTakenBy, new_at}
+use Rattle.turn_laws.specs.Given.{known_at}
+use Rattle.leaf_turn.specs.Answers.{ArePlaced, IsTakenBy, new_at}
 use Rattle.leaf_turn.specs.Wishes.{biases_of, mandatory_of}
 use Rattle.gen_search.specs.Search.{Turned, Turned.Taken, Turned.NoneFits, Turned.Spent}
 use Rattle.gen_turn.specs.Drafts.{Drafted, at_test, turn_of}
@@ -88,14 +87,6 @@ with_all_dropped more w = record w { dropped = w.dropped ++ more }
 
 -- ---- what is taken
 
--- the places that an answer starts were given their values, in the order in which the next step asks for them
-pub record ArePlaced (k : ℕ) (new : Known) (old now : Whole) : Type 0 where
-  pub places : List (Place × ℕ)
-  pub can : CanGive k places old
-  pub listed : AreListed places new
-  pub asked : AreAsked k new places old
-  pub is : now ≡ all_given k places old
-
 -- a step of an answer as admission sees it: its record, and the registers before it, those that it starts among them
 abbrev pub moment_at : ℕ → Values → Record → Whole → Moment
 moment_at k x done w = record {
@@ -125,16 +116,22 @@ EndsAs d k ws dropped answers.Spent r = r ≡ Spent
 
 -- ---- a `do` leaf
 
--- the new entries of a fetch were started, and then the leaf was answered where the pc leads
+-- the leaf was answered where the pc leads, by entries that are known
+pub record IsAnswered (d : Drafted) (k : ℕ) (ws : List Wish) (draws : List ℕ) (r : Turned Drafted) : Type 0 where
+  pub walk : List Entry
+  pub pa : ℕ
+  pub leads : IsFetched (turn_of d (mandatory_of ws) k) walk pa
+  pub answer : LeafAnswer
+  pub is : IsTurnLeafAnswer (turn_of d (mandatory_of ws) k) pa (mandatory_of ws) (biases_of ws) draws d.nodes answer
+  pub ends : EndsAs d k ws answer.dropped answer.solved r
+
+-- the new entries of a fetch were started, which left a test whose known places are words, and then the leaf was answered
 pub record IsAnsweredBehind (d : Drafted) (k : ℕ) (ws : List Wish) (draws : List ℕ) (x : Values) (r : Turned Drafted) : Type 0 where
   pub fetched : Whole
   pub placed : ArePlaced k (fetch_places (turn_of d (mandatory_of ws) k) x) d.now fetched
-  pub walk : List Entry
-  pub pa : ℕ
-  pub leads : IsFetched (turn_of (at_test d fetched) (mandatory_of ws) k) walk pa
-  pub answer : LeafAnswer
-  pub is : IsTurnLeafAnswer (turn_of (at_test d fetched) (mandatory_of ws) k) pa (mandatory_of ws) (biases_of ws) draws d.nodes answer
-  pub ends : EndsAs (at_test d fetched) k ws answer.dropped answer.solved r
+  pub test : IsTest fetched
+  pub words : IsOfWords k fetched
+  pub answered : IsAnswered (at_test d fetched) k ws draws r
 
 abbrev pub GoesOn : Drafted → ℕ → List Wish → List ℕ → Solved → Turned Drafted → Type 0
 GoesOn d k ws draws (answers.Found x) r = IsAnsweredBehind d k ws draws (values_in x) r

@@ -1,87 +1,120 @@
 // The templates that this build takes.
 ghost use Rattle.std.specs.Prelude.{◌≡◌, ◌==◌, ◌&&◌, true, false};
-ghost use Rattle.gen_turn.specs.Built.{BuiltTemplatesAreReady, are_harts_built, are_ways_built, is_body_built, is_item_built, is_template_built};
+ghost use Rattle.gen_turn.specs.Bodies.{are_harts_dataless, are_harts_plain, body_keeps, is_plain, item_keeps, keeps_rule, ways_keep};
+ghost use Rattle.gen_turn.specs.Built.{BuiltTemplatesAreReady, is_template_built};
 
-use leaf_turn::are_built;
-use tpl_ast::{HartDecl, Item, Template, leaf_law, template_law};
+use leaf_turn::{bars_satp, lets_data};
+use tpl_ast::{HartDecl, Item, Template, Wish, leaf_law, template_law};
 
-/// Whether each leaf of a body is built.
+/// What the atoms of each leaf of a body keep to.
+#[derive(Clone, Copy)]
+pub enum Rule {
+    /// They bar accesses to satp, and loads and stores too unless this is true, as it is of the first hart.
+    Plain(bool),
+    /// They let no load or store through.
+    NoData,
+}
+
+/// Whether the atoms of a leaf keep to a rule.
+fn keeps_rule(rule: Rule, wishes: &[Wish]) -> bool
+    ensures { result ≡ keeps_rule rule wishes.now }
+{
+    match rule {
+        Rule::Plain(alone) => bars_satp(wishes) && (alone || !lets_data(wishes)),
+        Rule::NoData => !lets_data(wishes),
+    }
+}
+
+/// Whether each leaf of a body keeps to a rule.
 #[cycle(built)]
-fn is_body_built(alone: bool, items: &[Item]) -> bool
-    ensures { result ≡ is_body_built alone items.now }
+fn body_keeps(rule: Rule, items: &[Item]) -> bool
+    ensures { result ≡ body_keeps rule items.now }
 {
     for item in items {
-        if !is_item_built(alone, item) {
+        if !item_keeps(rule, item) {
             return false;
         }
     }
     true
 }
 
-/// Whether each leaf of the alternatives of a choice is built.
+/// Whether each leaf of the alternatives of a choice does.
 #[cycle(built)]
-fn are_ways_built(alone: bool, ways: &[(u32, Vec<Item>)]) -> bool
-    ensures { result ≡ are_ways_built alone ways.now }
+fn ways_keep(rule: Rule, ways: &[(u32, Vec<Item>)]) -> bool
+    ensures { result ≡ ways_keep rule ways.now }
 {
     for way in ways {
-        if !is_body_built(alone, &way.1) {
+        if !body_keeps(rule, &way.1) {
             return false;
         }
     }
     true
 }
 
-/// Whether each leaf of an item is built.
+/// Whether each leaf of an item does.
 #[cycle(built)]
-fn is_item_built(alone: bool, item: &Item) -> bool
-    ensures { result ≡ is_item_built alone item.now }
+fn item_keeps(rule: Rule, item: &Item) -> bool
+    ensures { result ≡ item_keeps rule item.now }
 {
     match item {
-        Item::Leaf { line: _, wishes } => are_built(alone, wishes),
+        Item::Leaf { line: _, wishes } => keeps_rule(rule, wishes),
         Item::FetchFault { line: _, causes: _ } => true,
-        Item::Seq(body) => is_body_built(alone, body),
-        Item::Repeat { times: _, body } => is_body_built(alone, body),
-        Item::Choose { line: _, ways } => are_ways_built(alone, ways),
+        Item::Seq(body) => body_keeps(rule, body),
+        Item::Repeat { times: _, body } => body_keeps(rule, body),
+        Item::Choose { line: _, ways } => ways_keep(rule, ways),
         Item::Label { name: _ } => true,
     }
 }
 
-/// Whether satp is 0 where a hart starts, and each leaf of its body is built; `alone` says that the hart is the first.
-fn is_hart_built(alone: bool, hart: &HartDecl) -> bool
-    ensures { result ≡ ((hart.now.start.satp == 0) && is_body_built alone hart.now.body.items) }
+/// Whether satp is 0 where a hart starts, and each leaf of its body bars accesses to it, and loads and stores unless the hart
+/// is the first (`alone`).
+fn is_hart_plain(alone: bool, hart: &HartDecl) -> bool
+    ensures { result ≡ ((hart.now.start.satp == 0) && body_keeps (Rule.Plain alone) hart.now.body.items) }
 {
-    hart.start.satp == 0 && is_body_built(alone, &hart.body)
+    hart.start.satp == 0 && body_keeps(Rule::Plain(alone), &hart.body)
 }
 
-/// Whether each of the harts behind the first is built.
-fn are_others_built(harts: &[HartDecl]) -> bool
-    ensures { result ≡ are_harts_built false harts.now }
+/// Whether so it is with each of the harts behind the first.
+fn are_others_plain(harts: &[HartDecl]) -> bool
+    ensures { result ≡ are_harts_plain false harts.now }
 {
     for hart in harts {
-        if !is_hart_built(false, hart) {
+        if !is_hart_plain(false, hart) {
             return false;
         }
     }
     true
 }
 
-/// Whether each of the harts is built.
-fn are_harts_built(harts: &[HartDecl]) -> bool
-    ensures { result ≡ are_harts_built true harts.now }
+/// Whether no address of a template's harts is translated, by what their leaves bar.
+fn is_plain(t: &Template) -> bool
+    ensures { result ≡ is_plain t.now }
 {
-    match harts {
+    match t.harts.as_slice() {
         [] => true,
-        [first, others @ ..] => is_hart_built(true, first) && are_others_built(others),
+        [first, others @ ..] => is_hart_plain(true, first) && are_others_plain(others),
     }
 }
 
-/// Whether this build takes a template: no hart starts with satp other than 0, and the atoms of each of its `do` leaves bar
-/// all CSR instructions or that their CSR is satp, and in harts behind the first loads and stores. So no address is
-/// translated later.
+/// Whether no leaf of the harts lets a load or store through.
+fn are_harts_dataless(harts: &[HartDecl]) -> bool
+    ensures { result ≡ are_harts_dataless harts.now }
+{
+    for hart in harts {
+        if !body_keeps(Rule::NoData, &hart.body) {
+            return false;
+        }
+    }
+    true
+}
+
+/// Whether this build takes a template: either no hart starts with satp other than 0, the atoms of each `do` leaf bar all
+/// CSR instructions or that their CSR is satp, and in harts behind the first loads and stores, so that no address is ever
+/// translated; or they bar all loads and stores.
 pub fn is_template_built(t: &Template) -> bool
     ensures { result ≡ is_template_built t.now }
 {
-    are_harts_built(t.harts.as_slice())
+    is_plain(t) || are_harts_dataless(t.harts.as_slice())
 }
 
 /// Does nothing. Its contract says that all leaves and labels of such a template can be taken on the test that begins as

@@ -7,10 +7,11 @@ use crate::built::built_templates_are_ready;
 use crate::draft::Draft;
 use gen_search::search_laws;
 use leaf_link::{
-    fetches_have_one_answer, met_atoms_are_true, steps_are_fetched, values_are_by_places,
+    entries_are_by_places, fetches_have_one_answer, met_atoms_are_true, steps_are_fetched,
+    values_are_by_places,
 };
 use leaf_turn::{
-    answers_are_found, answers_are_playable, built_leaves_are_posable, takings_are_one,
+    answers_are_found, answers_are_playable, leaves_with_bytes_are_posable, takings_are_one,
 };
 use tpl_ast::template_law;
 use turn_laws::given_places_are_known;
@@ -26,7 +27,7 @@ pub fn turns_have_one_answer()
     given_places_are_known();
     answers_are_found();
     answers_are_playable();
-    built_leaves_are_posable();
+    leaves_with_bytes_are_posable();
     takings_are_one();
 }
 
@@ -72,6 +73,7 @@ pub fn done_tests_are_certified()
     met_atoms_are_true();
     steps_are_fetched();
     values_are_by_places();
+    entries_are_by_places();
     answers_are_found();
-    built_leaves_are_posable();
+    leaves_with_bytes_are_posable();
 }

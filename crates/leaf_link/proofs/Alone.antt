@@ -1,5 +1,6 @@
 -- A step that reads a CSR takes no trap.
-use Rattle.std.proofs.Common.{◌≡◌, ℕ, if◌then◌else◌, ◌+◌, ◌%◌, ◌^◌, Bool, true, false, eqb, Option, ◌⊎◌, inl, inr, refl, ap, ◌∙◌}
+use Rattle.std.proofs.Common.{◌≡◌, ℕ, if◌then◌else◌, ◌+◌, ◌%◌, ◌^◌, ◌||◌, Bool, true, false, eqb, Option, ◌⊎◌, inl, inr, refl, ap, ◌∙◌}
+use Rattle.std.proofs.lemmas.Bool.{cases_Bool}
 use Rattle.rv_isa.specs.declared.instruction.Instr.{Instr}
 use Rattle.rv_isa.specs.declared.table.Row.{Row}
 use Rattle.rv_isa.specs.declared.table.Row.TheVariants.{R, I, Shift, S, B, U, J, Csr as CsrRow, CsrImmediate, FenceSets, AddressFence, Fixed as Whole, DefinedIllegal}
@@ -23,7 +24,8 @@ use Rattle.rv_hart.specs.Fixed.{Fixed}
 use Rattle.rv_hart.specs.Machine.{arriving, at_address, data_view, fence_row, jump_row, jumped, load_at, load_from, reached, store_at, store_to, upper_pc_row, upper_row}
 use Rattle.rv_hart.specs.Privileged.{address_fence_row, csr_accessed, csr_exchanged, csr_granted, csr_immediate_row, is_withheld, mret_row, old_value, reads_csr, sret_row, trap, write_csr, writes_csr}
 use Rattle.rv_hart.specs.Rests.{after_access, csr_access, rest}
-use Rattle.leaf_link.specs.Values.{field_of_operand, fixed_value, has_csr_operand, unasked_csr}
+use Rattle.leaf_link.specs.Values.{field_of_operand, fixed_value, has_address, has_csr_operand, unasked_csr}
+use Rattle.leaf_link.proofs.NewWords.{store_address}
 
 -- the old value of a CSR is asked for
 abbrev pub is_old : Label → Type 0
@@ -147,15 +149,17 @@ sret_alone : (f : Fixed) (word : ℕ) (i : Instr) → unasked_csr f i ≡ 0 → 
 unfolding sret_row
 sret_alone f word i none = if_alone f i (is_withheld Tsr f) _ _ (record { is = inr (trap_later f word _ word, none) }) (record { is = inl (tt, λ v. tt) })
 
-pub rest_alone : (row : Row) (f : Fixed) (word : ℕ) (i : Instr) (a b : ℕ) → row_of i.op ≡ row → is_translated (data_view f) ≡ false → IsAlone f i (rest row f word i a b)
+pub rest_alone : (row : Row) (f : Fixed) (word : ℕ) (i : Instr) (a b : ℕ) → row_of i.op ≡ row → (has_address row ≡ true → is_translated (data_view f) ≡ false) → IsAlone f i (rest row f word i a b)
 unfolding upper_row upper_pc_row jump_row fence_row csr_immediate_row address_fence_row
 rest_alone (R opcode funct3 funct7) f word i a b is plain = record { is = inl tt }
 rest_alone (Shift opcode funct3 funct7) f word i a b is plain = record { is = inl tt }
 rest_alone (I opcode funct3) f word i a b is plain =
     let none = none_unasked f i (I opcode funct3) is refl in
-    let loads = load_later f word i ((a + i.imm) % 2 ^ 32) plain in
-    record { is = inr (search (if_later, loads, jumped_later, tt), none) }
-rest_alone (S opcode funct3) f word i a b is plain = record { is = inr (store_later f word i _ b plain, none_unasked f i (S opcode funct3) is refl) }
+    elim (cases_Bool (eqb opcode 0x03)) [
+      | inl load ↦ let loads = load_later f word i ((a + i.imm) % 2 ^ 32) (plain (ap (λ (c : Bool). c || false) load)) in record { is = inr (search (if_later, loads, jumped_later, tt), none) }
+      | inr other ↦ rw other (record { is = inr (search (if_later, jumped_later, tt), none) })
+    ]
+rest_alone (S opcode funct3) f word i a b is plain = record { is = inr (store_later f word i _ b (plain (store_address i.op opcode funct3 is)), none_unasked f i (S opcode funct3) is refl) }
 rest_alone (B opcode funct3) f word i a b is plain = record { is = inr (search (if_later, jumped_later, tt), none_unasked f i (B opcode funct3) is refl) }
 rest_alone (CsrRow opcode funct3) f word i a b is plain = access_alone f word i (csr_access f i) a (λ denied. none_unasked f i (CsrRow opcode funct3) is (denied_none f i (csr_access f i) denied))
 rest_alone (U opcode) f word i a b is plain = record { is = inr (search (if_later, tt), none_unasked f i (U opcode) is refl) }

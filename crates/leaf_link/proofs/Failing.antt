@@ -32,7 +32,7 @@ reads t tell change pa second h n =
     absurd (cc z)
 
 -- where no word is fetched, what is asked is of the walk and the vector
-fault_numbers : (t : Turn) (tell : Teller) (log : List Entry) (change : Change) → answer_told tell (script t.fixed) ≡ Does log change → labelled log Fetched ≡ None → (e : Entry) → HasItem log e → (question_number e.question < 2) ⊎ (9 ≤ question_number e.question)
+pub fault_numbers : (t : Turn) (tell : Teller) (log : List Entry) (change : Change) → answer_told tell (script t.fixed) ≡ Does log change → labelled log Fetched ≡ None → (e : Entry) → HasItem log e → (question_number e.question < 2) ⊎ (9 ≤ question_number e.question)
 unfolding script at_address
 fault_numbers t tell log change plays none e i =
     let parts = then_done (fetch_script t) (arriving t.fixed 0 t.fixed.pc (fetched_at t.fixed)) tell log change plays in
@@ -58,7 +58,7 @@ fault_of t causes x g =
       meets = g.meets;
     }
 
-given_fault : (t : Turn) (log : List Entry) (l : Label) (e : Entry) → labelled log l ≡ Some e → t.known (entry_place e) ≡ None → (label_number l < 2) ⊎ (9 ≤ label_number l) → given_by (fault_values t log) l ≡ e.value
+pub given_fault : (t : Turn) (log : List Entry) (l : Label) (e : Entry) → labelled log l ≡ Some e → t.known (entry_place e) ≡ None → (label_number l < 2) ⊎ (9 ≤ label_number l) → given_by (fault_values t log) l ≡ e.value
 given_fault t log FetchRoot e one h at = ap (λ (o : Option Entry). new_value t.known o) one ∙ ap (λ (o : Option ℕ). if_new o e.value) h
 given_fault t log FetchSecond e one h at = ap (λ (o : Option Entry). new_value t.known o) one ∙ ap (λ (o : Option ℕ). if_new o e.value) h
 given_fault t log FromVector e one h at = ap (λ (o : Option Entry). new_value t.known o) one ∙ ap (λ (o : Option ℕ). if_new o e.value) h

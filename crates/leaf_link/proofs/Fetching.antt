@@ -31,7 +31,7 @@ candidate_of t x g =
       meets = g.meets;
     }
 
-given_fetch : (t : Turn) (log : List Entry) (l : Label) (e : Entry) → labelled log l ≡ Some e → t.known (entry_place e) ≡ None → label_number l < 2 → given_by (fetch_values t log) l ≡ e.value
+pub given_fetch : (t : Turn) (log : List Entry) (l : Label) (e : Entry) → labelled log l ≡ Some e → t.known (entry_place e) ≡ None → label_number l < 2 → given_by (fetch_values t log) l ≡ e.value
 given_fetch t log FetchRoot e one h early = ap (λ (o : Option Entry). new_value t.known o) one ∙ ap (λ (o : Option ℕ). if_new o e.value) h
 given_fetch t log FetchSecond e one h early = ap (λ (o : Option Entry). new_value t.known o) one ∙ ap (λ (o : Option ℕ). if_new o e.value) h
 given_fetch t log Fetched e one h early = absurd (omega (arith, early))

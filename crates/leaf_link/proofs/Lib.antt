@@ -54,3 +54,5 @@ mod SatpKept
 pub mod NewWords
 mod Unfailing
 mod OfOperations
+mod EntryPlaces
+mod AllRows

@@ -1,4 +1,4 @@
--- The values of a candidate's new places, for all operations where no data access is translated.
+-- The values of a candidate's new places, for all operations where no data access of the step is translated.
 use Rattle.std.proofs.Common.{◌≡◌, ℕ, if◌then◌else◌, ◌≤◌, Bool, true, false, eqb, List, [], ◌∷◌, Option, Some, None, refl, sym, ap, ◌∙◌, subst, inl, inr, arith}
 use Rattle.std.proofs.lemmas.Bool.{cases_Bool, eqb-true, eq-eqb}
 use Rattle.rv_isa.specs.declared.instruction.Instr.{Instr}
@@ -13,8 +13,6 @@ use Rattle.rv_script.specs.Logs.{by_answers, entry_place, entry_label, is_word, 
 use Rattle.rv_script.specs.Script.{Label, Label.FetchRoot, Label.FetchSecond, Label.Fetched, Label.FromRs1, Label.FromRs2, Label.FromCsr, Label.DataRoot, Label.DataSecond, Label.DataWord, Label.FromVector, Question, Question.OfRegister, Question.OfCsr, Question.OfMemory, Question.ToMemory, place_of}
 use Rattle.rv_script.specs.Folds.{Entry, Known}
 use Rattle.rv_script.specs.Bytes.{word_address}
-use Rattle.rv_hart.specs.Machine.{data_view}
-use Rattle.sv_walk.specs.Translation.{is_translated}
 use Rattle.tpl_ast.specs.declared.template.Atom.{Atom}
 use Rattle.fd_prob.specs.declared.slot.Slot.TheVariants as slots
 use Rattle.leaf_link.specs.Turns.{Turn}
@@ -23,7 +21,7 @@ use Rattle.leaf_link.specs.Candidates.{IsCandidate}
 use Rattle.leaf_link.specs.Cases.{fetch_entry}
 use Rattle.leaf_link.specs.Ways.{IsFetched}
 use Rattle.leaf_link.specs.Problems.{key_of}
-use Rattle.leaf_link.specs.Placing.{PlacesHaveValues, place_value}
+use Rattle.leaf_link.specs.Placing.{AccessesArePlain, PlacesHaveValues, place_value}
 use Rattle.leaf_link.proofs.Links.{instr_assigned}
 use Rattle.leaf_link.proofs.Front.{a_entry, asks_a, asks_b, b_entry, front_log, has_either, has_only, has_second, later_has, only, only_has, pa_aligned, rest_of, told_a, told_b, walk_known, word_place}
 use Rattle.leaf_link.proofs.Law.{rest_label}
@@ -146,9 +144,9 @@ later_value_at known x pa (OfRegister l n) v h none told zero apart = absurd h
 
 -- ---- entries
 
-located_entry : (t : Turn) (walk : List Entry) (pa : ℕ) (leaf : List Atom) (new : Known) → IsFetched t walk pa → is_translated (data_view t.fixed) ≡ false → (w : IsCandidate t leaf new)
+located_entry : (t : Turn) (walk : List Entry) (pa : ℕ) (leaf : List Atom) (new : Known) → IsFetched t walk pa → (w : IsCandidate t leaf new) → AccessesArePlain t w.instr
     → (e : Entry) → HasItem w.log e → t.known (entry_place e) ≡ None → e.value ≡ place_value (key_of t leaf new w) pa (entry_place e)
-located_entry t walk pa leaf new f plain w e i none =
+located_entry t walk pa leaf new f w plain e i none =
     let x : Values = key_of t leaf new w in
     let op : Op = w.instr.op in
     let p = in_parts_of t walk pa leaf new f w in
@@ -227,7 +225,7 @@ located_entry t walk pa leaf new f plain w e i none =
         ]
 
 pub places_have_values : PlacesHaveValues
-places_have_values t walk pa leaf new f plain w place v h =
+places_have_values t walk pa leaf new f w plain place v h =
     let n = new_found t.known new w.log place v (w.is.exact place) h in
     let e = found_in w.log place v n.1 in
-    sym e.is ∙ located_entry t walk pa leaf new f plain w e.entry e.among (ap t.known e.at ∙ n.0) ∙ ap (λ (q : Place). place_value (key_of t leaf new w) pa q) e.at
+    sym e.is ∙ located_entry t walk pa leaf new f w plain e.entry e.among (ap t.known e.at ∙ n.0) ∙ ap (λ (q : Place). place_value (key_of t leaf new w) pa q) e.at

@@ -44,7 +44,7 @@ use Rattle.leaf_link.specs.Candidates.{IsCandidate}
 use Rattle.leaf_link.specs.Cases.{fetch_entry}
 use Rattle.leaf_link.specs.Ways.{IsFetched}
 use Rattle.leaf_link.specs.Problems.{key_of}
-use Rattle.leaf_link.specs.Placing.{NewWordsAreTwo}
+use Rattle.leaf_link.specs.Placing.{AccessesArePlain, NewWordsAreTwo}
 use Rattle.leaf_link.proofs.Links.{instr_assigned}
 use Rattle.leaf_link.proofs.Front.{a_entry, asks_a, asks_b, b_entry, front_log, has_either, has_only, only, pa_aligned, rest_of, told_a, told_b, walk_known, word_place}
 use Rattle.leaf_link.proofs.Placing.{asked_by, found_in, in_parts_of, new_found}
@@ -117,6 +117,10 @@ store_rows _ = refl
 no_store : (op : Op) (opcode funct3 : ℕ) → row_of op ≡ S opcode funct3 → has_address (S opcode funct3) ≡ false → ⊥
 no_store op opcode funct3 is none = (let store : true ≡ is_store (S opcode funct3) = ap is_store_format (sym is) ∙ store_rows op ∙ ap is_store is in absurd (cc (store ∙ none)))
 
+-- a row of that format is one of a store, which makes a data access
+pub store_address : (op : Op) (opcode funct3 : ℕ) → row_of op ≡ S opcode funct3 → has_address (S opcode funct3) ≡ true
+store_address op opcode funct3 is = sym (ap is_store_format (sym is) ∙ store_rows op ∙ ap is_store is)
+
 no_load : (b c : Bool) → (b || c) ≡ false → b ≡ false
 no_load true c h = absurd (cc)
 no_load false c h = refl
@@ -141,7 +145,7 @@ rest_csrs (Whole bits) f word i a b is none =
     (if_csrs (eqb bits 0x1020_0073) _ _ (sret_csrs f word) tt)))
 rest_csrs DefinedIllegal f word i a b is none = trap_csrs f word _ word
 
--- ---- with a data access that is not translated
+-- ---- with a data access, which is not translated
 
 -- a question of a CSR, or of memory at an address
 abbrev IsAside : ℕ → Question → Type 0
@@ -188,24 +192,28 @@ store_aside : (f : Fixed) (word : ℕ) (i : Instr) (value ea : ℕ) → Asks (Is
 unfolding store_at
 store_aside f word i value ea = (refl, λ v. tt)
 
-rest_aside : (row : Row) (f : Fixed) (word : ℕ) (i : Instr) (a b : ℕ) → row_of i.op ≡ row → is_translated (data_view f) ≡ false → Asks (IsAside ((a + i.imm) % 2 ^ 32)) (rest row f word i a b)
+or_right : (b c : Bool) → c ≡ true → (b || c) ≡ true
+or_right true c h = refl
+or_right false c h = h
+
+rest_aside : (row : Row) (f : Fixed) (word : ℕ) (i : Instr) (a b : ℕ) → row_of i.op ≡ row → (has_address row ≡ true → is_translated (data_view f) ≡ false) → Asks (IsAside ((a + i.imm) % 2 ^ 32)) (rest row f word i a b)
 rest_aside row f word i a b is plain = elim (cases_Bool (is_load row)) [
   | inl load ↦
       subst (λ (s : Script Change). Asks (IsAside ((a + i.imm) % 2 ^ 32)) s) (sym (load_rest row load f word i a b))
-      (reached_aside f word ForLoad ((a + i.imm) % 2 ^ 32) (size_of i.op) LoadMisaligned (load_at f word i) plain (load_aside f word i ((a + i.imm) % 2 ^ 32)))
+      (reached_aside f word ForLoad ((a + i.imm) % 2 ^ 32) (size_of i.op) LoadMisaligned (load_at f word i) (plain (ap (λ (c : Bool). c || is_store row) load)) (load_aside f word i ((a + i.imm) % 2 ^ 32)))
   | inr other ↦ elim (cases_Bool (is_store row)) [
     | inl store ↦
         subst (λ (s : Script Change). Asks (IsAside ((a + i.imm) % 2 ^ 32)) s) (sym (store_rest row store f word i a b))
-        (reached_aside f word ForStore ((a + i.imm) % 2 ^ 32) (size_of i.op) StoreMisaligned (store_at f word i b) plain (store_aside f word i b ((a + i.imm) % 2 ^ 32)))
+        (reached_aside f word ForStore ((a + i.imm) % 2 ^ 32) (size_of i.op) StoreMisaligned (store_at f word i b) (plain (or_right (is_load row) (is_store row) store)) (store_aside f word i b ((a + i.imm) % 2 ^ 32)))
     | inr none ↦ asks_aside _ _ (rest_csrs row f word i a b is (ap (λ (c : Bool). c || is_store row) other ∙ none))
   ]
 ]
 
 -- ---- entries
 
-word_of_entry : (t : Turn) (walk : List Entry) (pa : ℕ) (leaf : List Atom) (new : Known) → IsFetched t walk pa → is_translated (data_view t.fixed) ≡ false → (w : IsCandidate t leaf new)
+word_of_entry : (t : Turn) (walk : List Entry) (pa : ℕ) (leaf : List Atom) (new : Known) → IsFetched t walk pa → (w : IsCandidate t leaf new) → AccessesArePlain t w.instr
     → (e : Entry) → HasItem w.log e → t.known (entry_place e) ≡ None → (addr : ℕ) → entry_place e ≡ Word addr → (addr ≡ pa) ⊎ (addr ≡ word_address ((told_a t w.instr.op (key_of t leaf new w) + w.instr.imm) % 2 ^ 32))
-word_of_entry t walk pa leaf new f plain w e i none addr at =
+word_of_entry t walk pa leaf new f w plain e i none addr at =
     let x : Values = key_of t leaf new w in
     let op : Op = w.instr.op in
     let p = in_parts_of t walk pa leaf new f w in
@@ -245,13 +253,13 @@ word_of_entry t walk pa leaf new f plain w e i none addr at =
     beside (ToMemory a size value) ea h at = same_word (sym at) ∙ ap word_address h
 
 pub new_words_are_two : NewWordsAreTwo
-new_words_are_two t walk pa leaf new f plain w = record {
+new_words_are_two t walk pa leaf new f w plain = record {
   other = word_address ((told_a t w.instr.op (key_of t leaf new w) + w.instr.imm) % 2 ^ 32);
   aligned = aligned ((told_a t w.instr.op (key_of t leaf new w) + w.instr.imm) % 2 ^ 32);
   either = λ addr v h.
       let n = new_found t.known new w.log (Word addr) v (w.is.exact (Word addr)) h in
       let e = found_in w.log (Word addr) v n.1 in
-      word_of_entry t walk pa leaf new f plain w e.entry e.among (ap t.known e.at ∙ n.0) addr e.at;
+      word_of_entry t walk pa leaf new f w plain e.entry e.among (ap t.known e.at ∙ n.0) addr e.at;
 }
   where
     aligned : (n : ℕ) → word_address n % 4 ≡ 0

@@ -44,7 +44,7 @@ second_rule t view ForLoad i place v = ap (λ (n : ℕ). nat_lt v (2 ^ 32) && (i
 second_rule t view ForStore i place v = ap (λ (n : ℕ). nat_lt v (2 ^ 32) && (in_frames t.tables n && is_second_form t v)) (same_address place)
 
 -- any instruction, since entries are the same for all
-abbrev some_instr : Instr
+abbrev pub some_instr : Instr
 some_instr = record { op = Lw; rd = 0; rs1 = 0; rs2 = 0; imm = 0; csr = 0 }
 
 pub entries_are_let : EntriesAreLet

@@ -75,7 +75,7 @@ module _ (P : Reached → Type 0) (ram : ℕ → Bool) (v : View) (kind : Kind) 
       (if_ends P (is_pointer entry) inner leaf (if_ends P (is_reserved entry) Outside (from_pointer ram v kind va entry) tt (pointer_ends entry))
       (if_ends P (is_unaligned entry || is_closed v kind entry) fault (Done end) page (arrived_is (entry / 2 ^ 20 * 2 ^ 22 + va % 2 ^ 22))))
 
-  translated_ends : Ends P (translated ram v kind va)
+  pub translated_ends : Ends P (translated ram v kind va)
   unfolding translated
   translated_ends =
       let fault : Script Reached = Done (Fails (access_cause kind)) in

@@ -30,3 +30,5 @@ pub mod Bounds
 pub mod BiasWitness
 pub mod FetchWitness
 pub mod Placing
+pub mod FetchPlacing
+pub mod RowsExist

@@ -1,5 +1,5 @@
--- Which of a candidate's values each of its new places has, told from the place alone where data accesses are not translated; and what its step keeps.
-use Rattle.std.specs.Prelude.{◌≡◌, ℕ, ◌%◌, ◌<◌, ◌⊎◌, Bool, false, ◌&&◌, nat_eq, if◌then◌else◌, List, Some}
+-- Which of a candidate's values each of its new places has, told from the place alone where a data access of its step is not translated; and what its step keeps.
+use Rattle.std.specs.Prelude.{◌≡◌, ℕ, ◌%◌, ◌<◌, ◌⊎◌, Bool, true, false, ◌&&◌, nat_eq, if◌then◌else◌, List, Some}
 use Rattle.rv_isa.specs.declared.instruction.Instr.{Instr}
 use Rattle.rv_isa.specs.Encoding.{Fits, word_of}
 use Rattle.rv_isa.specs.Table.{row_of}
@@ -15,7 +15,7 @@ use Rattle.rv_hart.specs.Machine.{data_view}
 use Rattle.fd_prob.specs.declared.slot.Slot.TheVariants as slots
 use Rattle.tpl_ast.specs.declared.template.Atom.{Atom}
 use Rattle.leaf_link.specs.Turns.{Turn}
-use Rattle.leaf_link.specs.Values.{Values, has_csr_operand, instr_in}
+use Rattle.leaf_link.specs.Values.{Values, has_address, has_csr_operand, instr_in}
 use Rattle.leaf_link.specs.Candidates.{IsCandidate}
 use Rattle.leaf_link.specs.Ways.{IsFetched}
 use Rattle.leaf_link.specs.Problems.{key_of}
@@ -27,9 +27,13 @@ place_value x pa (Word addr) = if nat_eq addr pa then word_of (instr_in x) else 
 place_value x pa (Reg n) = if nat_eq n (x slots.Rs1) then x slots.A else x slots.B
 place_value x pa (Csr addr) = if nat_eq (x slots.Vector) 0 then x slots.OldCsr else x slots.Vector
 
+-- the data access of an instruction that makes one is not translated
+abbrev pub AccessesArePlain : Turn → Instr → Type 0
+AccessesArePlain t i = has_address (row_of i.op) ≡ true → is_translated (data_view t.fixed) ≡ false
+
 abbrev pub PlacesHaveValues : Type 0
 PlacesHaveValues =
-    (t : Turn) (walk : List Entry) (pa : ℕ) (leaf : List Atom) (new : Known) → IsFetched t walk pa → is_translated (data_view t.fixed) ≡ false → (w : IsCandidate t leaf new)
+    (t : Turn) (walk : List Entry) (pa : ℕ) (leaf : List Atom) (new : Known) → IsFetched t walk pa → (w : IsCandidate t leaf new) → AccessesArePlain t w.instr
     → (place : Place) (v : ℕ) → new place ≡ Some v → v ≡ place_value (key_of t leaf new w) pa place
 
 -- the fields fit the operation, whose number is one of the table
@@ -67,12 +71,13 @@ abbrev pub StepsKeepSatp : Type 0
 StepsKeepSatp =
     (t : Turn) (walk : List Entry) (pa : ℕ) (leaf : List Atom) (new : Known) → IsFetched t walk pa → (w : IsCandidate t leaf new) → accesses_satp w.instr ≡ false → KeepsSatp w.change.control
 
--- where data accesses are not translated, each new word is the fetched one or one other
+-- each new word is that at an address, or one other
 pub record AreTwoWords (new : Known) (pa : ℕ) : Type 0 where
   pub other : ℕ
   pub aligned : other % 4 ≡ 0
   pub either : (addr v : ℕ) → new (Word addr) ≡ Some v → (addr ≡ pa) ⊎ (addr ≡ other)
 
+-- a step without a data access, or with one that is not translated, starts the fetched word and one other at most
 abbrev pub NewWordsAreTwo : Type 0
 NewWordsAreTwo =
-    (t : Turn) (walk : List Entry) (pa : ℕ) (leaf : List Atom) (new : Known) → IsFetched t walk pa → is_translated (data_view t.fixed) ≡ false → IsCandidate t leaf new → AreTwoWords new pa
+    (t : Turn) (walk : List Entry) (pa : ℕ) (leaf : List Atom) (new : Known) → IsFetched t walk pa → (w : IsCandidate t leaf new) → AccessesArePlain t w.instr → AreTwoWords new pa

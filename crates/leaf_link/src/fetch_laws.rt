@@ -3,6 +3,7 @@ ghost use Rattle.leaf_link.specs.Agreements.{FaultAnswersAgree, FaultAnswersExis
 ghost use Rattle.leaf_link.specs.FaultRows.{FaultProblemsAreExact};
 ghost use Rattle.leaf_link.specs.Faults.{FaultsAreExact};
 ghost use Rattle.leaf_link.specs.FetchAnswers.{FaultAnswersAreExact, FetchAnswersAreExact, FetchFirstsExist};
+ghost use Rattle.leaf_link.specs.FetchPlacing.{FaultPlacesHaveValues, FaultWordsAreTwo, FaultsAreUnfetched, FaultsKeepSatp, FetchPlacesHaveValues, FetchWordsAreTwo};
 ghost use Rattle.leaf_link.specs.FetchRows.{FetchProblemsAreExact};
 ghost use Rattle.leaf_link.specs.Fetches.{FetchesAreExact};
 
@@ -51,4 +52,16 @@ pub fn fetches_have_one_answer()
     ensures faults { FaultAnswersAgree }
     ensures some_of_fetches { FetchAnswersExist }
     ensures some_of_faults { FaultAnswersExist }
+{}
+
+/// Does nothing. Its contract says that the place alone tells which of the values of a fetch a new place has, of a `do` and
+/// of a `fault` leaf: the word of the root entry, one other word, or the vector; and that no step of a `fault` leaf writes
+/// satp, and each one ends as one whose fetch failed.
+pub fn entries_are_by_places()
+    ensures fetches { FetchPlacesHaveValues }
+    ensures faults { FaultPlacesHaveValues }
+    ensures fetch_words { FetchWordsAreTwo }
+    ensures fault_words { FaultWordsAreTwo }
+    ensures control { FaultsKeepSatp }
+    ensures unfetched { FaultsAreUnfetched }
 {}

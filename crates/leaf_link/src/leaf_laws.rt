@@ -71,9 +71,10 @@ pub fn candidates_are_in_domains()
     ensures old_domains { OldDomainsAreLet }
 {}
 
-/// Does nothing. Its contract says that where data accesses are not translated the place alone tells which of a candidate's
-/// values a new place has, and that these values are those of the candidate's instruction; that no step writes satp but
-/// those of CSR instructions with its address; and that a step starts two words at most, the fetched one and one other.
+/// Does nothing. Its contract says that where a step makes no data access, or one that is not translated, the place alone
+/// tells which of the candidate's values a new place has, and that the step starts two words at most, the fetched one and
+/// one other; that these values are those of the candidate's instruction; and that no step writes satp but those of CSR
+/// instructions with its address.
 pub fn values_are_by_places()
     ensures places { PlacesHaveValues }
     ensures instructions { ValuesAreInstructions }

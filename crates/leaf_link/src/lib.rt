@@ -14,8 +14,8 @@ mod witness_laws;
 
 pub use bias_laws::{biases_are_atoms, biases_are_kept, biases_in_cases, extras_are_biases};
 pub use fetch_laws::{
-    fault_problems_are_exact, faults_are_exact, fetch_answers_are_exact, fetch_firsts_exist,
-    fetch_problems_are_exact, fetches_are_exact, fetches_have_one_answer,
+    entries_are_by_places, fault_problems_are_exact, faults_are_exact, fetch_answers_are_exact,
+    fetch_firsts_exist, fetch_problems_are_exact, fetches_are_exact, fetches_have_one_answer,
 };
 pub use leaf_laws::{
     candidates_are_in_domains, firsts_exist, leaf_problems_are_exact, order_is_kept,
@@ -26,6 +26,6 @@ pub use operation_laws::{
     accesses_are_exact, domains_are_of_operations, operations_are_exact, ways_are_built,
     ways_are_exact,
 };
-pub use row_laws::rows_serve_leaves;
+pub use row_laws::{data_rows_exist, rows_serve_leaves};
 pub use truth_laws::{leaves_are_true, met_atoms_are_true, steps_are_fetched};
 pub use witness_laws::{answers_are_possible, leaves_are_possible, walks_are_possible};

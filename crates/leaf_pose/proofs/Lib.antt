@@ -2,9 +2,10 @@ pub mod Targets
 pub mod Shapes
 pub mod Steps
 pub mod Leading
+pub mod AnyRows
 pub mod Whole
 pub mod Adding
-pub mod Settled
+pub mod Fetching
 pub mod Accesses
 pub mod Accessing
 pub mod Granting

@@ -44,6 +44,7 @@ use Rattle.leaf_pose.specs.Posed.{Adds, AreShaped, IsAllowedCase}
 use Rattle.leaf_stand.specs.Posed.{FitsSame, all_cases, allows, are_posable, has_bytes, is_data, is_posable, is_read_as, reads_as}
 use Rattle.leaf_pose.specs.Problems.{ArePivots, PosesLeaf}
 use Rattle.leaf_stand.specs.Stands.{IsDataOf, IsStandOf, turn_of}
+use Rattle.leaf_pose.proofs.AnyRows.{any_rows}
 use Rattle.leaf_pose.proofs.Leading.{FindsFirst, first_found, none_found}
 use Rattle.leaf_stand.proofs.Lists.{each_domain}
 use Rattle.leaf_stand.proofs.Rows.{built_address}
@@ -187,7 +188,7 @@ firsts_found s t walk pa h leaf cs firsts rest p e are all op = elim (cases_Bool
 
 pub whole_problem : AreGoals → (s : Stand) (leaf : List Atom) (draws pivots : List ℕ) (start firsts end : Shaped) → are_posable s leaf ≡ true → start.cases ≡ [] → ArePivots draws pivots → AddsFirsts s leaf OPS start firsts → Adds s leaf firsts end (all_cases s leaf OPS)
     → PosesLeaf s leaf draws (record { cases = end.cases; pivots = pivots; pairs = s.pairs; fetch = false })
-whole_problem laws s leaf draws pivots start firsts end p n d h k t walk pa is =
+whole_problem laws s leaf draws pivots start firsts end p n d h k t walk pa loads stores is rows =
     let same : FitsSame end.cases (all_cases s leaf OPS) = k.fits [] (h.adds.fits [] (subst (λ (l : List ACase). FitsSame l []) (sym n) none_yet)) in
     let here : end.cases ≡ h.firsts ++ k.rest = start_gone start.cases h.firsts k.rest end.cases n (k.behind ∙ ap (λ (l : List ACase). l ++ k.rest) h.is) in
     record {
@@ -196,7 +197,7 @@ whole_problem laws s leaf draws pivots start firsts end p n d h k t walk pa is =
       pairs = sym is.pairs;
       draws_are = d;
       firsts = firsts_found s t walk pa is leaf end.cases h.firsts k.rest p here h.are (k.allowed (h.adds.allowed (nothing (IsAllowedCase s leaf) start.cases n)));
-      cases = record { same = every_turn laws s t walk pa is leaf OPS end.cases p same };
+      cases = record { same = any_rows s t walk pa is leaf loads stores rows OPS end.cases p (every_turn laws s t walk pa is leaf OPS end.cases p same) };
     }
 
 pub shaped_lengths : (s : Stand) (leaf : List Atom) (shapes : List Shape) (cs : List ACase) → AreShaped s leaf shapes cs → length shapes ≡ length cs

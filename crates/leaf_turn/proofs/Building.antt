@@ -1,7 +1,7 @@
--- Leaves that are built can be posed, and bar accesses to satp.
-use Rattle.std.proofs.Common.{◌≡◌, ℕ, Bool, true, false, not, ◌&&◌, ◌||◌, ◌++◌, if◌then◌else◌, List, [], ◌∷◌, refl, sym, subst, inl, inr}
+-- What the atoms of a leaf let through and bar.
+use Rattle.std.proofs.Common.{◌≡◌, ℕ, Bool, true, false, not, ◌&&◌, ◌||◌, ◌++◌, if◌then◌else◌, List, [], ◌∷◌, refl, sym, ◌∙◌, subst, inl, inr}
 use Rattle.std.specs.List.{list_all, list_any}
-use Rattle.std.proofs.lemmas.Bool.{and_from, and_parts, or_cases, or_left, or_right}
+use Rattle.std.proofs.lemmas.Bool.{and_from, and_parts, or_left, or_right}
 use Rattle.rv_script.specs.Lists.{HasItem}
 use Rattle.rv_isa.specs.declared.operation.Op.{Op}
 use Rattle.rv_isa.specs.declared.operation.TheConstants.{OPS}
@@ -15,13 +15,14 @@ use Rattle.tpl_ast.specs.declared.template.Wish.{Wish}
 use Rattle.tpl_admit.specs.Admitting.{fixes_outcome}
 use Rattle.leaf_link.specs.Turns.{Turn}
 use Rattle.leaf_link.specs.Cases.{all_tests, tests}
-use Rattle.leaf_link.specs.Values.{has_csr_operand}
+use Rattle.leaf_link.specs.Values.{has_address, has_csr_operand}
 use Rattle.leaf_stand.specs.declared.stand.Stand.{Stand}
 use Rattle.leaf_stand.specs.Kinds.{kind_of}
 use Rattle.leaf_stand.specs.Posed.{allows, has_bytes, is_data, is_posable, reads_as}
 use Rattle.leaf_stand.specs.Stands.{turn_of}
+use Rattle.leaf_stand.proofs.Rows.{built_address}
 use Rattle.leaf_pose.proofs.Whole.{every_op}
-use Rattle.leaf_turn.specs.Built.{BuiltLeavesArePosable, BuiltLeavesBarSatp, DataLeavesAreAlone, all_let, is_built, lets, lets_data, may_be_data, may_be_satp}
+use Rattle.leaf_turn.specs.Built.{LeavesBarSatp, LeavesWithBytesArePosable, LeavesWithoutDataBarIt, all_let, bars_satp_by, lets, lets_data, may_be_data}
 use Rattle.leaf_turn.specs.Wishes.{mandatory_of, retires, unbiased}
 use Rattle.leaf_turn.proofs.Each.{every}
 
@@ -74,40 +75,32 @@ all_posable : (ws : List Wish) (st : Stand) → (lets_data ws ≡ true → has_b
 all_posable ws st told [] = refl
 all_posable ws st told (op ∷ ops) = and_from _ _ (one_posable ws st told op) (all_posable ws st told ops)
 
-pub built_leaves_are_posable : BuiltLeavesArePosable
-built_leaves_are_posable ws st told = all_posable ws st told OPS
+pub leaves_are_posable : LeavesWithBytesArePosable
+leaves_are_posable ws st told = all_posable ws st told OPS
 
--- ---- loads and stores are of the first hart
+-- ---- where no load or store is let through
 
-some_at : (test : Op → Bool) (ops : List Op) → list_any test ops ≡ true → (op : Op) × (HasItem ops op × (test op ≡ true))
-some_at test [] h = absurd (cc h)
-some_at test (x ∷ ops) h = elim (or_cases (test x) (list_any test ops) h) [
-  | inl here ↦ (x, (inl refl, here))
-  | inr later ↦ let r = some_at test ops later in (r.0, (inr r.1.0, r.1.1))
-]
+not_both : (is through lets address tested : Bool) → lets ≡ false → ((is && through) ≡ true → lets ≡ true) → (is ≡ false → address ≡ false) → address ≡ true → (tested ≡ true → through ≡ true) → tested ≡ false
+not_both is through lets address false none any plain has met = refl
+not_both true true lets address true none any plain has met = absurd (cc (sym none ∙ any refl))
+not_both true false lets address true none any plain has met = absurd (cc (met refl))
+not_both false through lets address true none any plain has met = absurd (cc (sym (plain refl) ∙ has))
 
-only_alone : (alone is satp through : Bool) → (((alone || not is) && not satp) || not through) ≡ true → (is && through) ≡ true → alone ≡ true
-only_alone true is satp through h k = refl
-only_alone false true satp true h k = absurd (cc h)
-only_alone false true satp false h k = absurd (cc k)
-only_alone false false satp through h k = absurd (cc k)
-
-pub data_leaves_are_alone : DataLeavesAreAlone
-data_leaves_are_alone alone ws h lets =
-    let r = some_at (may_be_data ws) OPS lets in
-    only_alone alone (is_data (kind_of r.0)) (may_be_satp ws r.0) (all_let ws vars.Op (op_number r.0)) (every (is_built alone ws) OPS h r.0 r.1.0) r.1.1
+pub no_data : LeavesWithoutDataBarIt
+no_data ws none t op address =
+    not_both (is_data (kind_of op)) (all_let ws vars.Op (op_number op)) (lets_data ws) (has_address (row_of op)) (all_tests t (mandatory_of ws) vars.Op (op_number op)) none
+    (λ both. any_at (may_be_data ws) OPS op (every_op op) both) (built_address op) address (let_through t ws vars.Op (op_number op))
 
 -- ---- and they bar accesses to satp
 
-barred : (posed operand satp through tested : Bool) → ((posed && not (operand && satp)) || not through) ≡ true → operand ≡ true → through ≡ true → (tested ≡ true → satp ≡ true) → tested ≡ false
-barred posed operand satp through false h is met k = refl
-barred posed false satp through true h is met k = absurd (cc is)
-barred posed true satp false true h is met k = absurd (cc met)
-barred posed true false true true h is met k = absurd (cc (k refl))
-barred true true true true true h is met k = absurd (cc h)
-barred false true true true true h is met k = absurd (cc h)
+barred : (operand satp through tested : Bool) → (not (operand && satp) || not through) ≡ true → operand ≡ true → through ≡ true → (tested ≡ true → satp ≡ true) → tested ≡ false
+barred operand satp through false h is met k = refl
+barred false satp through true h is met k = absurd (cc is)
+barred true satp false true h is met k = absurd (cc met)
+barred true false true true h is met k = absurd (cc (k refl))
+barred true true true true h is met k = absurd (cc h)
 
-pub built_leaves_bar_satp : BuiltLeavesBarSatp
-built_leaves_bar_satp alone ws h t op is through =
-    barred (alone || not (is_data (kind_of op))) (has_csr_operand (row_of op)) (all_let ws vars.Csr 0x180) (all_let ws vars.Op (op_number op)) (all_tests t (mandatory_of ws) vars.Csr 0x180)
-    (every (is_built alone ws) OPS h op (every_op op)) is (let_through t ws vars.Op (op_number op) through) (let_through t ws vars.Csr 0x180)
+pub leaves_bar_satp : LeavesBarSatp
+leaves_bar_satp ws h t op is through =
+    barred (has_csr_operand (row_of op)) (all_let ws vars.Csr 0x180) (all_let ws vars.Op (op_number op)) (all_tests t (mandatory_of ws) vars.Csr 0x180)
+    (every (bars_satp_by ws) OPS h op (every_op op)) is (let_through t ws vars.Op (op_number op) through) (let_through t ws vars.Csr 0x180)

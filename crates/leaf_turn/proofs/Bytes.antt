@@ -1,9 +1,14 @@
 -- What loads and stores may do with the bytes of memory, in the turns of a test.
-use Rattle.std.proofs.Common.{◌≡◌, ℕ, ◌*◌, ◌/◌, ◌%◌, ◌^◌, ◌<◌, Bool, true, not, ◌&&◌, ◌||◌, eqb, leb, List, [], Option, Some, None, length, refl, sym, ap, ◌∙◌, subst, arith}
+use Rattle.std.proofs.Common.{◌≡◌, ℕ, ◌*◌, ◌/◌, ◌%◌, ◌^◌, ◌<◌, Bool, true, false, not, ◌&&◌, ◌||◌, eqb, leb, List, [], Option, Some, None, length, refl, sym, ap, ◌∙◌, subst, arith}
 use Rattle.std.specs.Prelude.{IfSome}
-use Rattle.std.specs.Option.{is_some}
 use Rattle.std.proofs.lemmas.Bool.{and_right}
 use Rattle.rv_script.specs.declared.access.Access.{Access}
+use Rattle.rv_script.specs.Folds.{Entry, by_known}
+use Rattle.sv_walk.specs.declared.entry.Kind.TheVariants.{Fetch as ForFetch}
+use Rattle.sv_walk.specs.Translation.{At, arrived, is_translated}
+use Rattle.rv_hart.specs.Machine.{fetch_view}
+use Rattle.tpl_ast.specs.declared.template.Template.{Template}
+use Rattle.data_goals.proofs.Untranslated.{same_ends}
 use Rattle.rv_script.specs.declared.access.Role.{Role}
 use Rattle.rv_script.specs.declared.access.Role.TheVariants.{Load, Store}
 use Rattle.foot_map.specs.declared.touch.Touch.{Touch}
@@ -18,13 +23,14 @@ use Rattle.data_bytes.specs.Frames.{in_frames}
 use Rattle.data_goals.specs.Rows.{HasBytes}
 use Rattle.leaf_link.specs.Turns.{Turn}
 use Rattle.leaf_link.specs.Cases.{is_some_word}
-use Rattle.leaf_stand.specs.declared.stand.Stand.{Stand}
 use Rattle.leaf_stand.specs.Stands.{IsDataOf}
 use Rattle.tpl_admit.specs.Races.{footprints_of}
 use Rattle.part_machine.specs.Whole.{Whole, hart_of, records_of}
 use Rattle.part_state.specs.Meaning.{IsTest}
 use Rattle.turn_laws.specs.Given.{Setting, turn_at}
-use Rattle.leaf_turn.specs.Grounds.{IsUntranslated}
+use Rattle.leaf_turn.specs.Entering.{Leads}
+use Rattle.leaf_turn.specs.Grounds.{IsDataAt, IsUntranslated}
+use Rattle.leaf_turn.proofs.Untranslated.{plain_fetch}
 
 -- ---- footprints of the same accesses
 
@@ -59,23 +65,22 @@ word_at : (n : ℕ) → n * 4 / 4 ≡ n
 word_at n = omega arith
 
 -- what is told of a test's memory and of its footprints holds of each turn of its hart
-pub turn_has_bytes : (k : ℕ) (w : Whole) (s : Setting) (mem : ℕ → Seen) (own feet : List Touch) (pool : List ℕ) (pc : ℕ) (bytes : DataBytes)
-    → IsTest w → k < length w.harts → IsUntranslated k w → (hart_of k w).pc ≡ pc → pc % 4 ≡ 0 → pc < 2 ^ 32 → ((n : ℕ) → mem n ≡ w.memory n) → s.pool ≡ pool
+pub turn_has_bytes : (k : ℕ) (w : Whole) (s : Setting) (mem : ℕ → Seen) (own feet : List Touch) (pool : List ℕ) (pa : ℕ) (bytes : DataBytes)
+    → IsTest w → k < length w.harts → IsUntranslated k w → pa % 4 ≡ 0 → pa < 2 ^ 32 → ((n : ℕ) → mem n ≡ w.memory n) → s.pool ≡ pool
     → IsFootprint own (footprints_of (λ j. records_of j w)) → IsFootprint feet (footprints_of (λ j. records_of j w))
-    → AreDataBytes mem own k pool pc bytes → HasBytes (turn_at s feet k w) (hart_of k w).pc bytes
-turn_has_bytes k w s mem own feet pool pc bytes test l plain at aligned small same pools f g are =
-    let turn : Turn = turn_at s feet k w in
-    let here : AreDataBytes w.memory feet k pool pc bytes = same_bytes mem w.memory own feet (footprints_of (λ j. records_of j w)) k pool pc bytes same f g are in
-    let numbered : AreDataBytes w.memory feet (hart_of k w).csrs.hart pool pc bytes = subst (λ (n : ℕ). AreDataBytes w.memory feet n pool pc bytes) (sym (test.number k l)) here in
-    subst (λ (n : ℕ). HasBytes turn n bytes) (sym at) (record {
+    → AreDataBytes mem own k pool pa bytes → HasBytes (turn_at s feet k w) pa bytes
+turn_has_bytes k w s mem own feet pool pa bytes test l plain aligned small same pools f g are =
+    let here : AreDataBytes w.memory feet k pool pa bytes = same_bytes mem w.memory own feet (footprints_of (λ j. records_of j w)) k pool pa bytes same f g are in
+    let numbered : AreDataBytes w.memory feet (hart_of k w).csrs.hart pool pa bytes = subst (λ (n : ℕ). AreDataBytes w.memory feet n pool pa bytes) (sym (test.number k l)) here in
+    record {
       plain = and_right _ _ (ap (λ (n : ℕ). leb 0x8000_0000 n) plain);
       aligned = aligned;
       small = small;
       mem = w.memory;
       known = λ n. ap (λ (i : ℕ). is_some_word (known_word (w.memory i))) (word_at n) ∙ some_where_known (w.memory n);
       ram = λ n. refl;
-      are = subst (λ (p : List ℕ). AreDataBytes w.memory feet (hart_of k w).csrs.hart p pc bytes) (sym pools) numbered;
-    })
+      are = subst (λ (p : List ℕ). AreDataBytes w.memory feet (hart_of k w).csrs.hart p pa bytes) (sym pools) numbered;
+    }
 
 -- ---- the bytes of a stand
 
@@ -83,28 +88,19 @@ turn_has_bytes k w s mem own feet pool pc bytes test l plain at aligned small sa
 pub first_is_alone : (s : Setting) (feet : List Touch) (k : ℕ) (w : Whole) → k ≡ 0 → (turn_at s feet k w).others ≡ []
 first_is_alone s feet k w first = ap (λ (n : ℕ). (turn_at s feet n w).others) first
 
-pub data_at : (s : Setting) (feet : List Touch) (k : ℕ) (w : Whole) (pc : ℕ) (bytes : DataBytes) → k ≡ 0 → (hart_of k w).pc ≡ pc → HasBytes (turn_at s feet k w) (hart_of k w).pc bytes → IsDataOf (turn_at s feet k w) [] pc bytes
-data_at s feet k w pc bytes first at has = record {
-  untranslated = refl;
-  alone = first_is_alone s feet k w first;
-  has = subst (λ (n : ℕ). HasBytes (turn_at s feet k w) n bytes) at has;
-}
+-- where addresses are not translated, the fetch walks no entry
+no_walk : (k : ℕ) (w : Whole) (s : Setting) (feet : List Touch) (walk : List Entry) (pa : ℕ) → IsUntranslated k w → Leads k w walk pa → walk ≡ []
+no_walk k w s feet walk pa plain leads =
+    let turn : Turn = turn_at s feet k w in
+    let still : is_translated (fetch_view turn.fixed) ≡ false = and_right _ _ (ap (λ (n : ℕ). leb 0x8000_0000 n) plain) in
+    (same_ends walk (arrived turn.fixed.ram ForFetch turn.fixed.pc) (At pa) (sym (plain_fetch turn (by_known turn.known) still) ∙ leads.translates)).0
 
 -- where there are bytes of a test for the first hart, they are those of each of its turns
-pub data_where_some : {A : Type 0} (of : A → DataBytes) (s : Setting) (feet : List Touch) (k : ℕ) (w : Whole) (pool : List ℕ) (pc : ℕ) (o : Option A)
-    → (hart_of k w).pc ≡ pc → s.pool ≡ pool → IsFootprint feet (footprints_of (λ j. records_of j w))
-    → IfSome o (λ b. (k ≡ 0) × ((u : Setting) (ts : List Touch) → u.pool ≡ pool → IsFootprint ts (footprints_of (λ j. records_of j w)) → HasBytes (turn_at u ts k w) (hart_of k w).pc (of b)))
-    → IfSome o (λ b. IsDataOf (turn_at s feet k w) [] pc (of b))
-data_where_some of s feet k w pool pc None at pools f has = has
-data_where_some of s feet k w pool pc (Some b) at pools f has = data_at s feet k w pc (of b) has.0 at (has.1 s feet pools f)
-
-pub data_of_stand : (st : Stand) (s : Setting) (feet : List Touch) (k : ℕ) (w : Whole) (pool : List ℕ)
-    → (hart_of k w).pc ≡ st.pc → s.pool ≡ pool → IsFootprint feet (footprints_of (λ j. records_of j w))
-    → IfSome st.bytes (λ b. (k ≡ 0) × ((u : Setting) (ts : List Touch) → u.pool ≡ pool → IsFootprint ts (footprints_of (λ j. records_of j w)) → HasBytes (turn_at u ts k w) (hart_of k w).pc b))
-    → IfSome st.bytes (λ b. IsDataOf (turn_at s feet k w) [] st.pc b)
-data_of_stand st s feet k w pool at pools f has = data_where_some (λ b. b) s feet k w pool st.pc st.bytes at pools f has
-
--- of the first hart, where there are some
-pub of_first : (k : ℕ) (o : Option DataBytes) (P : DataBytes → Type 0) → IfSome o P → (is_some o ≡ true → k ≡ 0) → IfSome o (λ b. (k ≡ 0) × P b)
-of_first k None P h first = h
-of_first k (Some b) P h first = (first refl, h)
+pub data_of_stand : (o : Option DataBytes) (t : Template) (s : Setting) (feet : List Touch) (k : ℕ) (w : Whole) (walk : List Entry) (pa : ℕ)
+    → s.pool ≡ t.pool → IsFootprint feet (footprints_of (λ j. records_of j w)) → Leads k w walk pa → IfSome o (IsDataAt t k w pa) → IfSome o (IsDataOf (turn_at s feet k w) walk pa)
+data_of_stand None t s feet k w walk pa pools f leads has = has
+data_of_stand (Some b) t s feet k w walk pa pools f leads has = record {
+  untranslated = no_walk k w s feet walk pa has.untranslated leads;
+  alone = first_is_alone s feet k w has.first;
+  has = has.has s feet pools f;
+}

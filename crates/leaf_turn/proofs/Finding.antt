@@ -1,11 +1,10 @@
--- What is found for a leaf is of an instruction that does not access satp.
+-- What is found for a leaf can be taken, and is of an instruction that does not access satp where its atoms bar that.
 use Rattle.std.proofs.Common.{◌≡◌, ℕ, Bool, true, false, ◌&&◌, eqb, ◌++◌, List, [], ◌∷◌, refl, sym, ap, ◌∙◌}
 use Rattle.std.proofs.lemmas.Bool.{and_from, and_parts, eqb-true}
 use Rattle.rv_isa.specs.declared.instruction.Instr.{Instr}
 use Rattle.rv_isa.specs.declared.operation.Op.{Op}
 use Rattle.rv_isa.specs.Numbers.{op_number}
 use Rattle.rv_isa.specs.Table.{row_of}
-use Rattle.sv_walk.specs.declared.entry.Kind.TheVariants.{Load as ForLoad, Store as ForStore}
 use Rattle.fd_prob.specs.declared.slot.Slot.{Slot}
 use Rattle.fd_prob.specs.declared.slot.Slot.TheVariants as slots
 use Rattle.tpl_ast.specs.declared.template.Atom.{Atom}
@@ -20,8 +19,7 @@ use Rattle.leaf_link.specs.Problems.{key_of}
 use Rattle.leaf_link.specs.Values.{has_csr_operand}
 use Rattle.turn_laws.specs.Given.{turn_at}
 use Rattle.leaf_turn.specs.Finding.{AnswersAreFound, BarSatp}
-use Rattle.data_goals.specs.Rows.{rows_without}
-use Rattle.data_goals.proofs.Untranslated.{rows_are_there}
+use Rattle.leaf_link.specs.RowsExist.{DataRowsExist}
 
 fewer_tests : (t : Turn) (leaf kept : List Atom) (u : Var) (v : ℕ) → all_tests t (leaf ++ kept) u v ≡ true → all_tests t leaf u v ≡ true
 fewer_tests t [] kept u v h = refl
@@ -36,31 +34,29 @@ keeps_satp t leaf i bars op csr = go (has_csr_operand (row_of i.op)) (eqb i.csr 
     go true false is same = refl
     go true true is same = sym csr ∙ ap (λ (n : ℕ). all_tests t leaf vars.Csr n) (eqb-true i.csr 0x180 same) ∙ bars i.op is op
 
-pub answers_are_found : CandidatesAreInDomains → AnswersAreFound
-answers_are_found domains st k w s feet leaf kept draws nodes x vectors footprint plain stands bars posed answer =
+pub answers_are_found : CandidatesAreInDomains → DataRowsExist → AnswersAreFound
+answers_are_found domains exist keeps k w s feet walk pa leaf kept draws nodes x vectors footprint reach bars posed answer =
     let turn : Turn = turn_at s feet k w in
     let least = answer.1 in
     let c = least.is in
     let op : Op = c.instr.op in
-    let dom : (slot : Slot) → is_bounded turn c.log slot ≡ true → first_domain turn st.pc (leaf ++ kept) op slot (key_of turn (leaf ++ kept) _ c slot) ≡ true =
-    domains turn [] st.pc (leaf ++ kept) (λ ea. true) (rows_without turn ForLoad) (rows_without turn ForStore) posed (λ ea less test. refl)
-    (rows_are_there turn ForLoad plain) (rows_are_there turn ForStore plain) _ c in
-    let p = and_parts (in_first_word (code_at turn st.pc) op slots.Op (op_number op)) (all_tests turn (leaf ++ kept) vars.Op (op_number op)) (dom slots.Op refl) in
-    let q = and_parts (in_first_word (code_at turn st.pc) op slots.Csr c.instr.csr) (all_tests turn (leaf ++ kept) vars.Csr c.instr.csr) (dom slots.Csr refl) in
+    let rows = exist turn posed.words in
+    let dom : (slot : Slot) → is_bounded turn c.log slot ≡ true → first_domain turn pa (leaf ++ kept) op slot (key_of turn (leaf ++ kept) _ c slot) ≡ true =
+    domains turn walk pa (leaf ++ kept) (λ ea. true) rows.0.0 rows.1.0 posed (λ ea less test. refl) rows.0.1 rows.1.1 _ c in
+    let p = and_parts (in_first_word (code_at turn pa) op slots.Op (op_number op)) (all_tests turn (leaf ++ kept) vars.Op (op_number op)) (dom slots.Op refl) in
+    let q = and_parts (in_first_word (code_at turn pa) op slots.Csr c.instr.csr) (all_tests turn (leaf ++ kept) vars.Csr c.instr.csr) (dom slots.Csr refl) in
     let of_op : all_tests turn leaf vars.Op (op_number op) ≡ true = fewer_tests turn leaf kept vars.Op (op_number op) p.1 in
     let of_csr : all_tests turn leaf vars.Csr c.instr.csr ≡ true = fewer_tests turn leaf kept vars.Csr c.instr.csr q.1 in
     record {
       setting = s;
       feet = feet;
       leaf = leaf ++ kept;
-      walk = [];
-      pa = st.pc;
+      walk = walk;
       vectors = vectors;
       footprint = footprint;
       fetched = posed.fetched;
-      at = sym stands.pc;
-      plain = plain;
       candidate = c;
       values = least.are_values;
-      keeps = keeps_satp turn leaf c.instr bars of_op of_csr;
+      plain = λ has. reach op has of_op;
+      satp = λ asked. keeps_satp turn leaf c.instr (bars asked) of_op of_csr;
     }

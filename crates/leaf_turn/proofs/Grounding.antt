@@ -1,24 +1,23 @@
 -- Names of a template in a test, and what a stand tells of a turn.
 use Rattle.std.proofs.Common.{◌≡◌, ℕ, zero, suc, if◌then◌else◌, ◌≤◌, ◌<◌, ◌/◌, ◌%◌, Bool, true, false, not, ◌&&◌, ◌||◌, eqb, leb, List, [], ◌∷◌, length, Option, None, refl, sym, ap, ◌∙◌, inl, inr, arith}
 use Rattle.std.specs.Prelude.{IfSome, slice_get, slice_index_or}
-use Rattle.std.specs.List.{list_any}
-use Rattle.std.proofs.lemmas.Bool.{cases_lt}
-use Rattle.sv_walk.specs.declared.entry.Kind.TheVariants.{Fetch as ForFetch}
-use Rattle.sv_walk.specs.Entry.{access_cause}
-use Rattle.sv_walk.specs.Translation.{At, Fails, arrived, is_in_ram, is_translated}
-use Rattle.rv_script.specs.Folds.{Answer.Does, by_known}
-use Rattle.leaf_link.specs.Ways.{IsFetched}
-use Rattle.leaf_turn.proofs.Untranslated.{plain_fetch}
+use Rattle.std.specs.List.{list_all, list_any}
+use Rattle.std.proofs.lemmas.Bool.{and_from, cases_lt}
+use Rattle.sv_walk.specs.Translation.{is_translated}
 use Rattle.std.proofs.lemmas.List.{get_or_past}
 use Rattle.std.proofs.lemmas.Option.{slice_get_past}
 use Rattle.tpl_ast.specs.declared.template.Atom.{Atom}
 use Rattle.tpl_ast.specs.declared.template.Atom.TheVariants as atoms
 use Rattle.tpl_ast.specs.declared.template.Template.{Template}
 use Rattle.tpl_ast.specs.declared.template.Var.{Var}
+use Rattle.tpl_ast.specs.declared.template.Var.TheVariants as vars
+use Rattle.tpl_ast.specs.Leaves.{same_var}
 use Rattle.part_machine.specs.Whole.{Whole}
 use Rattle.leaf_stand.specs.declared.stand.Name.{Name}
 use Rattle.leaf_stand.specs.Stands.{set_named, value_named}
-use Rattle.rv_mem.specs.Seen.{is_there, known_word}
+use Rattle.rv_mem.specs.Seen.{known_word}
+use Rattle.rv_script.specs.Folds.{Entry}
+use Rattle.rv_script.specs.Lists.{HasItem}
 use Rattle.rv_script.specs.declared.access.Role.TheVariants.{Fetch}
 use Rattle.rv_script.specs.Bytes.{covers}
 use Rattle.rv_csr.specs.State.{CsrValues, lazy_value_at}
@@ -29,13 +28,14 @@ use Rattle.rv_hart.specs.Machine.{data_view, fetch_view}
 use Rattle.tpl_admit.specs.Races.{footprints_of}
 use Rattle.part_machine.specs.Whole.{Bare, hart_of, records_of}
 use Rattle.part_state.specs.Meaning.{IsTest}
-use Rattle.leaf_link.specs.Turns.{Turn, in_frames}
-use Rattle.leaf_link.specs.Cases.{all_tests, is_some_word, tests}
+use Rattle.leaf_link.specs.Firsts.{data_pairs}
+use Rattle.leaf_link.specs.Turns.{Turn, in_frames, is_free_entry}
+use Rattle.leaf_link.specs.Cases.{all_tests, is_some_word, is_value_named, tests}
 use Rattle.leaf_stand.specs.declared.stand.Stand.{Stand}
 use Rattle.leaf_stand.specs.Stands.{IsStandOf, csr_held, held}
 use Rattle.turn_laws.specs.Given.{Setting, turn_at}
-use Rattle.leaf_turn.specs.Grounds.{AreNamesOf, HasSourceSet, IsSettingOf, IsUntranslated, declared_set, is_free_fetch}
-use Rattle.data_goals.specs.Rows.{HasBytes}
+use Rattle.leaf_turn.specs.Entering.{Leads}
+use Rattle.leaf_turn.specs.Grounds.{AreNamesOf, HasSourceSet, IsDataAt, IsSettingOf, IsUntranslated, declared_set, is_free_fetch}
 use Rattle.leaf_turn.proofs.Bytes.{data_of_stand}
 use Rattle.leaf_turn.proofs.Freedom.{same_freedom}
 
@@ -62,28 +62,32 @@ held_at (x ∷ xs) zero = refl
 held_at (x ∷ xs) (suc n) = held_at xs n
 
 -- the stand has the hart's parts, and what it tells of memory, of touches and of the template
-pub record IsMadeOf (t : Template) (k : ℕ) (w : Whole) (own : List Touch) (s : Stand) : Type 0 where
+pub record IsMadeOf (t : Template) (k : ℕ) (w : Whole) (own : List Touch) (pa : ℕ) (s : Stand) : Type 0 where
   pub hart : record { pc = s.pc; privilege = s.privilege; regs = s.registers; csrs = s.csrs } ≡ hart_of k w
-  pub aligned : s.pc % 4 ≡ 0
-  pub word : s.word ≡ known_word (w.memory (s.pc / 4))
-  pub fetches : s.fetches ≡ (is_free_fetch own k s.pc && (is_some_word s.word || in_frames t.pool s.pc))
-  pub pairs : s.pairs ≡ 1
+  pub aligned : pa % 4 ≡ 0
+  pub word : s.word ≡ known_word (w.memory (pa / 4))
+  pub fetches : s.fetches ≡ (is_free_fetch own k pa && (is_some_word s.word || in_frames t.pool pa))
+  pub pairs : (u : Setting) (feet : List Touch) → IsSettingOf t u → data_pairs (turn_at u feet k w) ≡ s.pairs
   pub vectors : s.vectors.now ≡ t.vectors
   pub names : AreNamesOf t w s.names.now
   pub footprint : IsFootprint own (footprints_of (λ j. records_of j w))
-  pub bytes : IfSome s.bytes (λ b. (k ≡ 0) × ((u : Setting) (ts : List Touch) → u.pool ≡ t.pool → IsFootprint ts (footprints_of (λ j. records_of j w)) → HasBytes (turn_at u ts k w) (hart_of k w).pc b))
+  pub bytes : IfSome s.bytes (IsDataAt t k w pa)
 
 and_false : (b c : Bool) → c ≡ false → (b && c) ≡ false
 and_false true c h = h
 and_false false c h = refl
 
-unless_so : {A : Type 0} (b : Bool) (x y : A) → b ≡ false → (if b then x else y) ≡ y
-unless_so true x y h = absurd (cc)
-unless_so false x y h = refl
+all_free : (t : Turn) (log : List Entry) → ((e : Entry) → HasItem log e → is_free_entry t e ≡ true) → list_all (is_free_entry t) log ≡ true
+all_free t [] h = refl
+all_free t (e ∷ log) h = and_from _ _ (h e (inl refl)) (all_free t log (λ f i. h f (inr i)))
 
-pub stand_tells : (t : Template) (k : ℕ) (w : Whole) (own : List Touch) (st : Stand) (s : Setting) (feet : List Touch) → IsTest w → k < length w.harts → IsUntranslated k w
-    → IsMadeOf t k w own st → IsSettingOf t s → HasSourceSet s st.sources.now → IsFootprint feet (footprints_of (λ j. records_of j w)) → IsStandOf st (turn_at s feet k w) [] st.pc
-stand_tells t k w own st s feet test l plain m setting sources footprint =
+behind_true : (a b : Bool) → a ≡ true → (a && b) ≡ b
+behind_true true b h = refl
+behind_true false b h = absurd (cc h)
+
+pub stand_tells : (t : Template) (k : ℕ) (w : Whole) (own : List Touch) (st : Stand) (pa : ℕ) (s : Setting) (feet : List Touch) (walk : List Entry) → IsTest w → k < length w.harts → Leads k w walk pa
+    → IsMadeOf t k w own pa st → IsSettingOf t s → HasSourceSet s st.sources.now → IsFootprint feet (footprints_of (λ j. records_of j w)) → IsStandOf st (turn_at s feet k w) walk pa
+stand_tells t k w own st pa s feet walk test l leads m setting sources footprint =
     let h : Bare = record { pc = st.pc; privilege = st.privilege; regs = st.registers; csrs = st.csrs } in
     let is : hart_of k w ≡ h = sym m.hart in
     let turn : Turn = turn_at s feet k w in
@@ -100,20 +104,21 @@ stand_tells t k w own st s feet test l plain m setting sources footprint =
       names = m.names.values;
       sets = λ n. setting.sets n ∙ m.names.sets n;
       fetches =
-          ap (λ (n : ℕ). free_at n && (is_some_word (known_word (w.memory (st.pc / 4))) || in_frames s.pool st.pc)) number
-          ∙ ap (λ (b : Bool). b && (is_some_word (known_word (w.memory (st.pc / 4))) || in_frames s.pool st.pc)) (same_freedom feet own (footprints_of (λ j. records_of j w)) k st.pc footprint m.footprint m.aligned)
-          ∙ ap (λ (o : Option ℕ). is_free_fetch own k st.pc && (is_some_word o || in_frames s.pool st.pc)) (sym m.word)
-          ∙ ap (λ (p : List ℕ). is_free_fetch own k st.pc && (is_some_word st.word || in_frames p st.pc)) setting.pool
+          behind_true _ _ (all_free turn walk (leads.free s feet footprint))
+          ∙ ap (λ (n : ℕ). free_at n && (is_some_word (known_word (w.memory (pa / 4))) || in_frames s.pool pa)) number
+          ∙ ap (λ (b : Bool). b && (is_some_word (known_word (w.memory (pa / 4))) || in_frames s.pool pa)) (same_freedom feet own (footprints_of (λ j. records_of j w)) k pa footprint m.footprint)
+          ∙ ap (λ (o : Option ℕ). is_free_fetch own k pa && (is_some_word o || in_frames s.pool pa)) (sym m.word)
+          ∙ ap (λ (p : List ℕ). is_free_fetch own k pa && (is_some_word st.word || in_frames p pa)) setting.pool
           ∙ sym m.fetches;
-      pairs = unless_so (is_translated (data_view turn.fixed)) _ 1 (and_false _ _ (ap (λ (n : ℕ). leb 0x8000_0000 n) plain)) ∙ sym m.pairs;
+      pairs = m.pairs s feet setting;
       satp = ap (λ (b : Bare). b.csrs.satp) is;
       number = ap (λ (b : Bare). b.csrs.hart) is;
       sources = sources;
-      bytes = data_of_stand st s feet k w t.pool (ap (λ (b : Bare). b.pc) is) setting.pool footprint m.bytes;
+      bytes = data_of_stand st.bytes t s feet k w walk pa setting.pool footprint leads m.bytes;
     }
   where
     free_at : ℕ → Bool
-    free_at n = not (list_any (λ touch. covers (record { role = Fetch; addr = st.pc; size = 4; value = 0 }) touch.byte && breaks (eqb touch.hart n) touch.role Fetch) feet)
+    free_at n = not (list_any (λ touch. covers (record { role = Fetch; addr = pa; size = 4; value = 0 }) touch.byte && breaks (eqb touch.hart n) touch.role Fetch) feet)
 
     csr_at : (csrs : CsrValues) (addr : ℕ) → lazy_value_at csrs addr ≡ csr_held csrs (register_at addr)
     csr_at csrs addr = refl
@@ -122,15 +127,6 @@ stand_tells t k w own st s feet test l plain m setting sources footprint =
 
 pub fetch_untranslated : (k : ℕ) (w : Whole) (s : Setting) (feet : List Touch) → IsUntranslated k w → is_translated (fetch_view (turn_at s feet k w).fixed) ≡ false
 fetch_untranslated k w s feet plain = and_false _ _ (ap (λ (n : ℕ). leb 0x8000_0000 n) plain)
-
-pub fetch_is_settled : (k : ℕ) (w : Whole) (s : Setting) (feet : List Touch) (pc : ℕ) → IsUntranslated k w → (hart_of k w).pc ≡ pc → pc % 4 ≡ 0 → is_in_ram (λ n. is_there (w.memory n)) pc ≡ true
-    → IsFetched (turn_at s feet k w) [] pc
-fetch_is_settled k w s feet pc plain is aligned there =
-    let turn : Turn = turn_at s feet k w in
-    record {
-      translates = plain_fetch turn (by_known turn.known) (fetch_untranslated k w s feet plain) ∙ ap (λ (n : ℕ). Does [] (arrived turn.fixed.ram ForFetch n)) is ∙ ap (λ (b : Bool). Does [] (if b then At pc else Fails (access_cause ForFetch))) there;
-      aligned = ap (λ (n : ℕ). n % 4) is ∙ aligned;
-    }
 
 pub data_untranslated : (k : ℕ) (w : Whole) (s : Setting) (feet : List Touch) → IsUntranslated k w → is_translated (data_view (turn_at s feet k w).fixed) ≡ false
 data_untranslated k w s feet plain = and_false _ _ (ap (λ (n : ℕ). leb 0x8000_0000 n) plain)
@@ -141,7 +137,7 @@ abbrev pub setting_at : Template → (ℕ → Bool) → Setting
 setting_at t sources = record { pool = t.pool; tables = t.tables; flags = t.flags; vectors = t.vectors; sets = λ n. declared_set (slice_get t.names n); sources = sources }
 
 pub setting_is : (t : Template) (sources : ℕ → Bool) → IsSettingOf t (setting_at t sources)
-setting_is t sources = record { pool = refl; vectors = refl; sets = λ n. refl }
+setting_is t sources = record { pool = refl; tables = refl; flags = refl; vectors = refl; sets = λ n. refl }
 
 -- ---- the same setting with other sources
 
@@ -149,7 +145,7 @@ abbrev pub sourced : (ℕ → Bool) → Setting → Setting
 sourced sources s = record { pool = s.pool; tables = s.tables; flags = s.flags; vectors = s.vectors; sets = s.sets; sources = sources }
 
 pub sourced_is : (t : Template) (sources : ℕ → Bool) (s : Setting) → IsSettingOf t s → IsSettingOf t (sourced sources s)
-sourced_is t sources s h = record { pool = h.pool; vectors = h.vectors; sets = h.sets }
+sourced_is t sources s h = record { pool = h.pool; tables = h.tables; flags = h.flags; vectors = h.vectors; sets = h.sets }
 
 -- what passes atoms doesn't rest on them
 pub tests_apart : (sources : ℕ → Bool) (s : Setting) (feet : List Touch) (k : ℕ) (w : Whole) (leaf : List Atom) (u : Var) (v : ℕ) → all_tests (turn_at (sourced sources s) feet k w) leaf u v ≡ all_tests (turn_at s feet k w) leaf u v
@@ -161,6 +157,25 @@ tests_apart sources s feet k w (atom ∷ leaf) u v =
     one (atoms.In x set) = refl
     one (atoms.NotIn x set) = refl
     one (atoms.Is x name) = refl
+    one (atoms.Same x y) = refl
+    one (atoms.Differ x y) = refl
+    one atoms.Taken = refl
+    one atoms.NotTaken = refl
+    one atoms.Shared = refl
+
+-- ---- what passes atoms on a source rests on names alone
+
+pub tests_alike : (t u : Turn) → ((n : ℕ) → t.names n ≡ u.names n) → ((n : ℕ) → t.sets n ≡ u.sets n) → (leaf : List Atom) (v : ℕ) → all_tests t leaf vars.A v ≡ all_tests u leaf vars.A v
+tests_alike t u names sets [] v = refl
+tests_alike t u names sets (atom ∷ leaf) v =
+    ap (λ (b : Bool). b && all_tests t leaf vars.A v) (one atom) ∙ ap (λ (b : Bool). tests u atom vars.A v && b) (tests_alike t u names sets leaf v)
+  where
+    one : (a : Atom) → tests t a vars.A v ≡ tests u a vars.A v
+    one (atoms.In x set) = refl
+    one (atoms.NotIn x set) = refl
+    one (atoms.Is x name) =
+        ap (λ (o : Option ℕ). if same_var x vars.A then is_value_named o (t.sets name) v else true) (names name)
+        ∙ ap (λ (l : List ℕ). if same_var x vars.A then is_value_named (u.names name) l v else true) (sets name)
     one (atoms.Same x y) = refl
     one (atoms.Differ x y) = refl
     one atoms.Taken = refl

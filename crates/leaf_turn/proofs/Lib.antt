@@ -14,5 +14,6 @@ pub mod Plainness
 pub mod Wholly
 pub mod Building
 pub mod Playing
-pub mod Failing
 pub mod Bytes
+pub mod Posing
+pub mod Fetches

@@ -1,13 +1,11 @@
 -- The answer of a leaf on a test, from that of its stand.
-use Rattle.std.proofs.Common.{◌≡◌, ℕ, ◌<◌, ◌^◌, true, false, ◌+◌, ◌⊎◌, List, [], ◌∷◌, ◌++◌, refl, sym, ap, ◌∙◌, subst, inl, inr}
+use Rattle.std.proofs.Common.{◌≡◌, ℕ, ◌<◌, ◌^◌, Bool, true, false, ◌+◌, ◌⊎◌, List, [], ◌∷◌, ◌++◌, refl, sym, ap, ◌∙◌, subst, inl, inr}
 use Rattle.std.specs.List.{AllByRecursion}
+use Rattle.std.proofs.lemmas.Bool.{cases_Bool}
 use Rattle.rv_csr.specs.declared.access.CsrAccess.{CsrAccess}
-use Rattle.rv_mem.specs.Seen.{is_there}
 use Rattle.rv_script.specs.Folds.{Entry}
 use Rattle.rv_script.specs.Lists.{HasItem}
-use Rattle.sv_walk.specs.Translation.{is_in_ram, is_translated}
 use Rattle.foot_map.specs.declared.touch.Touch.{Touch}
-use Rattle.rv_hart.specs.Machine.{data_view}
 use Rattle.tpl_ast.specs.declared.template.Atom.{Atom}
 use Rattle.tpl_ast.specs.declared.template.Wish.{Wish}
 use Rattle.tpl_ast.specs.Leaves.{IsPlain, atoms_of}
@@ -21,11 +19,13 @@ use Rattle.leaf_link.specs.Answers.{values_in}
 use Rattle.leaf_link.specs.Firsts.{IsTurnAnswer}
 use Rattle.turn_laws.specs.Ahead.{AreVectors}
 use Rattle.leaf_turn.specs.Answers.{IsFound}
-use Rattle.leaf_turn.specs.Finding.{AnswersAreFound, BarSatp}
+use Rattle.leaf_turn.specs.Built.{LeavesWithoutDataBarIt, lets_data}
+use Rattle.leaf_turn.specs.Entering.{Leads}
+use Rattle.leaf_turn.specs.Finding.{AnswersAreFound, BarSatp, HasPlainData}
 use Rattle.part_machine.specs.Whole.{Whole, fixed_in, hart_of, records_of}
 use Rattle.leaf_link.specs.Turns.{Turn}
 use Rattle.leaf_link.specs.Values.{fixed_value}
-use Rattle.leaf_link.specs.Ways.{AreWords, IsFetched}
+use Rattle.leaf_link.specs.Ways.{AreWords}
 use Rattle.leaf_link.specs.Extras.{AllPlain, AreJudged, ArePlain, IsTurnLeafAnswer, Taken, kept_with}
 use Rattle.leaf_link.specs.KindLaws.{IsPosed}
 use Rattle.leaf_stand.specs.declared.stand.Stand.{Stand}
@@ -39,37 +39,31 @@ use Rattle.leaf_turn.proofs.Plainness.{each_plain, plain_biases, plain_mandatory
 -- what an answer over a stand says of every turn that it tells
 abbrev pub AnswersStand : Stand → List Atom → List (List Atom) → List ℕ → ℕ → LeafAnswer → Type 0
 AnswersStand st leaf biases draws nodes answer =
-    (t : Turn) (walk : List Entry) (pa : ℕ) → IsStandOf st t walk pa → is_translated (data_view t.fixed) ≡ false → IsPosed t walk pa leaf → AllPlain biases → IsTurnLeafAnswer t pa leaf biases draws nodes answer
+    (t : Turn) (walk : List Entry) (pa : ℕ) → IsStandOf st t walk pa → IsPosed t walk pa leaf → AllPlain biases → IsTurnLeafAnswer t pa leaf biases draws nodes answer
 
 -- what the answer of a leaf rests on
-pub posed_at : (st : Stand) (k : ℕ) (w : Whole) (s : Setting) (feet : List Touch) (leaf : List Atom)
-    → is_in_ram (λ n. is_there (w.memory n)) (hart_of k w).pc ≡ true
-    → IsStandOf st (turn_at s feet k w) [] st.pc → (is_in_ram (λ n. is_there (w.memory n)) st.pc ≡ true → IsFetched (turn_at s feet k w) [] st.pc)
-    → ((access : CsrAccess) → fixed_value (fixed_in (hart_of k w) w.memory) access < 2 ^ 32) → AreWords (known_at k w)
-    → ((atom : Atom) → HasItem leaf atom → IsPlain atom) → IsPosed (turn_at s feet k w) [] st.pc leaf
-posed_at st k w s feet leaf there stands fetched fixed words plain = record {
-  fetched = fetched (ap (is_in_ram (λ n. is_there (w.memory n))) (sym stands.pc) ∙ there);
+pub posed_at : (k : ℕ) (w : Whole) (s : Setting) (feet : List Touch) (walk : List Entry) (pa : ℕ) (leaf : List Atom)
+    → Leads k w walk pa → ((access : CsrAccess) → fixed_value (fixed_in (hart_of k w) w.memory) access < 2 ^ 32) → AreWords (known_at k w)
+    → ((atom : Atom) → HasItem leaf atom → IsPlain atom) → IsPosed (turn_at s feet k w) walk pa leaf
+posed_at k w s feet walk pa leaf leads fixed words plain = record {
+  fetched = record { translates = leads.translates; aligned = leads.aligned };
   words = words;
   fixed = fixed;
   plain = plain;
 }
 
-pub answered : (st : Stand) (k : ℕ) (w : Whole) (s : Setting) (feet : List Touch) (ws : List Wish) (leaf : List Atom) (biases : List (List Atom)) (draws : List ℕ) (nodes : ℕ) (answer : LeafAnswer)
-    → leaf ≡ mandatory_of ws → biases ≡ biases_of ws → AllByRecursion IsPlain (atoms_of ws) → IsUntranslated k w
-    → is_in_ram (λ n. is_there (w.memory n)) (hart_of k w).pc ≡ true
-    → IsStandOf st (turn_at s feet k w) [] st.pc → (is_in_ram (λ n. is_there (w.memory n)) st.pc ≡ true → IsFetched (turn_at s feet k w) [] st.pc)
+pub answered : (st : Stand) (k : ℕ) (w : Whole) (s : Setting) (feet : List Touch) (walk : List Entry) (pa : ℕ) (ws : List Wish) (leaf : List Atom) (biases : List (List Atom)) (draws : List ℕ) (nodes : ℕ) (answer : LeafAnswer)
+    → leaf ≡ mandatory_of ws → biases ≡ biases_of ws → AllByRecursion IsPlain (atoms_of ws) → Leads k w walk pa → IsStandOf st (turn_at s feet k w) walk pa
     → ((access : CsrAccess) → fixed_value (fixed_in (hart_of k w) w.memory) access < 2 ^ 32) → AreWords (known_at k w)
-    → AnswersStand st leaf biases draws nodes answer → IsTurnLeafAnswer (turn_at s feet k w) (hart_of k w).pc (mandatory_of ws) (biases_of ws) draws nodes answer
-answered st k w s feet ws leaf biases draws nodes answer same others plain still there stands fetched fixed words answers =
+    → AnswersStand st leaf biases draws nodes answer → IsTurnLeafAnswer (turn_at s feet k w) pa (mandatory_of ws) (biases_of ws) draws nodes answer
+answered st k w s feet walk pa ws leaf biases draws nodes answer same others plain leads stands fixed words answers =
     let turn : Turn = turn_at s feet k w in
-    let at : (hart_of k w).pc ≡ st.pc = stands.pc in
     let plain_leaf : AllByRecursion IsPlain leaf = subst (AllByRecursion IsPlain) (sym same) (plain_mandatory ws plain) in
     let plain_rest : AllPlain biases = subst AllPlain (sym others) (plain_biases ws plain) in
-    let posed : IsPosed turn [] st.pc leaf = posed_at st k w s feet leaf there stands fetched fixed words (each_plain leaf plain_leaf) in
-    let is : IsTurnLeafAnswer turn st.pc leaf biases draws nodes answer = answers turn [] st.pc stands (data_untranslated k w s feet still) posed plain_rest in
-    subst (λ (n : ℕ). IsTurnLeafAnswer turn n (mandatory_of ws) (biases_of ws) draws nodes answer) (sym at)
-    (subst (λ (l : List Atom). IsTurnLeafAnswer turn st.pc l (biases_of ws) draws nodes answer) same
-    (subst (λ (bs : List (List Atom)). IsTurnLeafAnswer turn st.pc leaf bs draws nodes answer) others is))
+    let posed : IsPosed turn walk pa leaf = posed_at k w s feet walk pa leaf leads fixed words (each_plain leaf plain_leaf) in
+    let is : IsTurnLeafAnswer turn pa leaf biases draws nodes answer = answers turn walk pa stands posed plain_rest in
+    subst (λ (l : List Atom). IsTurnLeafAnswer turn pa l (biases_of ws) draws nodes answer) same
+    (subst (λ (bs : List (List Atom)). IsTurnLeafAnswer turn pa leaf bs draws nodes answer) others is)
 
 -- ---- what is found
 
@@ -109,19 +103,25 @@ judged_more t pa draws nodes position (bias ∷ biases) before after plain (answ
     go answers.NoneFits rest later = let m = later (kept_with answers.NoneFits position bias before) rest in record { more = m.more; is = m.is; plain = m.plain }
     go answers.Spent rest later = let m = later (kept_with answers.Spent position bias before) rest in record { more = m.more; is = m.is; plain = m.plain }
 
-pub found_by : (st : Stand) (k : ℕ) (w : Whole) (s : Setting) (feet : List Touch) (ws : List Wish) (draws : List ℕ) (nodes : ℕ) (answer : LeafAnswer) (x : Assignment)
-    → AnswersAreFound → AllByRecursion IsPlain (atoms_of ws) → IsUntranslated k w → AreVectors s.vectors → IsFootprint feet (footprints_of (λ j. records_of j w))
-    → is_in_ram (λ n. is_there (w.memory n)) (hart_of k w).pc ≡ true
-    → IsStandOf st (turn_at s feet k w) [] st.pc → (is_in_ram (λ n. is_there (w.memory n)) st.pc ≡ true → IsFetched (turn_at s feet k w) [] st.pc)
-    → ((access : CsrAccess) → fixed_value (fixed_in (hart_of k w) w.memory) access < 2 ^ 32) → AreWords (known_at k w)
-    → BarSatp (turn_at s feet k w) (mandatory_of ws) → IsTurnLeafAnswer (turn_at s feet k w) (hart_of k w).pc (mandatory_of ws) (biases_of ws) draws nodes answer
-    → answer.solved ≡ answers.Found x → IsFound k w (values_in x)
-found_by st k w s feet ws draws nodes answer x law plain still vectors footprint there stands fetched fixed words bars (atoms, judged, is) found =
+-- the atoms of a leaf that have to hold let no data access through, or those of the hart are not translated
+pub plain_data : (k : ℕ) (w : Whole) (s : Setting) (feet : List Touch) (ws : List Wish) → LeavesWithoutDataBarIt → (lets_data ws ≡ true → (k ≡ 0) × IsUntranslated k w) → HasPlainData (turn_at s feet k w) (mandatory_of ws)
+plain_data k w s feet ws bar still op address through = elim (cases_Bool (lets_data ws)) [
+  | inl lets ↦ data_untranslated k w s feet (still lets).1
+  | inr none ↦ absurd (true_false (sym through ∙ bar ws none (turn_at s feet k w) op address))
+]
+  where
+    true_false : true ≡ false → ⊥
+    true_false h = absurd (cc h)
+
+pub found_by : (keeps : Bool) (k : ℕ) (w : Whole) (s : Setting) (feet : List Touch) (walk : List Entry) (pa : ℕ) (ws : List Wish) (draws : List ℕ) (nodes : ℕ) (answer : LeafAnswer) (x : Assignment)
+    → AnswersAreFound → AllByRecursion IsPlain (atoms_of ws) → AreVectors s.vectors → IsFootprint feet (footprints_of (λ j. records_of j w)) → IsPosed (turn_at s feet k w) walk pa (mandatory_of ws)
+    → HasPlainData (turn_at s feet k w) (mandatory_of ws) → (keeps ≡ true → BarSatp (turn_at s feet k w) (mandatory_of ws))
+    → IsTurnLeafAnswer (turn_at s feet k w) pa (mandatory_of ws) (biases_of ws) draws nodes answer → answer.solved ≡ answers.Found x → IsFound keeps k w pa (values_in x)
+found_by keeps k w s feet walk pa ws draws nodes answer x law plain vectors footprint posed reach bars (atoms, judged, is) found =
     let turn : Turn = turn_at s feet k w in
     let leaf : List Atom = mandatory_of ws in
-    let m = judged_more turn (hart_of k w).pc draws nodes 0 (biases_of ws) (record { atoms = leaf; dropped = [] }) (record { atoms = atoms; dropped = answer.dropped }) (plain_biases ws plain) judged in
-    let one : IsTurnAnswer turn st.pc atoms draws nodes answer.solved = subst (λ (n : ℕ). IsTurnAnswer turn n atoms draws nodes answer.solved) stands.pc is in
-    let two : IsTurnAnswer turn st.pc (leaf ++ m.more) draws nodes (answers.Found x) =
-    subst (λ (l : List Atom). IsTurnAnswer turn st.pc l draws nodes (answers.Found x)) m.is (subst (λ (o : Solved). IsTurnAnswer turn st.pc atoms draws nodes o) found one) in
-    law st k w s feet leaf m.more draws nodes x vectors footprint (data_untranslated k w s feet still) stands bars
-    (posed_at st k w s feet (leaf ++ m.more) there stands fetched fixed words (both_plain leaf m.more (each_plain leaf (plain_mandatory ws plain)) m.plain)) two
+    let m = judged_more turn pa draws nodes 0 (biases_of ws) (record { atoms = leaf; dropped = [] }) (record { atoms = atoms; dropped = answer.dropped }) (plain_biases ws plain) judged in
+    let one : IsTurnAnswer turn pa (leaf ++ m.more) draws nodes (answers.Found x) =
+    subst (λ (l : List Atom). IsTurnAnswer turn pa l draws nodes (answers.Found x)) m.is (subst (λ (o : Solved). IsTurnAnswer turn pa atoms draws nodes o) found is) in
+    law keeps k w s feet walk pa leaf m.more draws nodes x vectors footprint reach bars
+    (record { fetched = posed.fetched; words = posed.words; fixed = posed.fixed; plain = both_plain leaf m.more (each_plain leaf (plain_mandatory ws plain)) m.plain }) one

@@ -1,14 +1,13 @@
 -- The answer of a leaf, and the test behind its step.
-use Rattle.std.specs.Prelude.{◌≡◌, ◌%◌, ◌<◌, ◌++◌, ℕ, false, List, [], ◌∷◌, Some, length}
+use Rattle.std.specs.Prelude.{◌≡◌, ◌%◌, ◌<◌, ◌++◌, ℕ, Bool, true, false, List, [], ◌∷◌, Some, length}
 use Rattle.rv_script.specs.declared.place.Place.{Place}
 use Rattle.rv_script.specs.Folds.{Answer.Does, Answer.Missing as Lacks, Entry, Known, by_known}
 use Rattle.rv_script.specs.Logs.{answer_told, enlarged}
-use Rattle.sv_walk.specs.Translation.{is_translated}
 use Rattle.foot_map.specs.declared.touch.Touch.{Touch}
 use Rattle.foot_map.specs.Races.{IsFootprint}
 use Rattle.rv_hart.specs.declared.record.Change.{Change}
 use Rattle.rv_hart.specs.declared.record.Record.{Record}
-use Rattle.rv_hart.specs.Machine.{data_view, script}
+use Rattle.rv_hart.specs.Machine.{script}
 use Rattle.rv_hart.specs.Whole.{record_of}
 use Rattle.fd_prob.specs.declared.slot.Slot.{Slot}
 use Rattle.tpl_ast.specs.declared.template.Atom.{Atom}
@@ -18,35 +17,44 @@ use Rattle.part_state.specs.Meaning.{IsTest, place_given}
 use Rattle.part_state.specs.State.{State, Test, tests}
 use Rattle.leaf_link.specs.Values.{Values, new_places}
 use Rattle.leaf_link.specs.Candidates.{IsCandidate, accesses_in}
-use Rattle.leaf_link.specs.Placing.{IsInstruction, KeepsSatp, place_value, accesses_satp}
+use Rattle.leaf_link.specs.Placing.{IsInstruction, KeepsSatp, accesses_satp, place_value}
 use Rattle.leaf_link.specs.Problems.{key_of}
 use Rattle.leaf_link.specs.Ways.{IsFetched}
 use Rattle.turn_laws.specs.Ahead.{AreVectors}
 use Rattle.turn_laws.specs.Given.{AreListed, CanGive, Setting, all_given, known_at, turn_at}
 use Rattle.turn_laws.specs.Played.{IsPlayed}
+use Rattle.leaf_turn.specs.declared.taking.Fetch.{Fetch}
+use Rattle.leaf_turn.specs.declared.taking.Fetch.TheVariants as fetches
+use Rattle.leaf_link.specs.Placing.{AccessesArePlain}
+use Rattle.leaf_link.specs.FetchPlacing.{entry_value}
 
 -- the places that an answer's values start
 abbrev pub new_at : ℕ → Whole → Values → Known
 new_at k w x = new_places (fixed_in (hart_of k w) w.memory) (known_at k w) x
 
--- values are those of a candidate for the next step of a hart, which is fetched at its pc; no data access is translated, and the instruction does not access satp
-pub record IsFound (k : ℕ) (w : Whole) (x : Values) : Type 0 where
+-- values are those of a candidate for the next step of a hart, which is fetched from a physical address; a data access that it makes is not
+-- translated, and where that is asked (`keeps`), the instruction does not access satp
+pub record IsFound (keeps : Bool) (k : ℕ) (w : Whole) (pa : ℕ) (x : Values) : Type 0 where
   pub setting : Setting
   pub feet : List Touch
   pub leaf : List Atom
   pub walk : List Entry
-  pub pa : ℕ
   pub vectors : AreVectors setting.vectors
   pub footprint : IsFootprint feet (footprints_of (λ j. records_of j w))
   pub fetched : IsFetched (turn_at setting feet k w) walk pa
-  pub at : pa ≡ (hart_of k w).pc
-  pub plain : is_translated (data_view (turn_at setting feet k w).fixed) ≡ false
   pub candidate : IsCandidate (turn_at setting feet k w) leaf (new_at k w x)
   pub values : (s : Slot) → x s ≡ key_of (turn_at setting feet k w) leaf (new_at k w x) candidate s
-  pub keeps : accesses_satp candidate.instr ≡ false
+  pub plain : AccessesArePlain (turn_at setting feet k w) candidate.instr
+  pub satp : keeps ≡ true → accesses_satp candidate.instr ≡ false
 
--- values are those of a step that a hart can make: it is played on what they start, each new place has its value among them, and the step writes no satp
-pub record IsPlayable (k : ℕ) (w : Whole) (x : Values) : Type 0 where
+-- the value that a place starts with, by how the fetch of the step ends
+abbrev pub started_with : Values → Fetch → Place → ℕ
+started_with x (fetches.From pa) place = place_value x pa place
+started_with x (fetches.Fails root) place = entry_value x root place
+
+-- values are those of a step that a hart can make: it is played on what they start, and each new place has its value among them; where that is asked (`keeps`), the step
+-- writes no satp
+pub record IsPlayable (keeps : Bool) (k : ℕ) (w : Whole) (fetch : Fetch) (x : Values) : Type 0 where
   pub setting : Setting
   pub feet : List Touch
   pub log : List Entry
@@ -55,14 +63,22 @@ pub record IsPlayable (k : ℕ) (w : Whole) (x : Values) : Type 0 where
   pub footprint : IsFootprint feet (footprints_of (λ j. records_of j w))
   pub aligned : (hart_of k w).pc % 4 ≡ 0
   pub played : IsPlayed (turn_at setting feet k w) (new_at k w x) log change
-  pub values : (place : Place) (v : ℕ) → new_at k w x place ≡ Some v → v ≡ place_value x (hart_of k w).pc place
+  pub values : (place : Place) (v : ℕ) → new_at k w x place ≡ Some v → v ≡ started_with x fetch place
   pub instruction : IsInstruction x
-  pub control : KeepsSatp change.control
+  pub control : keeps ≡ true → KeepsSatp change.control
 
 -- each place is what the next step lacks when its turn comes, and has its new value
 abbrev pub AreAsked : ℕ → Known → List (Place × ℕ) → Whole → Type 0
 AreAsked k new [] w = Unit {0}
 AreAsked k new (e ∷ es) w = (next_of k w ≡ Lacks e.0) × (new e.0 ≡ Some e.1) × AreAsked k new es (place_given k e.0 e.1 w)
+
+-- new places were given their values, in the order in which the next step asks for them
+pub record ArePlaced (k : ℕ) (new : Known) (old now : Whole) : Type 0 where
+  pub places : List (Place × ℕ)
+  pub can : CanGive k places old
+  pub listed : AreListed places new
+  pub asked : AreAsked k new places old
+  pub is : now ≡ all_given k places old
 
 -- the new places of an answer, registers and CSRs of the hart and words of memory, were given their values, in the order in which the step asks for them
 pub record AreGiven (k : ℕ) (x : Values) (old new : Whole) : Type 0 where
@@ -85,17 +101,17 @@ pub record IsTakenBy (k : ℕ) (x : Values) (r : Record) (old new : Whole) : Typ
 -- the values of an answer, taken on a test, give one record and one test
 abbrev pub TakingsAreOne : Type 0
 TakingsAreOne =
-    (k : ℕ) (x : Values) (r s : Record) (old new other : Whole) → IsTest old → k < length old.harts → IsPlayable k old x
+    (keeps : Bool) (k : ℕ) (fetch : Fetch) (x : Values) (r s : Record) (old new other : Whole) → IsTest old → k < length old.harts → IsPlayable keeps k old fetch x
     → IsTakenBy k x r old new → IsTakenBy k x s old other → (r ≡ s) × (new ≡ other)
 
--- RAM, names, choices and dropped biases are as they were, there are as many harts, and what is translated stays
-pub record IsStill (old new : Whole) : Type 0 where
+-- RAM, names, choices and dropped biases are as they were, and there are as many harts; satp is as it was, that of hart k where it keeps it
+pub record IsStill (keeps : Bool) (k : ℕ) (old new : Whole) : Type 0 where
   pub ram : new.ram ≡ old.ram
   pub names : new.names ≡ old.names
   pub choices : new.choices ≡ old.choices
   pub dropped : new.dropped ≡ old.dropped
   pub harts : length new.harts ≡ length old.harts
-  pub satp : (j : ℕ) → (hart_of j new).csrs.satp ≡ (hart_of j old).csrs.satp
+  pub satp : (j : ℕ) → (j ≡ k → keeps ≡ true) → (hart_of j new).csrs.satp ≡ (hart_of j old).csrs.satp
 
 -- the test of then, and all before it, still stand at their numbers
 pub record AreKept (old new : State) : Type 0 where

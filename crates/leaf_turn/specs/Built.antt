@@ -1,5 +1,5 @@
--- Leaves whose atoms bar what this build doesn't take: accesses to satp, and loads and stores but of the first hart.
-use Rattle.std.specs.Prelude.{◌≡◌, ℕ, Bool, true, not, ◌&&◌, ◌||◌, if◌then◌else◌, List, [], ◌∷◌}
+-- What the atoms of a leaf let through: loads and stores, and accesses to satp.
+use Rattle.std.specs.Prelude.{◌≡◌, ℕ, Bool, true, false, not, ◌&&◌, ◌||◌, if◌then◌else◌, List, [], ◌∷◌}
 use Rattle.std.specs.List.{list_all, list_any}
 use Rattle.dom_set.specs.Elements.{is_in}
 use Rattle.rv_isa.specs.declared.operation.Op.{Op}
@@ -12,8 +12,9 @@ use Rattle.tpl_ast.specs.declared.template.Var.{Var}
 use Rattle.tpl_ast.specs.declared.template.Var.TheVariants as vars
 use Rattle.tpl_ast.specs.declared.template.Wish.{Wish}
 use Rattle.tpl_ast.specs.Leaves.{same_var}
+use Rattle.leaf_link.specs.Cases.{all_tests}
 use Rattle.leaf_link.specs.Turns.{Turn}
-use Rattle.leaf_link.specs.Values.{has_csr_operand}
+use Rattle.leaf_link.specs.Values.{has_address, has_csr_operand}
 use Rattle.leaf_stand.specs.declared.stand.Stand.{Stand}
 use Rattle.leaf_stand.specs.Kinds.{kind_of}
 use Rattle.leaf_stand.specs.Posed.{are_posable, has_bytes, is_data}
@@ -47,22 +48,22 @@ may_be_data ws op = is_data (kind_of op) && all_let ws vars.Op (op_number op)
 abbrev pub lets_data : List Wish → Bool
 lets_data ws = list_any (may_be_data ws) OPS
 
--- the operation is no load or store unless the hart is the first, and can't access satp, or it is barred
-abbrev pub is_built : Bool → List Wish → Op → Bool
-is_built alone ws op = ((alone || not (is_data (kind_of op))) && not (may_be_satp ws op)) || not (all_let ws vars.Op (op_number op))
+-- the operation can't access satp, or is barred
+abbrev pub bars_satp_by : List Wish → Op → Bool
+bars_satp_by ws op = not (may_be_satp ws op) || not (all_let ws vars.Op (op_number op))
 
--- so it is with each operation that a leaf lets through
-abbrev pub are_built : Bool → List Wish → Bool
-are_built alone ws = list_all (is_built alone ws) OPS
+-- so it is with each operation
+abbrev pub bars_satp : List Wish → Bool
+bars_satp ws = list_all (bars_satp_by ws) OPS
 
--- then what it asks for can be posed wherever a hart stands, where the bytes of memory are told if a load or store is let through
-abbrev pub BuiltLeavesArePosable : Type 0
-BuiltLeavesArePosable = (ws : List Wish) (st : Stand) → (lets_data ws ≡ true → has_bytes st ≡ true) → are_posable st (mandatory_of ws) ≡ true
+-- what a leaf asks for can be posed wherever a hart stands, where the bytes of memory are told if a load or store is let through
+abbrev pub LeavesWithBytesArePosable : Type 0
+LeavesWithBytesArePosable = (ws : List Wish) (st : Stand) → (lets_data ws ≡ true → has_bytes st ≡ true) → are_posable st (mandatory_of ws) ≡ true
 
--- which is so in the first hart alone
-abbrev pub DataLeavesAreAlone : Type 0
-DataLeavesAreAlone = (alone : Bool) (ws : List Wish) → are_built alone ws ≡ true → lets_data ws ≡ true → alone ≡ true
+-- where none is, its atoms bar each operation that makes a data access
+abbrev pub LeavesWithoutDataBarIt : Type 0
+LeavesWithoutDataBarIt = (ws : List Wish) → lets_data ws ≡ false → (t : Turn) (op : Op) → has_address (row_of op) ≡ true → all_tests t (mandatory_of ws) vars.Op (op_number op) ≡ false
 
 -- and they bar accesses to satp
-abbrev pub BuiltLeavesBarSatp : Type 0
-BuiltLeavesBarSatp = (alone : Bool) (ws : List Wish) → are_built alone ws ≡ true → (t : Turn) → BarSatp t (mandatory_of ws)
+abbrev pub LeavesBarSatp : Type 0
+LeavesBarSatp = (ws : List Wish) → bars_satp ws ≡ true → (t : Turn) → BarSatp t (mandatory_of ws)

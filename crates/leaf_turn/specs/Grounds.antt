@@ -1,18 +1,22 @@
--- What a template lets steps start, and a hart whose addresses are not translated.
-use Rattle.std.specs.Prelude.{◌≡◌, ℕ, ◌^◌, ◌<◌, Bool, not, ◌&&◌, nat_eq, List, [], Option, Some, None, slice_get, slice_index_or}
+-- What a template lets steps start, and harts whose addresses are not translated.
+use Rattle.std.specs.Prelude.{◌≡◌, ℕ, ◌^◌, ◌<◌, ◌≤◌, length, Bool, not, ◌&&◌, nat_eq, List, [], Option, Some, None, slice_get, slice_index_or}
 use Rattle.std.specs.List.{list_any}
 use Rattle.dom_set.specs.Elements.{is_in}
 use Rattle.rv_csr.specs.State.{CsrValues}
 use Rattle.rv_script.specs.declared.access.Role.TheVariants.{Fetch}
 use Rattle.rv_script.specs.Bytes.{covers}
 use Rattle.foot_map.specs.declared.touch.Touch.{Touch}
-use Rattle.foot_map.specs.Races.{breaks}
+use Rattle.foot_map.specs.Races.{IsFootprint, breaks}
 use Rattle.tpl_ast.specs.declared.template.NameDecl.{NameDecl}
 use Rattle.tpl_ast.specs.declared.template.Template.{Template}
-use Rattle.part_machine.specs.Whole.{Whole, hart_of}
+use Rattle.tpl_ast.specs.Limits.{most_flags, most_pool, most_tables}
+use Rattle.part_machine.specs.Whole.{Whole, hart_of, records_of}
 use Rattle.leaf_stand.specs.declared.stand.Name.{Name}
 use Rattle.leaf_stand.specs.Stands.{set_named, value_named}
-use Rattle.turn_laws.specs.Given.{Setting}
+use Rattle.data_bytes.specs.declared.memory.DataBytes.{DataBytes}
+use Rattle.data_goals.specs.Rows.{HasBytes}
+use Rattle.tpl_admit.specs.Races.{footprints_of}
+use Rattle.turn_laws.specs.Given.{Setting, turn_at}
 
 -- the set of a declared name
 abbrev pub declared_set : Option NameDecl → List ℕ
@@ -24,13 +28,21 @@ pub record AreNamesOf (t : Template) (w : Whole) (names : List Name) : Type 0 wh
   pub values : (n : ℕ) → slice_index_or w.names n None ≡ value_named (slice_get names n)
   pub sets : (n : ℕ) → declared_set (slice_get t.names n) ≡ set_named (slice_get names n)
 
--- what a template lets a step start where no address is translated, and the sets of its names; what a source may be started with is said of each leaf apart
+-- what a template lets a step start, and the sets of its names; what a source may be started with is said of each leaf apart
 pub record IsSettingOf (t : Template) (s : Setting) : Type 0 where
   pub pool : s.pool ≡ t.pool
+  pub tables : s.tables ≡ t.tables
+  pub flags : s.flags ≡ t.flags
   pub vectors : s.vectors ≡ t.vectors
   pub sets : (n : ℕ) → s.sets n ≡ declared_set (slice_get t.names n)
 
--- no address of the hart is translated
+-- the template keeps the limits on frames and on flag bytes of entries
+pub record HasFewForms (t : Template) : Type 0 where
+  pub tables : length t.tables ≤ most_tables
+  pub pool : length t.pool ≤ most_pool
+  pub flags : length t.flags ≤ most_flags
+
+-- satp is 0, so that no address of the hart is translated
 abbrev pub IsUntranslated : ℕ → Whole → Type 0
 IsUntranslated k w = (hart_of k w).csrs.satp ≡ 0
 
@@ -48,3 +60,9 @@ pub record AreFixedWords (csrs : CsrValues) : Type 0 where
 -- an untouched source may have just the words of the set
 abbrev pub HasSourceSet : Setting → List ℕ → Type 0
 HasSourceSet s set = (v : ℕ) → v < 2 ^ 32 → s.sources v ≡ is_in set v
+
+-- what loads and stores of the first hart, which are not translated, may do with the bytes of memory; its fetch is from an address
+pub record IsDataAt (t : Template) (k : ℕ) (w : Whole) (pa : ℕ) (bytes : DataBytes) : Type 0 where
+  pub first : k ≡ 0
+  pub untranslated : IsUntranslated k w
+  pub has : (s : Setting) (feet : List Touch) → s.pool ≡ t.pool → IsFootprint feet (footprints_of (λ j. records_of j w)) → HasBytes (turn_at s feet k w) pa bytes

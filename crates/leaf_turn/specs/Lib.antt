@@ -1,5 +1,6 @@
 pub mod Grounds
 pub mod Answers
+pub mod Entering
 pub mod Untranslated
 pub mod Wishes
 pub mod Asking

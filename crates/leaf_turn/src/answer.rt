@@ -1,17 +1,17 @@
 // The answer of a leaf.
-ghost use Rattle.std.specs.Prelude.{nat_eq, ◌≡◌, ◌<◌, ◌^◌, true, false, ℕ, List, length, map, All, IfOk};
+ghost use Rattle.std.specs.Prelude.{◌≡◌, ◌<◌, ◌%◌, ◌^◌, Bool, true, ℕ, List, length, map, All, IfOk};
 ghost use Rattle.std.specs.List.{AllByRecursion};
-ghost use Rattle.rv_mem.specs.Seen.{is_there};
 ghost use Rattle.foot_map.specs.declared.touch.Touch.{Touch as ATouch};
 ghost use Rattle.foot_map.specs.Races.{IsFootprint};
 ghost use Rattle.tpl_ast.specs.Leaves.{IsPlain, atoms_of};
 ghost use Rattle.tpl_admit.specs.Races.{footprints_of};
-ghost use Rattle.part_machine.specs.Whole.{hart_of, records_of};
+ghost use Rattle.part_machine.specs.Whole.{records_of};
 ghost use Rattle.part_state.specs.State.{here};
 ghost use Rattle.turn_laws.specs.Given.{Setting, turn_at};
-ghost use Rattle.leaf_turn.specs.Grounds.{IsSettingOf, IsUntranslated};
+ghost use Rattle.leaf_turn.specs.Entering.{Leads};
+ghost use Rattle.leaf_turn.specs.Grounds.{HasFewForms, IsSettingOf, IsUntranslated};
 ghost use Rattle.data_bytes.specs.Frames.{AreFrames};
-ghost use Rattle.leaf_turn.specs.Built.{are_built};
+ghost use Rattle.leaf_turn.specs.Built.{bars_satp, lets_data};
 ghost use Rattle.leaf_turn.specs.Wishes.{biases_of, mandatory_of};
 ghost use Rattle.fd_prob.specs.declared.problem.Assignment.{Assignment as AnAssignment};
 ghost use Rattle.fd_solve.specs.declared.answers.Solved.TheVariants.{Found};
@@ -20,8 +20,6 @@ ghost use Rattle.leaf_link.specs.Cases.{HasSources};
 ghost use Rattle.turn_laws.specs.Ahead.{AreVectors};
 ghost use Rattle.leaf_turn.specs.Answers.{IsFound};
 ghost use Rattle.rv_script.specs.Folds.{Entry};
-ghost use Rattle.sv_walk.specs.Translation.{is_in_ram, is_translated};
-ghost use Rattle.rv_hart.specs.Machine.{data_view};
 ghost use Rattle.fd_prob.specs.declared.problem.Extra.{Extra as AnExtra};
 ghost use Rattle.leaf_link.specs.Turns.{Turn};
 ghost use Rattle.leaf_link.specs.Extras.{AllPlain, IsTurnLeafAnswer};
@@ -34,7 +32,8 @@ ghost use Rattle.leaf_pose.specs.Posed.{AreShaped};
 ghost use Rattle.leaf_turn.specs.Asking.{AreExtrasOf, AreOfCases};
 
 use crate::OutOfMemory;
-use crate::built::built_leaves_are_posable;
+use crate::built::leaves_with_bytes_are_posable;
+use crate::entering::pairs_of;
 use crate::known::known_is_words;
 use crate::laws::{answers_are_found, rows_are_there};
 use crate::memory::bytes_for;
@@ -65,9 +64,9 @@ fn extras_of(
     Ok(extras)
 }
 
-/// The answer of a leaf where a hart stands whose addresses are not translated: which biases are kept, and the first of
-/// what meets them and the atoms, in the order of the draws, or that nothing does, or that the budget of `nodes` is
-/// spent.
+/// The answer of a leaf where a hart stands: which biases are kept, and the first of what meets them and the atoms, in the
+/// order of the draws, or that nothing does, or that the budget of `nodes` is spent. Loads and stores are posed where no data
+/// access is translated.
 pub fn answer_of(
     alloc: Global,
     stand: &Stand,
@@ -79,7 +78,7 @@ pub fn answer_of(
     requires between { are_between atoms.now ≡ true }
     requires biases { All (λ b. are_between b.items ≡ true) biases.now }
     requires posable { are_posable stand.now atoms.now ≡ true }
-    ensures { IfOk result (λ answer. (t : Turn) (walk : List Entry) (pa : ℕ) → IsStandOf stand.now t walk pa → is_translated (data_view t.fixed) ≡ false → IsPosed t walk pa atoms.now → AllPlain (map (λ b. b.items) biases.now) → IsTurnLeafAnswer t pa atoms.now (map (λ b. b.items) biases.now) draws.now nodes answer) }
+    ensures { IfOk result (λ answer. (t : Turn) (walk : List Entry) (pa : ℕ) → IsStandOf stand.now t walk pa → IsPosed t walk pa atoms.now → AllPlain (map (λ b. b.items) biases.now) → IsTurnLeafAnswer t pa atoms.now (map (λ b. b.items) biases.now) draws.now nodes answer) }
 {
     rows_are_there();
     let posed = problem_of(alloc, stand, atoms, draws)?;
@@ -87,14 +86,15 @@ pub fn answer_of(
     Ok(solve_leaf(alloc, &posed.problem, &extras, nodes)?)
 }
 
-/// The answer of a `do` leaf where a hart of a test stands, in RAM and without translation, with the leaf's biases. The
-/// leaf's atoms bar accesses to satp, and loads and stores but of the first hart; the mandatory ones say what an untouched
-/// source may have. The first two draws are for the entries of its fetch, the
-/// others for the variables in their order. Dropped biases are told by their positions among the leaf's biases, from 0.
+/// The answer of a `do` leaf where a hart of a test stands and its pc leads to a physical address, with the leaf's biases.
+/// Where the leaf's atoms let loads or stores through, the hart is the first one and its addresses are not translated; the
+/// mandatory ones say what an untouched source may have. The first two draws are for the entries of its fetch, the others
+/// for the variables in their order. Dropped biases are told by their positions among the leaf's biases, from 0.
 pub fn leaf_answer(
     alloc: Global,
     part: &Part,
     hart: u8,
+    pa: u32,
     t: &Template,
     wishes: &[Wish],
     draws: &[u32; 16],
@@ -103,24 +103,26 @@ pub fn leaf_answer(
     requires hart { hart < length part.now.now.harts }
     requires names { length part.now.now.names ≡ length t.now.names }
     requires few { length t.now.names < 2 ^ 32 }
-    requires untranslated { IsUntranslated hart (here part.now) }
-    requires there { is_in_ram (λ n. is_there ((here part.now).memory n)) (hart_of hart (here part.now)).pc ≡ true }
+    requires forms { HasFewForms t.now }
+    requires leads { (walk : List Entry) × Leads hart (here part.now) walk pa }
+    requires aligned { pa % 4 ≡ 0 }
     requires plain { AllByRecursion IsPlain (atoms_of wishes.now) }
-    requires built { are_built (nat_eq hart 0) wishes.now ≡ true }
+    requires loads { lets_data wishes.now ≡ true → (hart ≡ 0) × IsUntranslated hart (here part.now) }
     requires frames { AreFrames t.now.pool }
     requires vectors { AreVectors t.now.vectors }
-    ensures answer { IfOk result (λ answer. (s : Setting) (feet : List ATouch) → IsSettingOf t.now s → HasSources (turn_at s feet hart (here part.now)) (mandatory_of wishes.now) → IsFootprint feet (footprints_of (λ k. records_of k (here part.now))) → IsTurnLeafAnswer (turn_at s feet hart (here part.now)) (hart_of hart (here part.now)).pc (mandatory_of wishes.now) (biases_of wishes.now) draws.now nodes answer) }
-    ensures found { IfOk result (λ answer. (x : AnAssignment) → answer.solved ≡ Found x → IsFound hart (here part.now) (values_in x)) }
+    ensures answer { IfOk result (λ answer. (s : Setting) (feet : List ATouch) → IsSettingOf t.now s → HasSources (turn_at s feet hart (here part.now)) (mandatory_of wishes.now) → IsFootprint feet (footprints_of (λ k. records_of k (here part.now))) → IsTurnLeafAnswer (turn_at s feet hart (here part.now)) pa (mandatory_of wishes.now) (biases_of wishes.now) draws.now nodes answer) }
+    ensures found { IfOk result (λ answer. (keeps : Bool) (x : AnAssignment) → (keeps ≡ true → bars_satp wishes.now ≡ true) → answer.solved ≡ Found x → IsFound keeps hart (here part.now) pa (values_in x)) }
 {
     leaves_are_between();
     answers_are_found();
-    built_leaves_are_posable();
+    leaves_with_bytes_are_posable();
     known_is_words(part, hart);
     let atoms = mandatory_of(alloc, wishes)?;
     let biases = biases_of(alloc, wishes)?;
     let names = names_of(alloc, part, t)?;
     let sources = sources_of(alloc, part, hart, t, &names, &atoms)?;
-    let bytes = bytes_for(alloc, part, hart, t, wishes)?;
-    let stand = stand_of(part, hart, t, &names, &sources, bytes);
+    let pairs = pairs_of(alloc, part, hart, t)?;
+    let bytes = bytes_for(alloc, part, hart, pa, t, wishes)?;
+    let stand = stand_of(part, hart, pa, pairs, t, &names, &sources, bytes);
     answer_of(alloc, &stand, &atoms, &biases, draws, nodes)
 }

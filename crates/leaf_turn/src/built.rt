@@ -1,7 +1,7 @@
-// Which leaves are built.
+// What the atoms of leaves let through and bar.
 ghost use Rattle.std.specs.Prelude.{◌≡◌};
 ghost use Rattle.std.specs.List.{list_all, list_any};
-ghost use Rattle.leaf_turn.specs.Built.{BuiltLeavesArePosable, BuiltLeavesBarSatp, DataLeavesAreAlone, all_let, are_built, is_built, lets, lets_data, may_be_data, may_be_satp};
+ghost use Rattle.leaf_turn.specs.Built.{LeavesBarSatp, LeavesWithBytesArePosable, LeavesWithoutDataBarIt, all_let, bars_satp, bars_satp_by, lets, lets_data, may_be_data, may_be_satp};
 
 use leaf_pose::{is_data, same_var};
 use rv_isa::{OPS, Op};
@@ -66,40 +66,38 @@ pub fn lets_data(wishes: &[Wish]) -> bool
     some_is_data(wishes, &OPS)
 }
 
-/// Whether an operation is barred, or can't access satp and is a load or store only where the hart is the first, `alone`.
-fn is_built(alone: bool, wishes: &[Wish], op: Op) -> bool
-    ensures { result ≡ is_built alone wishes.now op }
+/// Whether an operation is barred, or can't access satp.
+fn bars_satp_by(wishes: &[Wish], op: Op) -> bool
+    ensures { result ≡ bars_satp_by wishes.now op }
 {
-    ((alone || !is_data(op)) && !may_be_satp(wishes, op))
-        || !all_let(wishes, Var::Op, u32::from(op.number()))
+    !may_be_satp(wishes, op) || !all_let(wishes, Var::Op, u32::from(op.number()))
 }
 
-/// Whether each of the operations is built.
-fn each_is_built(alone: bool, wishes: &[Wish], ops: &[Op]) -> bool
-    ensures { result ≡ list_all (is_built alone wishes.now) ops.now }
+/// Whether each of the operations is barred or can't access satp.
+fn each_bars_satp(wishes: &[Wish], ops: &[Op]) -> bool
+    ensures { result ≡ list_all (bars_satp_by wishes.now) ops.now }
 {
     for op in ops {
-        if !is_built(alone, wishes, *op) {
+        if !bars_satp_by(wishes, *op) {
             return false;
         }
     }
     true
 }
 
-/// Whether the atoms of a leaf bar loads and stores, unless no hart comes before this one (`alone`), and of each CSR
-/// instruction either the operation or that its CSR is satp. So no step of such a leaf writes satp, and where no address is translated
-/// none is afterwards.
-pub fn are_built(alone: bool, wishes: &[Wish]) -> bool
-    ensures { result ≡ are_built alone wishes.now }
+/// Whether the atoms of a leaf that have to hold bar of each CSR instruction either the operation or that its CSR is satp.
+/// So no step of such a leaf writes satp.
+pub fn bars_satp(wishes: &[Wish]) -> bool
+    ensures { result ≡ bars_satp wishes.now }
 {
-    each_is_built(alone, wishes, &OPS)
+    each_bars_satp(wishes, &OPS)
 }
 
-/// Does nothing. Its contract says that the atoms of a leaf that is built can be posed wherever a hart stands, where it is
-/// told what may be done with the bytes of memory if they let loads or stores through, which they do only in the first
-/// hart; and that they bar accesses to satp.
-pub fn built_leaves_are_posable()
-    ensures posable { BuiltLeavesArePosable }
-    ensures alone { DataLeavesAreAlone }
-    ensures satp { BuiltLeavesBarSatp }
+/// Does nothing. Its contract says that the atoms of a leaf can be posed wherever a hart stands, where it is told what may be
+/// done with the bytes of memory if they let loads or stores through; that they let no operation through that makes a data
+/// access where they don't; and that they bar accesses to satp where that is told of them.
+pub fn leaves_with_bytes_are_posable()
+    ensures posable { LeavesWithBytesArePosable }
+    ensures bar { LeavesWithoutDataBarIt }
+    ensures satp { LeavesBarSatp }
 {}

@@ -1,36 +1,43 @@
-// Laws of turns without translation.
+// Laws of turns.
 ghost use Rattle.leaf_turn.specs.Answers.{TakingsAreOne};
-ghost use Rattle.leaf_turn.specs.Finding.{AnswersAreFound, FaultsArePlayable, FoundArePlayable};
-ghost use Rattle.leaf_turn.specs.Untranslated.{FetchRowsAreThere, LeafAnswersWithoutRows};
+ghost use Rattle.leaf_turn.specs.Finding.{AnswersAreFound, FaultsArePlayable, FetchesAreEnterable, FoundArePlayable};
+ghost use Rattle.leaf_turn.specs.Untranslated.{LeafAnswersWithoutRows};
 
-use leaf_link::{biases_are_kept, candidates_are_in_domains, values_are_by_places};
-use turn_laws::{played_steps_are_next, steps_are_played};
+use leaf_link::{
+    biases_are_kept, candidates_are_in_domains, data_rows_exist, entries_are_by_places,
+    values_are_by_places,
+};
+use turn_laws::{entries_are_next, played_steps_are_next, steps_are_played};
 
-/// Does nothing. Its contract says that where no address is translated there are rows for the fetch, and that a leaf's answer
-/// over those of data accesses is the answer of its turn.
+/// Does nothing. Its contract says that a leaf's answer over the rows of addresses that are not translated, or over any where
+/// data accesses are and nothing that is posed makes one, is the answer of its turn.
 pub fn rows_are_there()
-    ensures fetches { FetchRowsAreThere }
-    ensures answers { LeafAnswersWithoutRows }
+    ensures { LeafAnswersWithoutRows }
 {
     biases_are_kept();
+    data_rows_exist();
 }
 
 /// Does nothing. Its contract says that what is found for a leaf, with the biases that are kept, is the values of a
-/// candidate that can be taken, where the leaf's atoms bar accesses to satp.
+/// candidate that can be taken; and that it does not access satp where the leaf's atoms bar that.
 pub fn answers_are_found()
     ensures { AnswersAreFound }
 {
     candidates_are_in_domains();
+    data_rows_exist();
 }
 
-/// Does nothing. Its contract says that the values of what is found for a leaf, and for a `fault` leaf where no address is
-/// translated, are those of a step that its hart can make.
+/// Does nothing. Its contract says that the values of what is found for a leaf, and for a `fault` leaf, are those of a step
+/// that its hart can make; and that those of what is found for a fetch are of page table entries that can be given.
 pub fn answers_are_playable()
     ensures found { FoundArePlayable }
     ensures faults { FaultsArePlayable }
+    ensures fetches { FetchesAreEnterable }
 {
     values_are_by_places();
+    entries_are_by_places();
     steps_are_played();
+    entries_are_next();
 }
 
 /// Does nothing. Its contract says that the values of an answer give one record and one test when they are taken on a

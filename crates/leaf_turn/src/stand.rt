@@ -1,20 +1,20 @@
 // What is known where a hart of a test stands.
-ghost use Rattle.std.specs.Prelude.{◌≡◌, ◌<◌, ◌/◌, ◌%◌, ◌^◌, ◌&&◌, ◌||◌, [], true, ℕ, List, length, IfOk, IfSome};
+ghost use Rattle.std.specs.Prelude.{◌≡◌, ◌<◌, ◌/◌, ◌%◌, ◌^◌, ◌&&◌, ◌||◌, ℕ, List, length, IfOk, IfSome};
 ghost use Rattle.foot_map.specs.declared.touch.Touch.{Touch as ATouch};
 ghost use Rattle.foot_map.specs.Races.{IsFootprint};
-ghost use Rattle.rv_mem.specs.Seen.{is_there, known_word};
-ghost use Rattle.sv_walk.specs.Translation.{is_in_ram};
-ghost use Rattle.leaf_link.specs.Ways.{IsFetched};
+ghost use Rattle.rv_mem.specs.Seen.{known_word};
+ghost use Rattle.rv_script.specs.Folds.{Entry as AnEntry};
+ghost use Rattle.leaf_link.specs.Firsts.{data_pairs};
 ghost use Rattle.tpl_admit.specs.Races.{footprints_of};
-ghost use Rattle.part_machine.specs.Whole.{hart_of, records_of};
-ghost use Rattle.data_goals.specs.Rows.{HasBytes};
+ghost use Rattle.part_machine.specs.Whole.{records_of};
 ghost use Rattle.part_state.specs.State.{here};
 ghost use Rattle.leaf_link.specs.Turns.{in_frames};
 ghost use Rattle.dom_set.specs.Elements.{is_in};
 ghost use Rattle.leaf_link.specs.Cases.{all_tests, is_some_word};
 ghost use Rattle.leaf_stand.specs.Stands.{IsStandOf};
 ghost use Rattle.turn_laws.specs.Given.{Setting, turn_at};
-ghost use Rattle.leaf_turn.specs.Grounds.{AreNamesOf, HasSourceSet, IsSettingOf, IsUntranslated, is_free_fetch};
+ghost use Rattle.leaf_turn.specs.Entering.{Leads, TellsTraps};
+ghost use Rattle.leaf_turn.specs.Grounds.{AreNamesOf, HasSourceSet, IsDataAt, IsSettingOf, is_free_fetch};
 
 use crate::OutOfMemory;
 use data_bytes::DataBytes;
@@ -89,38 +89,69 @@ fn word_at(part: &Part, addr: u32) -> Option<u32>
     }
 }
 
-/// What is known where a hart stands whose addresses are not translated, the words that an untouched source may be started
-/// with, and what loads and stores of the first hart may do with the bytes of memory.
+/// What is known of a hart and of names alone, with `none` for its sources: enough for what atoms say of single variables, and
+/// for the trap of a fetch.
+pub fn bare_stand<'t>(
+    part: &Part,
+    hart: u8,
+    t: &'t Template,
+    names: &'t [Name<'t>],
+    none: &'t Set,
+) -> Stand<'t>
+    requires hart { hart < length part.now.now.harts }
+    ensures names { result.names.now ≡ names.now }
+    ensures traps { (s : Setting) (feet : List ATouch) → IsSettingOf t.now s → TellsTraps result (turn_at s feet hart (here part.now)) }
+{
+    let state = part.hart(hart);
+    Stand {
+        pc: state.pc,
+        privilege: state.privilege,
+        csrs: state.csrs,
+        registers: state.regs,
+        word: None,
+        fetches: false,
+        pairs: 1,
+        bytes: None,
+        sources: none,
+        vectors: &t.vectors,
+        names,
+    }
+}
+
+/// What is known where a hart stands whose pc leads to a physical address, the words that an untouched source may be
+/// started with, how many pairs of page table entries a load or store may start, and what those of the first hart may do
+/// with the bytes of memory where they are not translated.
 pub fn stand_of<'t>(
     part: &Part,
     hart: u8,
+    pa: u32,
+    pairs: u64,
     t: &'t Template,
     names: &'t [Name<'t>],
     sources: &'t Set,
     bytes: Option<DataBytes>,
 ) -> Stand<'t>
     requires hart { hart < length part.now.now.harts }
-    requires untranslated { IsUntranslated hart (here part.now) }
+    requires aligned { pa % 4 ≡ 0 }
+    requires pairs { (s : Setting) (feet : List ATouch) → IsSettingOf t.now s → data_pairs (turn_at s feet hart (here part.now)) ≡ pairs }
     requires names { AreNamesOf t.now (here part.now) names.now }
-    requires bytes { IfSome bytes (λ b. (hart ≡ 0) × ((u : Setting) (ts : List ATouch) → u.pool ≡ t.now.pool → IsFootprint ts (footprints_of (λ k. records_of k (here part.now))) → HasBytes (turn_at u ts hart (here part.now)) (hart_of hart (here part.now)).pc b)) }
-    ensures stand { (s : Setting) (feet : List ATouch) → IsSettingOf t.now s → HasSourceSet s sources.now → IsFootprint feet (footprints_of (λ k. records_of k (here part.now))) → IsStandOf result (turn_at s feet hart (here part.now)) [] result.pc }
+    requires bytes { IfSome bytes (IsDataAt t.now hart (here part.now) pa) }
+    ensures stand { (s : Setting) (feet : List ATouch) (walk : List AnEntry) → Leads hart (here part.now) walk pa → IsSettingOf t.now s → HasSourceSet s sources.now → IsFootprint feet (footprints_of (λ k. records_of k (here part.now))) → IsStandOf result (turn_at s feet hart (here part.now)) walk pa }
     ensures told { result.bytes ≡ bytes }
     // there are such footprints
     ensures feet { (feet : List ATouch) × IsFootprint feet (footprints_of (λ k. records_of k (here part.now))) }
-    // where the pc is in RAM, its fetch is settled
-    ensures fetched { (s : Setting) (feet : List ATouch) → is_in_ram (λ n. is_there ((here part.now).memory n)) result.pc ≡ true → IsFetched (turn_at s feet hart (here part.now)) [] result.pc }
 {
     part.is_test();
     let state = part.hart(hart);
-    let word = word_at(part, state.pc);
+    let word = word_at(part, pa);
     Stand {
         pc: state.pc,
         privilege: state.privilege,
         csrs: state.csrs,
         registers: state.regs,
         word,
-        fetches: may_fetch(part.feet(), hart, state.pc, word, t.pool.as_slice()),
-        pairs: 1,
+        fetches: may_fetch(part.feet(), hart, pa, word, t.pool.as_slice()),
+        pairs,
         bytes,
         sources,
         vectors: &t.vectors,
@@ -128,7 +159,7 @@ pub fn stand_of<'t>(
     }
 }
 
-/// The words that the atoms of a leaf leave to a source register where a hart stands whose addresses are not translated.
+/// The words that the atoms of a leaf leave to a source register.
 pub fn sources_of(
     alloc: Global,
     part: &Part,
@@ -138,12 +169,11 @@ pub fn sources_of(
     atoms: &[Atom],
 ) -> Result<Set, OutOfMemory>
     requires hart { hart < length part.now.now.harts }
-    requires untranslated { IsUntranslated hart (here part.now) }
     requires names { AreNamesOf t.now (here part.now) names.now }
-    ensures { IfOk result (λ sources. (s : Setting) (feet : List ATouch) → IsSettingOf t.now s → IsFootprint feet (footprints_of (λ k. records_of k (here part.now))) → (v : ℕ) → v < 2 ^ 32 → all_tests (turn_at s feet hart (here part.now)) atoms.now Var.A v ≡ is_in sources v) }
+    ensures { IfOk result (λ sources. (s : Setting) (feet : List ATouch) → IsSettingOf t.now s → (v : ℕ) → v < 2 ^ 32 → all_tests (turn_at s feet hart (here part.now)) atoms.now Var.A v ≡ is_in sources v) }
 {
-    // What passes atoms does not rest on the sources.
+    // What passes atoms rests on names alone.
     let none = Set::new(alloc);
-    let stand = stand_of(part, hart, t, names, &none, None);
+    let stand = bare_stand(part, hart, t, names, &none);
     Ok(stand.passing(alloc, Set::all(alloc)?, atoms, Var::A)?)
 }

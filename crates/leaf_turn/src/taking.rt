@@ -1,5 +1,5 @@
 // The step of an answer.
-ghost use Rattle.std.specs.Prelude.{◌≡◌, ◌<◌, length, OnOk, OnErr, IfOk};
+ghost use Rattle.std.specs.Prelude.{◌≡◌, ◌<◌, Bool, length, OnOk, OnErr, IfOk};
 ghost use Rattle.rv_script.specs.declared.place.Place.{Place as APlace};
 ghost use Rattle.rv_hart.specs.Clauses.{IsFitRecord};
 ghost use Rattle.part_state.specs.State.{here};
@@ -9,7 +9,8 @@ ghost use Rattle.leaf_link.specs.Values.{instr_in};
 ghost use Rattle.rv_script.specs.Logs.{enlarged};
 ghost use Rattle.leaf_link.specs.Candidates.{registers_from};
 ghost use Rattle.turn_laws.specs.Given.{known_at};
-ghost use Rattle.leaf_turn.specs.Answers.{AreGiven, AreKept, IsPlayable, IsStill, IsTakenBy, new_at};
+ghost use Rattle.leaf_turn.specs.Answers.{AreGiven, AreKept, IsPlayable, IsStill, IsTakenBy, new_at, started_with};
+ghost use Rattle.leaf_link.specs.FetchPlacing.{entry_value};
 
 use crate::OutOfMemory;
 use fd_prob::{Assignment, Slot};
@@ -34,16 +35,25 @@ fn instruction(x: &Assignment) -> Instr
     }
 }
 
-/// The value with which an answer starts a place, where the hart stands at a pc: the fetched word or the data word, the
+/// How the fetch of a step ends, for the values of the words that the step starts.
+#[derive(Clone, Copy)]
+pub enum Fetch {
+    /// The word is fetched from this physical address.
+    From(u32),
+    /// It fails; the root entry of its translation has this physical address.
+    Fails(u64),
+}
+
+/// The value with which an answer starts a place, where the word at `pa` is fetched: the fetched word or the data word, the
 /// value of a source register, or the vector of a trap. A step that reads a CSR takes no trap, so where the vector is 0 the
 /// value of a CSR is the old one.
-fn place_value(x: &Assignment, pc: u32, place: Place) -> u32
+fn place_value(x: &Assignment, pa: u32, place: Place) -> u32
     requires { IsInstruction (values_in x.now) }
-    ensures { result ≡ place_value (values_in x.now) pc place }
+    ensures { result ≡ place_value (values_in x.now) pa place }
 {
     match place {
         Place::Word(addr) => {
-            if addr == pc {
+            if addr == pa {
                 encode(&instruction(x))
             } else {
                 x.value(Slot::DataWord)
@@ -66,23 +76,50 @@ fn place_value(x: &Assignment, pc: u32, place: Place) -> u32
     }
 }
 
+/// The value with which an answer starts a place, where the fetch fails: a page table entry or the vector of the trap.
+fn entry_value(x: &Assignment, root: u64, place: Place) -> u32
+    ensures { result ≡ entry_value (values_in x.now) root place }
+{
+    match place {
+        Place::Word(addr) => {
+            if u64::from(addr) == root {
+                x.value(Slot::FirstPte)
+            } else {
+                x.value(Slot::SecondPte)
+            }
+        }
+        Place::Reg(_) => 0,
+        Place::Csr(_) => x.value(Slot::Vector),
+    }
+}
+
+/// The value with which an answer starts a place.
+fn started_with(x: &Assignment, fetch: Fetch, place: Place) -> u32
+    requires { IsInstruction (values_in x.now) }
+    ensures { result ≡ started_with (values_in x.now) fetch place }
+{
+    match fetch {
+        Fetch::From(pa) => place_value(x, pa, place),
+        Fetch::Fails(root) => entry_value(x, root, place),
+    }
+}
+
 /// Gives the hart what an answer starts, place by place, as its next step asks for it.
-fn give(part: &mut Part, hart: u8, x: &Assignment) -> Result<(), OutOfMemory>
+fn give(part: &mut Part, hart: u8, fetch: Fetch, x: &Assignment) -> Result<(), OutOfMemory>
     requires hart { hart < length part.old.now.harts }
-    requires playable { IsPlayable hart (here part.old) (values_in x.now) }
+    requires playable { (keeps : Bool) × IsPlayable keeps hart (here part.old) fetch (values_in x.now) }
     ensures given { OnOk result (AreGiven hart (values_in x.now) (here part.old) (here part.new)) }
     ensures kept { AreKept part.old part.new }
 {
     places_are_next();
     given_places_are_known();
     part.is_test();
-    let pc = part.hart(hart).pc;
     // A step asks ten questions at most.
     let mut left = 10u8;
     loop {
         match part.probe(hart) {
             Probe::Missing(place) => {
-                part.start_place(hart, place, place_value(x, pc, place))?;
+                part.start_place(hart, place, started_with(x, fetch, place))?;
                 left -= 1;
             }
             Probe::Ready(_) | Probe::Outside | Probe::Clash(_) => return Ok(()),
@@ -98,37 +135,42 @@ pub struct Step {
     pub before: [Option<u32>; 32],
 }
 
-fn give_and_step(part: &mut Part, hart: u8, x: &Assignment) -> Result<Step, OutOfMemory>
+fn give_and_step(
+    part: &mut Part,
+    hart: u8,
+    fetch: Fetch,
+    x: &Assignment,
+) -> Result<Step, OutOfMemory>
     requires hart { hart < length part.old.now.harts }
-    requires playable { IsPlayable hart (here part.old) (values_in x.now) }
+    requires playable { (keeps : Bool) × IsPlayable keeps hart (here part.old) fetch (values_in x.now) }
     ensures taken { IfOk result (λ s. IsTakenBy hart (values_in x.now) s.record (here part.old) (here part.new)) }
     ensures before { IfOk result (λ s. s.before ≡ registers_from (enlarged (known_at hart (here part.old)) (new_at hart (here part.old) (values_in x.now))) 0 32) }
     ensures fit { IfOk result (λ s. IsFitRecord s.record) }
-    ensures still { OnOk result (IsStill (here part.old) (here part.new)) }
+    ensures still { OnOk result ((keeps : Bool) → IsPlayable keeps hart (here part.old) fetch (values_in x.now) → IsStill keeps hart (here part.old) (here part.new)) }
     ensures kept { AreKept part.old part.new }
 {
     played_steps_are_next();
     given_places_are_known();
     part.is_test();
-    give(part, hart, x)?;
+    give(part, hart, fetch, x)?;
     let before = part.hart(hart).regs;
     let record = part.advance(hart)?;
     Ok(Step { record, before })
 }
 
 /// Starts the places of an answer and takes its step. A refusal changes nothing.
-pub fn take(part: &mut Part, hart: u8, x: &Assignment) -> Result<Step, OutOfMemory>
+pub fn take(part: &mut Part, hart: u8, fetch: Fetch, x: &Assignment) -> Result<Step, OutOfMemory>
     requires hart { hart < length part.old.now.harts }
-    requires playable { IsPlayable hart (here part.old) (values_in x.now) }
+    requires playable { (keeps : Bool) × IsPlayable keeps hart (here part.old) fetch (values_in x.now) }
     ensures taken { IfOk result (λ s. IsTakenBy hart (values_in x.now) s.record (here part.old) (here part.new)) }
     ensures before { IfOk result (λ s. s.before ≡ registers_from (enlarged (known_at hart (here part.old)) (new_at hart (here part.old) (values_in x.now))) 0 32) }
     ensures fit { IfOk result (λ s. IsFitRecord s.record) }
-    ensures still { OnOk result (IsStill (here part.old) (here part.new)) }
+    ensures still { OnOk result ((keeps : Bool) → IsPlayable keeps hart (here part.old) fetch (values_in x.now) → IsStill keeps hart (here part.old) (here part.new)) }
     ensures kept { OnOk result (AreKept part.old part.new) }
     ensures refused { OnErr result (part.new ≡ part.old) }
 {
     let mark = part.mark();
-    match give_and_step(part, hart, x) {
+    match give_and_step(part, hart, fetch, x) {
         Ok(step) => Ok(step),
         Err(error) => {
             part.rollback(mark);

@@ -144,6 +144,13 @@ impl Logged {
         &self.machine.harts[hart as usize]
     }
 
+    /// RAM.
+    pub fn ram(&self) -> &Ram
+        ensures { result.now ≡ (now_of self.now).ram }
+    {
+        &self.machine.ram
+    }
+
     /// Memory now.
     pub fn memory(&self) -> &PartMem
         ensures { (n : ℕ) → part_at result.now n ≡ (now_of self.now).memory n }

@@ -20,6 +20,7 @@ ghost use Rattle.tpl_admit.specs.WellFormed.{IsWellFormed};
 ghost use Rattle.part_state.specs.Beginning.{IsBegun};
 ghost use Rattle.part_state.specs.Told.{Tells, FitsFile};
 ghost use Rattle.rv_mem.specs.Ram.{in_ram};
+ghost use Rattle.rv_mem.specs.Seen.{is_there};
 ghost use Rattle.part_state.specs.State.{data_of, here, tests};
 
 use crate::OutOfMemory;
@@ -28,7 +29,7 @@ use crate::probe::Probe;
 use crate::starting::{harts_of, ram_of};
 use foot_map::FootMap;
 use rv_hart::{Hart, Record};
-use rv_mem::PartMem;
+use rv_mem::{PartMem, Ram};
 use rv_script::Place;
 use std::alloc::Global;
 use std::marker::Model;
@@ -81,6 +82,13 @@ impl Part {
         ensures { bare result.now ≡ hart_of hart (here self.now) }
     {
         self.inner.hart(hart)
+    }
+
+    /// RAM.
+    pub fn ram(&self) -> &Ram
+        ensures { (n : ℕ) → is_there ((here self.now).memory n) ≡ in_ram result.now n }
+    {
+        self.inner.ram()
     }
 
     /// Memory now.

@@ -2,6 +2,8 @@
 #![tactic(auto)]
 
 #[cfg(test)]
+mod fetches;
+#[cfg(test)]
 mod operations;
 #[cfg(test)]
 mod reading;

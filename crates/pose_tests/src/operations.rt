@@ -4,8 +4,8 @@ use crate::reading::{one, two_frames};
 use data_bytes::DataBytes;
 use dom_set::Set;
 use fd_solve::{Solved, solve};
-use leaf_pose::{Stand, are_between, fault_problem, fetch_problem, problem_of};
-use rv_csr::{Cause, Csrs, Priv};
+use leaf_pose::{Stand, are_between, problem_of};
+use rv_csr::{Csrs, Priv};
 use rv_isa::{OPS, Op};
 use std::alloc::Global;
 use std::process::Abort;
@@ -13,7 +13,7 @@ use std::test::Fail;
 use tpl_ast::{Atom, Var};
 
 /// A hart in M of which nothing but x0 is known, and the bytes of memory where they are told.
-fn stand_with(vectors: &Set, bytes: Option<DataBytes>) -> Stand<'_> {
+pub fn stand_with(vectors: &Set, bytes: Option<DataBytes>) -> Stand<'_> {
     let mut registers = [None; 32];
     registers[0] = Some(0);
     Stand {
@@ -98,44 +98,5 @@ fn cases_of_loads_and_stores(rt: HostRuntime) -> Result<(), Fail> {
     let posed = problem_of(alloc, &stand, &leaf, &[0; 16])?;
     // of each of 8 operations a first case, and one for each of its goals
     assert_eq!(&rt; posed.problem.cases.len(), 8 + 8 * 4);
-    Ok(())
-}
-
-/// Whether an answer has these values for the vector and 0 for all other variables.
-fn starts_vector_alone(solved: Solved, vector: u32) -> bool {
-    match solved {
-        Solved::Found(x) => x.values == [0, 0, 0, 0, 0, 0, 0, 0, 0, 0, 0, 0, 0, vector],
-        _ => false,
-    }
-}
-
-#[test]
-fn fetches_without_translation(rt: HostRuntime) -> Result<(), Fail> {
-    let alloc = rt.alloc();
-    let none = Set::new(alloc);
-    let vectors = one(alloc, 0x8000_0200)?;
-    let stand = stand_with(&vectors, None);
-    let fetch = fetch_problem(alloc, &stand, &none, &none, &[0; 16])?;
-    assert!(&rt; starts_vector_alone(solve(alloc, &fetch, 1)?, 0));
-    let fault = fault_problem(
-        alloc,
-        &stand,
-        &none,
-        &none,
-        &[0; 16],
-        Cause::FetchAccess,
-        true,
-    )?;
-    assert!(&rt; starts_vector_alone(solve(alloc, &fault, 1)?, 0x8000_0200));
-    let other = fault_problem(
-        alloc,
-        &stand,
-        &none,
-        &none,
-        &[0; 16],
-        Cause::FetchAccess,
-        false,
-    )?;
-    assert!(&rt; matches!(solve(alloc, &other, 1)?, Solved::NoneFits));
     Ok(())
 }

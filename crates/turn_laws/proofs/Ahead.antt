@@ -16,11 +16,11 @@ use Rattle.rv_script.specs.declared.place.Place.{Place}
 use Rattle.rv_script.specs.declared.place.Place.TheVariants.{Reg, Csr}
 use Rattle.rv_script.specs.Bytes.{word_address}
 use Rattle.rv_script.specs.Lists.{HasItem}
-use Rattle.rv_script.specs.Script.{Label, Label.FromCsr, Label.FromVector, Question, Question.OfRegister, Question.OfCsr, Question.OfMemory, Question.ToMemory, access_of, place_of}
+use Rattle.rv_script.specs.Script.{Label, Label.FromCsr, Label.FromVector, Question, Question.OfRegister, Question.OfCsr, Question.OfMemory, Question.ToMemory, access_of, place_of, Script}
 use Rattle.rv_script.specs.Folds.{Known, Answer, Answer.Does, Answer.Missing as Lacks, Answer.Nowhere, Entry, by_known, play}
-use Rattle.rv_script.specs.Labels.{label_of}
+use Rattle.rv_script.specs.Labels.{Asks, label_of}
 use Rattle.rv_script.specs.Laws.{TellsMore}
-use Rattle.rv_script.specs.Logs.{enlarged, entry_label, entry_place, found, or_else, same_place, where_unknown}
+use Rattle.rv_script.specs.Logs.{answer_told, enlarged, entry_label, entry_place, found, or_else, same_place, started, where_unknown}
 use Rattle.rv_script.proofs.Plays.{found_one, play_same, same_is, same_refl}
 use Rattle.sv_walk.specs.Translation.{is_in_ram}
 use Rattle.rv_hart.specs.declared.record.Change.{Change}
@@ -32,7 +32,7 @@ use Rattle.rv_hart.proofs.Forms.{script_between}
 use Rattle.foot_map.specs.declared.touch.Touch.{Touch}
 use Rattle.part_machine.specs.Whole.{Whole, fixed_in, hart_of, next_of}
 use Rattle.part_state.specs.Meaning.{CanStart, IsLegalValue, IsNamed, IsStartable, IsTest, place_given}
-use Rattle.leaf_link.specs.Turns.{Turn, holds_address, may_be_for, may_be_old}
+use Rattle.leaf_link.specs.Turns.{Turn, holds_address, may_be_for, may_be_old, may_start}
 use Rattle.leaf_link.specs.Candidates.{accesses_in}
 use Rattle.turn_laws.specs.Given.{AreListed, CanGive, IsAddressed, Setting, all_given, given_to, known_at, turn_at}
 use Rattle.turn_laws.specs.Played.{IsPlayed}
@@ -189,23 +189,24 @@ done_nowhere xs c e = absurd (cc e)
 
 -- ---- on the way
 
+-- a script of a hart, played on what is known and on all that it starts, some of which is given
 module _
-    (s : Setting) (feet : List Touch) (k : ℕ) (w : Whole) (new : Known) (es : List (Place × ℕ)) (log : List Entry) (change : Change) (test : IsTest w) (l : k < length w.harts) (aligned : (fixed_in (hart_of k w) w.memory).pc % 4 ≡ 0) (vectors : AreVectors s.vectors)
-    (can : CanGive k es w) (among : AreAmong es new) (p : IsPlayed (turn_at s feet k w) new log change) where
-  abbrev after : Whole
+    (s : Setting) (feet : List Touch) (k : ℕ) (w : Whole) (new : Known) (es : List (Place × ℕ)) (log : List Entry) (test : IsTest w) (l : k < length w.harts) (vectors : AreVectors s.vectors)
+    (can : CanGive k es w) (among : AreAmong es new) where
+  abbrev pub after : Whole
   after = all_given k es w
 
-  abbrev fixed : Fixed
+  abbrev pub fixed : Fixed
   fixed = fixed_in (hart_of k w) w.memory
 
   -- what is known with the places that are given, and with all of them
-  abbrev now : Known
+  abbrev pub now : Known
   now = known_at k after
 
-  abbrev some : Known
+  abbrev pub some : Known
   some = enlarged (known_at k w) (given_to es)
 
-  abbrev all : Known
+  abbrev pub all : Known
   all = enlarged (known_at k w) new
 
   after_test : IsTest after
@@ -217,49 +218,10 @@ module _
   same : (place : Place) → IsNamed place → now place ≡ some place
   same place named = known k es w test l can place named
 
-  told_later : TellsMore (by_known now) (by_known all)
+  pub told_later : TellsMore (by_known now) (by_known all)
   told_later q v h =
       grown (known_at k w (place_of q)) (given_to es (place_of q)) (new (place_of q)) (among (place_of q)) v
       (tells now some (λ place named. sym (same place named)) (λ n u e. register_known k n u after (after_test.fit k after_has) e) q v h)
-
-  next_is : next_of k after ≡ play access_of (by_known now) (script fixed)
-  next_is = ap (λ (f : Fixed). play access_of (by_known now) (script f)) (fixed_parts k es w test l can)
-
-  fork : IsStopped (by_known now) (script fixed) log ⊎ AreTold (by_known now) log
-  fork = stopped_or_told (script fixed) (by_known all) (by_known now) log change told_later p.plays
-
-  done : AreTold (by_known now) log → next_of k after ≡ Does (accesses_in log) change
-  done told = next_is ∙ with_accesses (script fixed) (by_known now) log change (play_same (script fixed) (by_known all) (by_known now) log change p.plays told)
-
-  -- where the step lacks a place, its log asks for it
-  lacked : (place : Place) → next_of k after ≡ Lacks place → IsLackedIn (by_known now) log place
-  lacked place h = elim fork [
-    | inl stopped ↦
-        subst (λ (q : Place). IsLackedIn (by_known now) log q) (same_lacked stopped.place place (sym (next_is ∙ stopped.stops) ∙ h)) stopped.lacked
-    | inr told ↦ absurd (done_lacks (accesses_in log) change place (sym (done told) ∙ h))
-  ]
-
-  somewhere : next_of k after ≡ Nowhere → ⊥
-  somewhere h = elim fork [
-    | inl stopped ↦ lacks_nowhere stopped.place (sym (next_is ∙ stopped.stops) ∙ h)
-    | inr told ↦ done_nowhere (accesses_in log) change (sym (done told) ∙ h)
-  ]
-
-  all_told : (xs : List Access) (change : Change) → next_of k after ≡ Does xs change → AreTold (by_known now) log
-  all_told xs change h = elim fork [
-    | inl stopped ↦ absurd (done_lacks xs change stopped.place (sym h ∙ next_is ∙ stopped.stops))
-    | inr told ↦ told
-  ]
-
-  askable : (e : Entry) → HasItem log e → IsAskable fixed.ram e.question
-  askable e i = asked_in (IsAskable fixed.ram) (script fixed) (by_known all) log change (asks_places fixed aligned) p.plays e i
-
-  named : (e : Entry) → HasItem log e → IsNamed (entry_place e)
-  named e i = named_of fixed.ram e.question (askable e i)
-
-  -- it was not known, and is not given yet
-  unknown : (e : Entry) → HasItem log e → now (entry_place e) ≡ None → (known_at k w (entry_place e) ≡ None) × (given_to es (entry_place e) ≡ None)
-  unknown e i none = neither (known_at k w (entry_place e)) (given_to es (entry_place e)) (sym (same (entry_place e) (named e i)) ∙ none)
 
   ram_is : (n : ℕ) → fixed.ram n ≡ in_ram after.ram n
   ram_is n = ap (λ (f : Fixed). f.ram n) (sym (fixed_parts k es w test l can)) ∙ after_test.there n
@@ -277,71 +239,130 @@ module _
   startable (OfMemory label addr size) h none = let e : word_address addr % 4 ≡ 0 = omega arith in (e, in_ram_after (word_address addr) (needable fixed.ram (OfMemory label addr size) h).1)
   startable (ToMemory addr size value) h none = let e : word_address addr % 4 ≡ 0 = omega arith in (e, in_ram_after (word_address addr) (needable fixed.ram (ToMemory addr size value) h).1)
 
-  at_entry : (e : Entry) → HasItem log e → now (entry_place e) ≡ None → IsNextPlace k w new es (entry_place e)
-  at_entry e i none =
-      let gone = unknown e i none in
-      let f = found_one log e i in
-      let is : new (entry_place e) ≡ Some f.0.value = p.exact (entry_place e) ∙ ap (λ (o : Option ℕ). where_unknown o (found log (entry_place e))) gone.0 ∙ f.3 in
-      let may = p.may f.0 f.1 (ap (λ (q : Place). known_at k w q) f.2 ∙ gone.0) in
-      let parts = and_parts (ltb f.0.value (2 ^ 32)) (may_be_for (turn_at s feet k w) may.0 (entry_label f.0) (entry_place f.0) f.0.value) may.1 in
-      let csrs : AsksCsr f.0.question = asked_in AsksCsr (script fixed) (by_known all) log change (asks_csrs fixed) p.plays f.0 f.1 in
-      record {
-        value = f.0.value;
-        new_is = is;
-        later = gone.1;
-        can = record {
-          startable = startable e.question (askable e i) none;
-          unknown = none;
-          legal = subst (λ (q : Place). IsLegalValue q f.0.value) f.2 (legal_of (turn_at s feet k w) may.0 f.0.question f.0.value csrs vectors parts.1);
-        };
-        address = addressed_of fixed.ram e.question (askable e i);
-        fits = ltb-true f.0.value (2 ^ 32) parts.0;
-      }
+  module _ (A : Type 0) (sc : Script A) (a : A) (plays : answer_told (by_known all) sc ≡ Does log a) (exact : (place : Place) → new place ≡ started (known_at k w) log place)
+      (may : (e : Entry) → HasItem log e → known_at k w (entry_place e) ≡ None → (i : Instr) × (may_start (turn_at s feet k w) i (entry_label e) (entry_place e) e.value ≡ true))
+      (asks : Asks (IsAskable fixed.ram) sc) (asks_of_csrs : Asks AsksCsr sc) where
+    pub fork : IsStopped (by_known now) sc log ⊎ AreTold (by_known now) log
+    fork = stopped_or_told sc (by_known all) (by_known now) log a told_later plays
 
-  next_place : (place : Place) → IsLackedIn (by_known now) log place → IsNextPlace k w new es place
-  next_place place lack = subst (λ (q : Place). IsNextPlace k w new es q) lack.at (at_entry lack.asked lack.among lack.untold)
+    askable : (e : Entry) → HasItem log e → IsAskable fixed.ram e.question
+    askable e i = asked_in (IsAskable fixed.ram) sc (by_known all) log a asks plays e i
 
-  fewer : (place : Place) (v : ℕ) → IsLackedIn (by_known now) log place → unknown_in (enlarged (known_at k w) (given_to (es ++ (place, v) ∷ []))) log < unknown_in some log
-  fewer place v lack =
-      let gone = unknown lack.asked lack.among lack.untold in
-      let more : Known = enlarged (known_at k w) (given_to (es ++ (place, v) ∷ [])) in
-      let less : ((q : Place) → count_unknown (more q) ≤ count_unknown (some q)) =
-      λ q. subst (λ (o : Option ℕ). count_unknown (or_else (known_at k w q) o) ≤ count_unknown (some q)) (sym (given_more es place v q)) (fewer_unknown (known_at k w q) (given_to es q) (last_given place v q)) in
-      let here : last_given place v (entry_place lack.asked) ≡ Some v =
-      subst (λ (q : Place). last_given q v (entry_place lack.asked) ≡ Some v) lack.at (ap (λ (b : Bool). if b then Some v else None) (same_refl (entry_place lack.asked))) in
-      let given : given_to (es ++ (place, v) ∷ []) (entry_place lack.asked) ≡ Some v =
-      given_more es place v (entry_place lack.asked) ∙ ap (λ (o : Option ℕ). or_else o (last_given place v (entry_place lack.asked))) gone.1 ∙ here in
-      let before : some (entry_place lack.asked) ≡ None = sym (same (entry_place lack.asked) (named lack.asked lack.among)) ∙ lack.untold in
-      let behind : more (entry_place lack.asked) ≡ Some v = ap (λ (o : Option ℕ). or_else o (given_to (es ++ (place, v) ∷ []) (entry_place lack.asked))) gone.0 ∙ given in
-      less_unknown some more log lack.asked v lack.among less before behind
+    named : (e : Entry) → HasItem log e → IsNamed (entry_place e)
+    named e i = named_of fixed.ram e.question (askable e i)
 
-  more_among : (place : Place) (v : ℕ) → IsLackedIn (by_known now) log place → new place ≡ Some v → AreAmong (es ++ (place, v) ∷ []) new × CanGive k (es ++ (place, v) ∷ []) w
-  more_among place v lack is =
-      let next = next_place place lack in
-      let value : next.value ≡ v = same_Some next.value v (sym next.new_is ∙ is) in
-      (among_more new es place v among is, can_give_more k es place v w can (subst (λ (u : ℕ). CanStart k place u after) value next.can) next.address (subst (λ (u : ℕ). u < 2 ^ 32) value next.fits))
+    -- it was not known, and is not given yet
+    unknown : (e : Entry) → HasItem log e → now (entry_place e) ≡ None → (known_at k w (entry_place e) ≡ None) × (given_to es (entry_place e) ≡ None)
+    unknown e i none = neither (known_at k w (entry_place e)) (given_to es (entry_place e)) (sym (same (entry_place e) (named e i)) ∙ none)
 
-  -- all that is asked for is known or given
-  none_left : AreTold (by_known now) log → (place : Place) → known_at k w place ≡ None → given_to es place ≡ None → (v : ℕ) → found log place ≡ Some v → ⊥
-  none_left told place none is v says =
-      let e = found_at log place v says in
-      let lacks : some place ≡ None = ap (λ (o : Option ℕ). or_else o (given_to es place)) none ∙ is in
-      some_none e.0.value (sym (told e.0 e.1) ∙ same (entry_place e.0) (named e.0 e.1) ∙ ap some e.2 ∙ lacks)
+    at_entry : (e : Entry) → HasItem log e → now (entry_place e) ≡ None → IsNextPlace k w new es (entry_place e)
+    at_entry e i none =
+        let gone = unknown e i none in
+        let f = found_one log e i in
+        let is : new (entry_place e) ≡ Some f.0.value = exact (entry_place e) ∙ ap (λ (o : Option ℕ). where_unknown o (found log (entry_place e))) gone.0 ∙ f.3 in
+        let let_so = may f.0 f.1 (ap (λ (q : Place). known_at k w q) f.2 ∙ gone.0) in
+        let parts = and_parts (ltb f.0.value (2 ^ 32)) (may_be_for (turn_at s feet k w) let_so.0 (entry_label f.0) (entry_place f.0) f.0.value) let_so.1 in
+        let csrs : AsksCsr f.0.question = asked_in AsksCsr sc (by_known all) log a asks_of_csrs plays f.0 f.1 in
+        record {
+          value = f.0.value;
+          new_is = is;
+          later = gone.1;
+          can = record {
+            startable = startable e.question (askable e i) none;
+            unknown = none;
+            legal = subst (λ (q : Place). IsLegalValue q f.0.value) f.2 (legal_of (turn_at s feet k w) let_so.0 f.0.question f.0.value csrs vectors parts.1);
+          };
+          address = addressed_of fixed.ram e.question (askable e i);
+          fits = ltb-true f.0.value (2 ^ 32) parts.0;
+        }
 
-  all_listed : AreTold (by_known now) log → AreListed es new
-  all_listed told place = either (given_to es place) refl
-    where
-      either : (o : Option ℕ) → given_to es place ≡ o → o ≡ new place
-      either (Some v) is = sym (among place v is)
-      either None is = sym (p.exact place ∙ not_started (known_at k w place) (found log place) (λ none v says. none_left told place none is v says))
+    pub next_place : (place : Place) → IsLackedIn (by_known now) log place → IsNextPlace k w new es place
+    next_place place lack = subst (λ (q : Place). IsNextPlace k w new es q) lack.at (at_entry lack.asked lack.among lack.untold)
+
+    pub fewer : (place : Place) (v : ℕ) → IsLackedIn (by_known now) log place → unknown_in (enlarged (known_at k w) (given_to (es ++ (place, v) ∷ []))) log < unknown_in some log
+    fewer place v lack =
+        let gone = unknown lack.asked lack.among lack.untold in
+        let more : Known = enlarged (known_at k w) (given_to (es ++ (place, v) ∷ [])) in
+        let less : ((q : Place) → count_unknown (more q) ≤ count_unknown (some q)) =
+        λ q. subst (λ (o : Option ℕ). count_unknown (or_else (known_at k w q) o) ≤ count_unknown (some q)) (sym (given_more es place v q)) (fewer_unknown (known_at k w q) (given_to es q) (last_given place v q)) in
+        let here : last_given place v (entry_place lack.asked) ≡ Some v =
+        subst (λ (q : Place). last_given q v (entry_place lack.asked) ≡ Some v) lack.at (ap (λ (b : Bool). if b then Some v else None) (same_refl (entry_place lack.asked))) in
+        let given : given_to (es ++ (place, v) ∷ []) (entry_place lack.asked) ≡ Some v =
+        given_more es place v (entry_place lack.asked) ∙ ap (λ (o : Option ℕ). or_else o (last_given place v (entry_place lack.asked))) gone.1 ∙ here in
+        let before : some (entry_place lack.asked) ≡ None = sym (same (entry_place lack.asked) (named lack.asked lack.among)) ∙ lack.untold in
+        let behind : more (entry_place lack.asked) ≡ Some v = ap (λ (o : Option ℕ). or_else o (given_to (es ++ (place, v) ∷ []) (entry_place lack.asked))) gone.0 ∙ given in
+        less_unknown some more log lack.asked v lack.among less before behind
+
+    pub more_among : (place : Place) (v : ℕ) → IsLackedIn (by_known now) log place → new place ≡ Some v → AreAmong (es ++ (place, v) ∷ []) new × CanGive k (es ++ (place, v) ∷ []) w
+    more_among place v lack is =
+        let next = next_place place lack in
+        let value : next.value ≡ v = same_Some next.value v (sym next.new_is ∙ is) in
+        (among_more new es place v among is, can_give_more k es place v w can (subst (λ (u : ℕ). CanStart k place u after) value next.can) next.address (subst (λ (u : ℕ). u < 2 ^ 32) value next.fits))
+
+    -- all that is asked for is known or given
+    none_left : AreTold (by_known now) log → (place : Place) → known_at k w place ≡ None → given_to es place ≡ None → (v : ℕ) → found log place ≡ Some v → ⊥
+    none_left told place none is v says =
+        let e = found_at log place v says in
+        let lacks : some place ≡ None = ap (λ (o : Option ℕ). or_else o (given_to es place)) none ∙ is in
+        some_none e.0.value (sym (told e.0 e.1) ∙ same (entry_place e.0) (named e.0 e.1) ∙ ap some e.2 ∙ lacks)
+
+    pub all_listed : AreTold (by_known now) log → AreListed es new
+    all_listed told place = either (given_to es place) refl
+      where
+        either : (o : Option ℕ) → given_to es place ≡ o → o ≡ new place
+        either (Some v) is = sym (among place v is)
+        either None is = sym (exact place ∙ not_started (known_at k w place) (found log place) (λ none v says. none_left told place none is v says))
+
+-- ---- a step
+
+module _
+    (s : Setting) (feet : List Touch) (k : ℕ) (w : Whole) (new : Known) (es : List (Place × ℕ)) (log : List Entry) (change : Change) (test : IsTest w) (l : k < length w.harts) (aligned : (fixed_in (hart_of k w) w.memory).pc % 4 ≡ 0) (vectors : AreVectors s.vectors)
+    (can : CanGive k es w) (among : AreAmong es new) (p : IsPlayed (turn_at s feet k w) new log change) where
+  abbrev to : Whole
+  to = all_given k es w
+
+  abbrev own : Fixed
+  own = fixed_in (hart_of k w) w.memory
+
+  asks : Asks (IsAskable own.ram) (script own)
+  asks = asks_places own aligned
+
+  next_is : next_of k to ≡ play access_of (by_known (known_at k to)) (script own)
+  next_is = ap (λ (f : Fixed). play access_of (by_known (known_at k to)) (script f)) (fixed_parts k es w test l can)
+
+  way : IsStopped (by_known (known_at k to)) (script own) log ⊎ AreTold (by_known (known_at k to)) log
+  way = fork s feet k w new es log test l vectors can among Change (script own) change p.plays p.exact p.may asks (asks_csrs own)
+
+  done : AreTold (by_known (known_at k to)) log → next_of k to ≡ Does (accesses_in log) change
+  done told = next_is ∙ with_accesses (script own) (by_known (known_at k to)) log change (play_same (script own) (by_known (enlarged (known_at k w) new)) (by_known (known_at k to)) log change p.plays told)
+
+  -- where the step lacks a place, its log asks for it
+  lacked : (place : Place) → next_of k to ≡ Lacks place → IsLackedIn (by_known (known_at k to)) log place
+  lacked place h = elim way [
+    | inl stopped ↦
+        subst (λ (q : Place). IsLackedIn (by_known (known_at k to)) log q) (same_lacked stopped.place place (sym (next_is ∙ stopped.stops) ∙ h)) stopped.lacked
+    | inr told ↦ absurd (done_lacks (accesses_in log) change place (sym (done told) ∙ h))
+  ]
+
+  somewhere : next_of k to ≡ Nowhere → ⊥
+  somewhere h = elim way [
+    | inl stopped ↦ lacks_nowhere stopped.place (sym (next_is ∙ stopped.stops) ∙ h)
+    | inr told ↦ done_nowhere (accesses_in log) change (sym (done told) ∙ h)
+  ]
+
+  all_told : (xs : List Access) (change : Change) → next_of k to ≡ Does xs change → AreTold (by_known (known_at k to)) log
+  all_told xs change h = elim way [
+    | inl stopped ↦ absurd (done_lacks xs change stopped.place (sym h ∙ next_is ∙ stopped.stops))
+    | inr told ↦ told
+  ]
 
   pub underway : IsUnderway k w new es log
   underway = record {
-    lacks = λ place h. next_place place (lacked place h);
-    fewer = λ place v h is. fewer place v (lacked place h);
-    among = λ place v h is. more_among place v (lacked place h) is;
+    lacks = λ place h. next_place s feet k w new es log test l vectors can among Change (script own) change p.plays p.exact p.may asks (asks_csrs own) place (lacked place h);
+    fewer = λ place v h is. fewer s feet k w new es log test l vectors can among Change (script own) change p.plays p.exact p.may asks (asks_csrs own) place v (lacked place h);
+    among = λ place v h is. more_among s feet k w new es log test l vectors can among Change (script own) change p.plays p.exact p.may asks (asks_csrs own) place v (lacked place h) is;
     somewhere = somewhere;
-    listed = λ xs change h. all_listed (all_told xs change h);
+    listed = λ xs other h. all_listed s feet k w new es log test l vectors can among Change (script own) change p.plays p.exact p.may asks (asks_csrs own) (all_told xs other h);
   }
 
 pub short : (t : Turn) (new known : Known) (log : List Entry) (change : Change) → IsPlayed t new log change → unknown_in known log ≤ 10

@@ -6,3 +6,4 @@ pub mod CsrQuestions
 pub mod Ahead
 pub mod Starts
 pub mod Back
+pub mod Entered

@@ -3,3 +3,4 @@ pub mod Played
 pub mod Laws
 pub mod Ahead
 pub mod Back
+pub mod Entered

@@ -1,6 +1,7 @@
 // What holds of places that are given and of steps that are taken.
 ghost use Rattle.turn_laws.specs.Ahead.{LogsAreShort, OneMoreIsGiven, PlacesAreNext};
 ghost use Rattle.turn_laws.specs.Back.{StepsAreOfCandidates};
+ghost use Rattle.turn_laws.specs.Entered.{EntriesAreNext, FetchCandidatesAreWalked, WalksAreShort};
 ghost use Rattle.turn_laws.specs.Laws.{GivenPlacesAreKnown, GivenTestsAreTests, GivesRegisters, FixedPartsStay, OthersStay, PlayedStepsAreNext, StartsGrow};
 ghost use Rattle.turn_laws.specs.Played.{CandidatesArePlayed, FaultsArePlayed};
 
@@ -46,4 +47,14 @@ pub fn places_are_next()
 /// asks for.
 pub fn steps_are_of_candidates()
     ensures { StepsAreOfCandidates }
+{}
+
+/// Does nothing. Its contract says what the translation of a hart's pc lacks while the page table entries that a fetch
+/// starts are given to it one by one: an entry that is not given yet, which the next step lacks as well and which can start
+/// with its value, and fewer are left behind it; or it is done, and then all of them are given. So two are enough. Those of
+/// a candidate for the fetch of a `do` leaf are such entries.
+pub fn entries_are_next()
+    ensures next { EntriesAreNext }
+    ensures short { WalksAreShort }
+    ensures candidates { FetchCandidatesAreWalked }
 {}

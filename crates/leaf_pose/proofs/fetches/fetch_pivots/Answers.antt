@@ -1,4 +1,4 @@
-use Rattle.leaf_pose.proofs.Settled.{fetch_pivots_are}
+use Rattle.leaf_pose.proofs.Fetching.{fetch_pivots_are}
 use Rattle.leaf_pose.proofs.fetches.fetch_pivots.Goals as goal
 
 pub returns : goal.returns

@@ -1,0 +1,4 @@
+pub mod Free
+pub mod Listed
+pub mod Walked
+pub mod Collected
