@@ -84,12 +84,12 @@ module _ (rule : Rule) where
   body_told items = ap (λ (is : List Item). lines_keep rule (lines_of_body is)) (sym (items_back told items)) ∙ items_told (proved told items) ∙ ap (body_keeps rule) (items_back told items)
 
 abbrev are_plain_by_lines : Bool → List HartLines → Bool
-are_plain_by_lines alone [] = true
-are_plain_by_lines alone (h ∷ hs) = ((h.start.satp == 0) && lines_keep (Plain alone) h.body) && are_plain_by_lines false hs
+are_plain_by_lines first [] = true
+are_plain_by_lines first (h ∷ hs) = ((h.start.satp == 0) && lines_keep (Plain first) h.body) && are_plain_by_lines false hs
 
-plain_told : (alone : Bool) (hs : List HartDecl) → are_plain_by_lines alone (map hart_lines hs) ≡ are_harts_plain alone hs
-plain_told alone [] = refl
-plain_told alone (h ∷ hs) = λ i. ((h.start.satp == 0) && body_told (Plain alone) h.body.items i) && plain_told false hs i
+plain_told : (first : Bool) (hs : List HartDecl) → are_plain_by_lines first (map hart_lines hs) ≡ are_harts_plain first hs
+plain_told first [] = refl
+plain_told first (h ∷ hs) = λ i. ((h.start.satp == 0) && body_told (Plain first) h.body.items i) && plain_told false hs i
 
 abbrev are_dataless_by_lines : List HartLines → Bool
 are_dataless_by_lines [] = true

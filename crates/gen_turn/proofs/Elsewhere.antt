@@ -34,7 +34,7 @@ module _ (k j : ℕ) (other : j ≢ k) where
   hart_stays x r old new t =
       ap (λ (w : Whole). hart_of j w) t.now
       ∙ get_or-set_other t.given.harts k j (bare_after t.change (hart_of k t.given)) no_hart other
-      ∙ ap (λ (w : Whole). hart_of j w) t.places.now
+      ∙ ap (λ (w : Whole). hart_of j w) t.places.is
       ∙ all_stay t.places.places old
 
 -- ---- words

@@ -42,7 +42,7 @@ by_same old mid new is stays = subst (Stays old) (sym is) stays
 
 taken_stays : (k : ℕ) (ws : List Wish) (dropped : List (ℕ × Bool)) (x : Values) (old after : Whole) → IsLeafTaken k ws dropped x old after → Stays old after
 taken_stays k ws dropped x old after l =
-    let given : Stays old l.taken.given = by_same old _ l.taken.given l.taken.places.now (given_stays k l.taken.places.places old) in
+    let given : Stays old l.taken.given = by_same old _ l.taken.given l.taken.places.is (given_stays k l.taken.places.places old) in
     let stepped : Stays l.taken.given l.stepped = by_same l.taken.given _ l.stepped l.taken.now (record { ram = refl; harts = length-set l.taken.given.harts k _ }) in
     let all = stays_then old l.taken.given l.stepped given stepped in
     record { ram = ap (λ (w : Whole). w.ram) l.is ∙ all.ram; harts = ap (λ (w : Whole). length w.harts) l.is ∙ all.harts }

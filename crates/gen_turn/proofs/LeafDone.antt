@@ -276,7 +276,7 @@ module _ (met_are_true : MetAreTrue) (are_fetched : StepsAreFetched) (words_are_
       known_then (Reg i)
       ∙ ap (λ (o : Option ℕ). or_else (known_at k old (Reg i)) o) (sym (l.taken.places.listed (Reg i)))
       ∙ sym (known k es old ground.test ground.hart l.taken.places.can (Reg i) small)
-      ∙ ap (λ (w : Whole). known_at k w (Reg i)) (sym l.taken.places.now)
+      ∙ ap (λ (w : Whole). known_at k w (Reg i)) (sym l.taken.places.is)
 
   moment_words : (i v : ℕ) → slice_index_or m0.regs i None ≡ Some v → v < 2 ^ 32
   moment_words i v h = elim (cases_lt i 32) [

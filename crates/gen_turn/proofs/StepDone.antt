@@ -98,16 +98,16 @@ module _ (k : ℕ) (ws : List Wish) (dropped : List (ℕ × Bool)) (x : Values) 
   -- tests
 
   beside_given : IsBeside old given
-  beside_given = subst (IsBeside old) (sym l.taken.places.now) (beside k es old)
+  beside_given = subst (IsBeside old) (sym l.taken.places.is) (beside k es old)
 
   pub test_given : IsTest given
-  test_given = subst IsTest (sym l.taken.places.now) (tests k es old test_old hart_old l.taken.places.can)
+  test_given = subst IsTest (sym l.taken.places.is) (tests k es old test_old hart_old l.taken.places.can)
 
   pub hart_given : k < length given.harts
   hart_given = let lt = hart_old in let same = beside_given.harts in omega (arith, lt, same)
 
   fixed_given : fixed_in (hart_of k given) given.memory ≡ fixed_in (hart_of k old) old.memory
-  fixed_given = ap (λ (w : Whole). fixed_in (hart_of k w) w.memory) l.taken.places.now ∙ fixed_parts k es old test_old hart_old l.taken.places.can
+  fixed_given = ap (λ (w : Whole). fixed_in (hart_of k w) w.memory) l.taken.places.is ∙ fixed_parts k es old test_old hart_old l.taken.places.can
 
   record_given : l.done ≡ record_of (fixed_in (hart_of k given) given.memory) (accesses_in log) change
   record_given = l.taken.record_is ∙ ap (λ (f : Fixed). record_of f (accesses_in log) change) (sym fixed_given)
@@ -124,7 +124,7 @@ module _ (k : ℕ) (ws : List Wish) (dropped : List (ℕ × Bool)) (x : Values) 
   part_after = ap partial_of l.is ∙ ap partial_of l.taken.now ∙ stepped_partial k (accesses_in log) change given (has k given test_given hart_given) (test_given.fit k hart_given) sound
 
   start_given : IsStartOn (partial_of old) (partial_of given)
-  start_given = subst (λ (w : Whole). IsStartOn (partial_of old) (partial_of w)) (sym l.taken.places.now) (starts_grow k es old test_old hart_old l.taken.places.can)
+  start_given = subst (λ (w : Whole). IsStartOn (partial_of old) (partial_of w)) (sym l.taken.places.is) (starts_grow k es old test_old hart_old l.taken.places.can)
 
   pub start_step : IsStartOn (partial_of given) (partial_of after)
   start_step = subst (IsStartOn (partial_of given)) (sym part_after) (record { fixed = λ j. refl; places = λ j key v h. h; words = λ n v h. h })
@@ -169,8 +169,8 @@ module _ (k : ℕ) (ws : List Wish) (dropped : List (ℕ × Bool)) (x : Values) 
   others_after : (j : ℕ) → (j ≡ k → ⊥) → ((partial_of after).records j ≡ (partial_of old).records j) × ((partial_of after).harts j ≡ (partial_of old).harts j) × ((partial_of after).start j ≡ (partial_of old).start j)
   others_after j apart =
       let held = others_stay k es old test_old hart_old l.taken.places.can j apart in
-      let now : (partial_of given).harts j ≡ (partial_of old).harts j = ap (λ (w : Whole). (partial_of w).harts j) l.taken.places.now ∙ held.0 in
-      let first : (partial_of given).start j ≡ (partial_of old).start j = ap (λ (w : Whole). (partial_of w).start j) l.taken.places.now ∙ held.1 in (
+      let now : (partial_of given).harts j ≡ (partial_of old).harts j = ap (λ (w : Whole). (partial_of w).harts j) l.taken.places.is ∙ held.0 in
+      let first : (partial_of given).start j ≡ (partial_of old).start j = ap (λ (w : Whole). (partial_of w).start j) l.taken.places.is ∙ held.1 in (
         ap (λ (p : Partial). p.records j) part_after
             ∙ ap (λ (b : Bool). if b then records_of k given ++ record_of (fixed_in (hart_of k given) given.memory) (accesses_in log) change ∷ [] else records_of j given) (ne_eqb j k apart)
             ∙ ap (λ (ts : List (List Record)). slice_index_or ts j []) beside_given.traces,
@@ -188,7 +188,7 @@ module _ (k : ℕ) (ws : List Wish) (dropped : List (ℕ × Bool)) (x : Values) 
   pub words_after : words_in es ≤ 2 → length after.words ≤ length old.words + 2
   words_after few =
       let all : length after.words ≡ length old.words + words_in es =
-      ap (λ (w : Whole). length w.words) l.is ∙ ap (λ (w : Whole). length w.words) l.taken.now ∙ ap (λ (w : Whole). length w.words) l.taken.places.now ∙ words_given k es old in
+      ap (λ (w : Whole). length w.words) l.is ∙ ap (λ (w : Whole). length w.words) l.taken.now ∙ ap (λ (w : Whole). length w.words) l.taken.places.is ∙ words_given k es old in
       omega (arith, few, all)
 
   -- what is known is words
@@ -208,15 +208,15 @@ module _ (k : ℕ) (ws : List Wish) (dropped : List (ℕ × Bool)) (x : Values) 
   pub given_words : (i v : ℕ) → i < 32 → known_at k given (Reg i) ≡ Some v → v < 2 ^ 32
   given_words i v small h =
       or_small (known_at k old (Reg i)) (given_to es (Reg i)) v (words_old.known (Reg i) v) (given_small es old (Reg i) v l.taken.places.can)
-      (sym (ap (λ (w : Whole). known_at k w (Reg i)) l.taken.places.now ∙ known k es old test_old hart_old l.taken.places.can (Reg i) small) ∙ h)
+      (sym (ap (λ (w : Whole). known_at k w (Reg i)) l.taken.places.is ∙ known k es old test_old hart_old l.taken.places.can (Reg i) small) ∙ h)
 
   -- the registers
 
   pub filled_given : (end : Partial) (regs : List (Option ℕ)) → IsStartOn (partial_of given) end → IsFilled (partial_of old) k (end.start k).places regs → IsFilled (partial_of given) k (end.start k).places regs
   filled_given end regs on filled =
-      subst (λ (w : Whole). IsFilled (partial_of w) k (end.start k).places regs) (sym l.taken.places.now)
-      (given_filled k es old end regs test_old (subst IsTest l.taken.places.now test_given) hart_old (subst (λ (w : Whole). k < length w.harts) l.taken.places.now hart_given) l.taken.places.can
-      (subst (λ (w : Whole). IsStartOn (partial_of w) end) l.taken.places.now on) filled)
+      subst (λ (w : Whole). IsFilled (partial_of w) k (end.start k).places regs) (sym l.taken.places.is)
+      (given_filled k es old end regs test_old (subst IsTest l.taken.places.is test_given) hart_old (subst (λ (w : Whole). k < length w.harts) l.taken.places.is hart_given) l.taken.places.can
+      (subst (λ (w : Whole). IsStartOn (partial_of w) end) l.taken.places.is on) filled)
 
   filled_after : (end : Partial) (regs : List (Option ℕ)) → IsStartOn (partial_of after) end → IsFilled (partial_of old) k (end.start k).places regs → IsFilled (partial_of after) k (end.start k).places (written l.done.rd regs)
   filled_after end regs on filled =

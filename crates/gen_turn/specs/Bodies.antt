@@ -13,9 +13,9 @@ use Rattle.leaf_turn.specs.Built.{bars_satp, lets_data}
 use Rattle.gen_turn.specs.declared.built.Rule.{Rule}
 use Rattle.gen_turn.specs.declared.built.Rule.TheVariants.{NoData, Plain}
 
--- the atoms of a leaf keep to a rule: they bar accesses to satp, and loads and stores too unless `alone` says that the hart is the first; or they let no load or store through
+-- the atoms of a leaf keep to a rule: they bar accesses to satp, and loads and stores too unless the hart is the `first`; or they let no load or store through
 abbrev pub keeps_rule : Rule → List Wish → Bool
-keeps_rule (Plain alone) ws = bars_satp ws && (alone || not (lets_data ws))
+keeps_rule (Plain first) ws = bars_satp ws && (first || not (lets_data ws))
 keeps_rule NoData ws = not (lets_data ws)
 
 -- an item each of whose leaves does, with the answer for each inner item in its place
@@ -39,8 +39,8 @@ ways_keep rule (w ∷ ws) = body_keeps rule w.1.items && ways_keep rule ws
 
 -- satp is 0 where a hart starts and each leaf of its body bars accesses to it, so no address is translated; the first one may load and store
 abbrev pub are_harts_plain : Bool → List HartDecl → Bool
-are_harts_plain alone [] = true
-are_harts_plain alone (h ∷ hs) = ((h.start.satp == 0) && body_keeps (Plain alone) h.body.items) && are_harts_plain false hs
+are_harts_plain first [] = true
+are_harts_plain first (h ∷ hs) = ((h.start.satp == 0) && body_keeps (Plain first) h.body.items) && are_harts_plain false hs
 
 abbrev pub is_plain : Template → Bool
 is_plain t = are_harts_plain true t.harts

@@ -9,8 +9,8 @@ use tpl_ast::{HartDecl, Item, Template, Wish, leaf_law, template_law};
 /// What the atoms of each leaf of a body keep to.
 #[derive(Clone, Copy)]
 pub enum Rule {
-    /// They bar accesses to satp, and loads and stores too unless this is true, as it is of the first hart.
-    Plain(bool),
+    /// They bar accesses to satp, and loads and stores too unless the hart is the first.
+    Plain { first: bool },
     /// They let no load or store through.
     NoData,
 }
@@ -20,7 +20,7 @@ fn keeps_rule(rule: Rule, wishes: &[Wish]) -> bool
     ensures { result ≡ keeps_rule rule wishes.now }
 {
     match rule {
-        Rule::Plain(alone) => bars_satp(wishes) && (alone || !lets_data(wishes)),
+        Rule::Plain { first } => bars_satp(wishes) && (first || !lets_data(wishes)),
         Rule::NoData => !lets_data(wishes),
     }
 }
@@ -67,11 +67,11 @@ fn item_keeps(rule: Rule, item: &Item) -> bool
 }
 
 /// Whether satp is 0 where a hart starts, and each leaf of its body bars accesses to it, and loads and stores unless the hart
-/// is the first (`alone`).
-fn is_hart_plain(alone: bool, hart: &HartDecl) -> bool
-    ensures { result ≡ ((hart.now.start.satp == 0) && body_keeps (Rule.Plain alone) hart.now.body.items) }
+/// is the first.
+fn is_hart_plain(first: bool, hart: &HartDecl) -> bool
+    ensures { result ≡ ((hart.now.start.satp == 0) && body_keeps (Rule.Plain first) hart.now.body.items) }
 {
-    hart.start.satp == 0 && body_keeps(Rule::Plain(alone), &hart.body)
+    hart.start.satp == 0 && body_keeps(Rule::Plain { first }, &hart.body)
 }
 
 /// Whether so it is with each of the harts behind the first.

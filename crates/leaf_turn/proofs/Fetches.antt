@@ -1,5 +1,5 @@
 -- The fetch of a hart of a test: where its pc leads while entries may still be chosen, the answer, and the entries that are given.
-use Rattle.std.proofs.Common.{◌≡◌, ℕ, ◌-◌, ◌*◌, ◌/◌, ◌%◌, ◌<◌, ◌≤◌, ◌&&◌, Bool, true, false, not, eqb, if◌then◌else◌, List, [], ◌∷◌, ◌++◌, map, length, ◌⊎◌, Option, Some, None, refl, sym, ap, ◌∙◌, subst, inl, inr, arith}
+use Rattle.std.proofs.Common.{◌≡◌, ℕ, ◌-◌, ◌*◌, ◌/◌, ◌%◌, ◌<◌, ◌≤◌, ◌&&◌, Bool, not, eqb, List, [], ◌∷◌, ◌++◌, map, length, ◌⊎◌, Some, refl, sym, ap, ◌∙◌, subst, inl, inr, arith}
 use Rattle.std.specs.Prelude.{slice_index_or}
 use Rattle.std.specs.List.{list_any}
 use Rattle.std.proofs.Math.Path.{fun_ext}
@@ -14,16 +14,15 @@ use Rattle.rv_script.specs.declared.access.Access.{Access}
 use Rattle.rv_script.specs.declared.access.Role.TheVariants.{Walk}
 use Rattle.rv_script.specs.declared.place.Place.{Place}
 use Rattle.rv_script.specs.declared.place.Place.TheVariants.{Word}
-use Rattle.rv_script.specs.Folds.{Answer.Does, Answer.Missing as Lacks, Answer.Nowhere, Entry, Known, Teller, answer_on, by_known}
-use Rattle.rv_script.specs.Logs.{answer_told, by_answers, enlarged, log_of, started, where_unknown}
+use Rattle.rv_script.specs.Folds.{Answer.Does, Answer.Missing as Lacks, Answer.Nowhere, Known, answer_on, by_known}
+use Rattle.rv_script.specs.Logs.{answer_told, enlarged}
 use Rattle.sv_walk.specs.declared.entry.Kind.TheVariants.{Fetch as ForFetch}
 use Rattle.sv_walk.specs.declared.entry.View.{View}
 use Rattle.sv_walk.specs.declared.ending.WalkEnd.{WalkEnd}
 use Rattle.sv_walk.specs.declared.ending.WalkEnd.TheVariants.{Fault, Outside}
 use Rattle.sv_walk.specs.declared.ending.Walk.{Walk as AWalk}
 use Rattle.sv_walk.specs.Clauses.{IsWalk, ended, entry_access}
-use Rattle.sv_walk.specs.Entry.{access_cause}
-use Rattle.sv_walk.specs.Translation.{Reached, At, Fails, arrived, is_in_ram, is_translated, translated}
+use Rattle.sv_walk.specs.Translation.{At, Fails, translated}
 use Rattle.row_parts.specs.declared.forms.Forms.{Forms}
 use Rattle.addr_rows.specs.Walks.{seen_by}
 use Rattle.fetch_ways.specs.Ways.{HasForms, IsFetchGround, walk_at}
@@ -32,25 +31,17 @@ use Rattle.foot_map.specs.Races.{IsFootprint, breaks}
 use Rattle.rv_script.specs.Bytes.{covers}
 use Rattle.rv_hart.specs.Fixed.{Fixed}
 use Rattle.rv_hart.specs.declared.record.Record.{Record}
-use Rattle.rv_hart.specs.Machine.{fetch_view}
 use Rattle.tpl_ast.specs.declared.template.Template.{Template}
 use Rattle.tpl_admit.specs.Races.{footprints_of}
 use Rattle.part_machine.specs.Whole.{Bare, Whole, fixed_in, hart_of, records_of}
 use Rattle.part_state.specs.Meaning.{CanStart, IsTest, place_given}
 use Rattle.fd_prob.specs.declared.problem.Assignment.{Assignment}
 use Rattle.fd_prob.specs.declared.problem.Problem.{Problem}
-use Rattle.fd_prob.specs.declared.slot.Slot.{Slot}
-use Rattle.fd_prob.specs.declared.slot.Slot.TheVariants as slots
-use Rattle.fd_prob.specs.Order.{rank}
 use Rattle.fd_prob.specs.Spaces.{space}
 use Rattle.fd_solve.specs.declared.answers.Solved.{Solved}
 use Rattle.fd_solve.specs.declared.answers.Solved.TheVariants as answers
 use Rattle.fd_solve.specs.Answers.{IsAnswer, IsLeast, NothingFits}
-use Rattle.leaf_link.specs.Answers.{values_in}
-use Rattle.leaf_link.specs.Fetches.{IsFetchCandidate, fetch_places, fetch_script, fetch_values}
-use Rattle.leaf_link.specs.FetchAnswers.{FetchPrecedes, IsFetchAnswer, fetch_pivot}
-use Rattle.leaf_link.specs.Turns.{Turn}
-use Rattle.leaf_link.specs.Values.{Values, given_by}
+use Rattle.leaf_link.specs.Values.{Values}
 use Rattle.leaf_link.specs.Ways.{AreWords}
 use Rattle.leaf_stand.specs.declared.stand.Stand.{Stand}
 use Rattle.leaf_stand.specs.Stands.{csr_held}
@@ -60,12 +51,10 @@ use Rattle.turn_laws.specs.Given.{CanGive, Setting, all_given, given_to, known_a
 use Rattle.turn_laws.specs.Laws.{FixedPartsStay, OthersStay}
 use Rattle.leaf_turn.specs.Answers.{AreAsked}
 use Rattle.leaf_link.specs.FetchPlacing.{entry_value}
-use Rattle.leaf_turn.specs.Entering.{AreFormsOf, IsEnterable, IsEnteredAs, IsEnteredAt, Leads, TellsTraps, entries_at, root_at, view_at}
-use Rattle.leaf_turn.specs.declared.entering.Entered.TheVariants as entered
+use Rattle.leaf_turn.specs.Entering.{AreFormsOf, IsEnterable, IsEnteredAt, Leads, TellsTraps, entries_at, root_at, view_at}
 use Rattle.leaf_turn.specs.Grounds.{IsSettingOf}
 use Rattle.leaf_turn.proofs.Freedom.{free_alike, same_races}
 use Rattle.leaf_turn.proofs.Giving.{asked_more}
-use Rattle.leaf_turn.proofs.Untranslated.{one_pair, plain_fetch}
 
 -- ---- what the walk of a fetch rests on
 
@@ -125,128 +114,6 @@ pub is_answer : (p : Problem) (nodes : ℕ) (s : Solved) → (s ≡ answers.Spen
 is_answer p nodes (answers.Found x) spent many found none = (elim (cases_lt nodes (space p)) [ inl less ↦ absurd (cc (many less)) | inr few ↦ few ], found x refl)
 is_answer p nodes answers.NoneFits spent many found none = (elim (cases_lt nodes (space p)) [ inl less ↦ absurd (cc (many less)) | inr few ↦ few ], none refl)
 is_answer p nodes answers.Spent spent many found none = spent refl
-
--- ---- a fetch that is not translated
-
--- the assignment of a fetch that starts nothing
-abbrev pub zeros : Assignment
-zeros = record { values = 0 ∷ 0 ∷ 0 ∷ 0 ∷ 0 ∷ 0 ∷ 0 ∷ 0 ∷ 0 ∷ 0 ∷ 0 ∷ 0 ∷ 0 ∷ 0 ∷ [] }
-
-nothing_found : (o : Option ℕ) → where_unknown o None ≡ None
-nothing_found (Some v) = refl
-nothing_found None = refl
-
-same_ends : (log : List Entry) (one other : Reached) → Does [] one ≡ Does log other → (log ≡ []) × (one ≡ other)
-same_ends [] one other h = (refl, cc)
-same_ends (e ∷ log) one other h = absurd (cc)
-
-fails_not : (pa : ℕ) → (let r : Reached = Fails (access_cause ForFetch) in r) ≡ At pa → ⊥
-fails_not pa h = absurd (cc h)
-
-module _ (t : Turn) (plain : is_translated (fetch_view t.fixed) ≡ false) where
-  reaches : (tell : Teller) → answer_told tell (fetch_script t) ≡ Does [] (arrived t.fixed.ram ForFetch t.fixed.pc)
-  reaches tell = plain_fetch t tell plain
-
-  pub nothing_placed : (x : Values) (place : Place) → fetch_places t x place ≡ None
-  nothing_placed x place = ap (λ a. started t.known (log_of a) place) (reaches (by_answers t.known (given_by x))) ∙ nothing_found (t.known place)
-
-  empty_log : (new : Known) (w : IsFetchCandidate t new) → w.log ≡ []
-  empty_log new w = (same_ends w.log (arrived t.fixed.ram ForFetch t.fixed.pc) (At w.pa) (sym (reaches (by_known (enlarged t.known new))) ∙ w.plays)).0
-
-  module _ (there : is_in_ram t.fixed.ram t.fixed.pc ≡ true) where
-    abbrev candidate : IsFetchCandidate t (fetch_places t (values_in zeros))
-    candidate = record {
-      log = [];
-      pa = t.fixed.pc;
-      plays = reaches _ ∙ ap (λ (b : Bool). Does [] (if b then At t.fixed.pc else Fails (access_cause ForFetch))) there;
-      exact = λ place. nothing_placed (values_in zeros) place ∙ sym (nothing_found (t.known place));
-      meets = record {
-        may = λ i e j. absurd j;
-        once = λ e f j. absurd j;
-        free = λ e j. absurd j;
-        fresh = λ e j. absurd j;
-      };
-    }
-
-    all_zero : (s : Slot) → values_in zeros s ≡ fetch_values t [] s
-    all_zero slots.Op = refl
-    all_zero slots.Rs1 = refl
-    all_zero slots.Rs2 = refl
-    all_zero slots.Imm = refl
-    all_zero slots.Rd = refl
-    all_zero slots.Csr = refl
-    all_zero slots.Ea = refl
-    all_zero slots.A = refl
-    all_zero slots.B = refl
-    all_zero slots.FirstPte = refl
-    all_zero slots.SecondPte = refl
-    all_zero slots.DataWord = refl
-    all_zero slots.OldCsr = refl
-    all_zero slots.Vector = refl
-
-    not_before : (draws : List ℕ) (log : List Entry) → log ≡ [] → FetchPrecedes t draws (fetch_values t log) (fetch_values t []) → ⊥
-    not_before draws log none before =
-        let less = subst (λ (l : List Entry). rank (fetch_pivot t draws before.0) (fetch_values t l before.0) < rank (fetch_pivot t draws before.0) (fetch_values t [] before.0)) none before.2 in
-        omega (arith, less)
-
-    pub fetch_found : (draws : List ℕ) (nodes : ℕ) → 1 ≤ nodes → IsFetchAnswer t draws nodes (answers.Found zeros)
-    fetch_found draws nodes some = (
-      subst (λ (n : ℕ). n ≤ nodes) (sym (one_pair t plain)) some,
-      record {
-        is = candidate;
-        are_values = all_zero;
-        least = λ other w before. not_before draws w.log (empty_log other w) before;
-      },
-    )
-
-  pub fetch_out : (draws : List ℕ) (nodes : ℕ) → is_in_ram t.fixed.ram t.fixed.pc ≡ false → 1 ≤ nodes → IsFetchAnswer t draws nodes answers.NoneFits
-  fetch_out draws nodes out some = (
-    subst (λ (n : ℕ). n ≤ nodes) (sym (one_pair t plain)) some,
-    λ new w. fails_not w.pa (
-        sym (ap (λ (b : Bool). if b then At t.fixed.pc else Fails (access_cause ForFetch)) out)
-        ∙ (same_ends w.log (arrived t.fixed.ram ForFetch t.fixed.pc) (At w.pa) (sym (reaches (by_known (enlarged t.known new))) ∙ w.plays)).1),
-  )
-
-  pub fetch_spent : (draws : List ℕ) (nodes : ℕ) → nodes < 1 → IsFetchAnswer t draws nodes answers.Spent
-  fetch_spent draws nodes none = subst (λ (n : ℕ). nodes < n) (sym (one_pair t plain)) none
-
--- it starts nothing, and the pc leads to itself
-no_setting : Setting
-no_setting = record { pool = []; tables = []; flags = []; vectors = []; sets = λ n. []; sources = λ v. true }
-
-pub entered_plain : (k : ℕ) (w : Whole) (pc : ℕ) → is_translated (view_at k w) ≡ false → (hart_of k w).pc ≡ pc → pc % 4 ≡ 0 → is_in_ram (λ n. is_there (w.memory n)) pc ≡ true → IsEnteredAt k (values_in zeros) pc w w
-entered_plain k w pc plain here aligned there =
-    let turn : Turn = turn_at no_setting [] k w in
-    record {
-      placed = record {
-        places = [];
-        can = tt;
-        listed = λ place. sym (nothing_placed turn plain (values_in zeros) place);
-        asked = tt;
-        is = refl;
-      };
-      walk = [];
-      leads = record {
-        translates = plain_fetch turn (by_known turn.known) plain ∙ ap (λ (n : ℕ). Does [] (arrived turn.fixed.ram ForFetch n)) here ∙ ap (λ (b : Bool). Does [] (if b then At pc else Fails (access_cause ForFetch))) there;
-        aligned = ap (λ (n : ℕ). n % 4) here ∙ aligned;
-        free = λ s feet f e i. absurd i;
-      };
-    }
-
-pub plain_at : (t : Template) (k : ℕ) (draws : List ℕ) (nodes : ℕ) (w : Whole) (pc : ℕ) → is_translated (view_at k w) ≡ false → (hart_of k w).pc ≡ pc → pc % 4 ≡ 0 → is_in_ram (λ n. is_there (w.memory n)) pc ≡ true → 1 ≤ nodes
-    → IsEnteredAs t k draws nodes w w (entered.At pc)
-plain_at t k draws nodes w pc plain here aligned there some = (
-  zeros,
-  λ s feet setting f. fetch_found (turn_at s feet k w) plain (ap (λ (n : ℕ). is_in_ram (λ i. is_there (w.memory i)) n) here ∙ there) draws nodes some,
-  entered_plain k w pc plain here aligned there,
-)
-
-pub plain_out : (t : Template) (k : ℕ) (draws : List ℕ) (nodes : ℕ) (w : Whole) (pc : ℕ) → is_translated (view_at k w) ≡ false → (hart_of k w).pc ≡ pc → is_in_ram (λ n. is_there (w.memory n)) pc ≡ false → 1 ≤ nodes
-    → IsEnteredAs t k draws nodes w w entered.NoneFits
-plain_out t k draws nodes w pc plain here out some = ((λ s feet setting f. fetch_out (turn_at s feet k w) plain draws nodes (ap (λ (n : ℕ). is_in_ram (λ i. is_there (w.memory i)) n) here ∙ out) some), refl)
-
-pub plain_spent : (t : Template) (k : ℕ) (draws : List ℕ) (nodes : ℕ) (w : Whole) → is_translated (view_at k w) ≡ false → nodes < 1 → IsEnteredAs t k draws nodes w w entered.Spent
-plain_spent t k draws nodes w plain none = ((λ s feet setting f. fetch_spent (turn_at s feet k w) plain draws nodes none), refl)
 
 -- ---- entries that are given one by one
 

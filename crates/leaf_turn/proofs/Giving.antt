@@ -108,14 +108,14 @@ all_are_given keeps k fetch x left old now next test l f g none = go (next_of k 
     under = next f.setting f.feet k old (new_at k old x) g.places f.log f.change test l f.aligned f.vectors g.can g.among f.played
 
     go : (a : Answer Access Change) → next_of k (all_given k g.places old) ≡ a → AreGiven k x old now
-    go (Does xs c) e = record { places = g.places; can = g.can; listed = under.listed xs c e; asked = g.asked; now = g.is }
+    go (Does xs c) e = record { places = g.places; can = g.can; listed = under.listed xs c e; asked = g.asked; is = g.is }
     go (Lacks place) e = absurd (none place (same ∙ e))
     go Nowhere e = absurd (under.somewhere e)
 
 -- THE STEP
 pub ready : (keeps : Bool) (k : ℕ) (fetch : Fetch) (x : Values) (old now : Whole) → PlayedStepsAreNext → IsTest old → k < length old.harts → (f : IsPlayable keeps k old fetch x) → AreGiven k x old now → IsTaken k f.log f.change now
 ready keeps k fetch x old now steps test l f g =
-    subst (λ (w : Whole). IsTaken k f.log f.change w) (sym g.now) (steps f.setting f.feet k old (new_at k old x) g.places f.log f.change test l f.footprint g.can g.listed f.played)
+    subst (λ (w : Whole). IsTaken k f.log f.change w) (sym g.is) (steps f.setting f.feet k old (new_at k old x) g.places f.log f.change test l f.footprint g.can g.listed f.played)
 
 pub taken_by : (keeps : Bool) (k : ℕ) (fetch : Fetch) (x : Values) (r : Record) (old now new : Whole) → PlayedStepsAreNext → FixedPartsStay → IsTest old → k < length old.harts → IsPlayable keeps k old fetch x → AreGiven k x old now
     → ((xs : List Access) (c : Change) → next_of k now ≡ Does xs c → new ≡ stepped k xs c now)
@@ -124,7 +124,7 @@ pub taken_by : (keeps : Bool) (k : ℕ) (fetch : Fetch) (x : Values) (r : Record
 taken_by keeps k fetch x r old now new steps fixed test l f g goes records =
     let t = ready keeps k fetch x old now steps test l f g in
     let same : fixed_in (hart_of k now) now.memory ≡ fixed_in (hart_of k old) old.memory =
-    ap (λ (w : Whole). fixed_in (hart_of k w) w.memory) g.now ∙ fixed k g.places old test l g.can in
+    ap (λ (w : Whole). fixed_in (hart_of k w) w.memory) g.is ∙ fixed k g.places old test l g.can in
     record {
       given = now;
       places = g;
@@ -230,7 +230,7 @@ still keeps k fetch x r old new others f t =
     let places = t.places.places in
     let b = others k places old in
     let given : Whole = all_given k places old in
-    let is : new ≡ stepped k (accesses_in t.log) t.change given = t.now ∙ ap (λ (w : Whole). stepped k (accesses_in t.log) t.change w) t.places.now in
+    let is : new ≡ stepped k (accesses_in t.log) t.change given = t.now ∙ ap (λ (w : Whole). stepped k (accesses_in t.log) t.change w) t.places.is in
     record {
       ram = ap (λ (w : Whole). w.ram) is ∙ ram_stays k places old;
       names = ap (λ (w : Whole). w.names) is ∙ b.names;
@@ -265,7 +265,7 @@ registers_before k x old given regs known tests others test l g is =
     let after : Whole = all_given k g.places old in
     let fit = (tests k g.places old test l g.can).fit k (harts_stay k x old after others g.places refl l) in
     let same : given_to g.places ≡ new_at k old x = fun_ext g.listed in
-    is ∙ ap (λ (w : Whole). (hart_of k w).regs) g.now
+    is ∙ ap (λ (w : Whole). (hart_of k w).regs) g.is
     ∙ listed (hart_of k after).regs (enlarged (known_at k old) (new_at k old x)) 0 32 fit.size
     (λ i less. known k g.places old test l g.can (Reg i) less ∙ ap (λ (new : Known). enlarged (known_at k old) new (Reg i)) same
     ∙ ap (λ (m : ℕ). enlarged (known_at k old) (new_at k old x) (Reg m)) (omega arith))

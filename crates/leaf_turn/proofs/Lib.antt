@@ -17,3 +17,4 @@ pub mod Playing
 pub mod Bytes
 pub mod Posing
 pub mod Fetches
+pub mod Settled

@@ -46,8 +46,8 @@ one_taking steps keeps k fetch x r s old new other test l f t u =
     let first = ready keeps k fetch x old t.given steps test l f t.places in
     let second = ready keeps k fetch x old u.given steps test l f u.places in
     let lists : t.places.places ≡ u.places.places = one_list k (new_at k old x) t.places.places u.places.places old _ _ _ _ t.places.asked u.places.asked
-    (ap (λ (w : Whole). next_of k w) (sym t.places.now) ∙ first.next) (ap (λ (w : Whole). next_of k w) (sym u.places.now) ∙ second.next) in
-    let given : t.given ≡ u.given = t.places.now ∙ ap (λ (es : List (Place × ℕ)). all_given k es old) lists ∙ sym u.places.now in
+    (ap (λ (w : Whole). next_of k w) (sym t.places.is) ∙ first.next) (ap (λ (w : Whole). next_of k w) (sym u.places.is) ∙ second.next) in
+    let given : t.given ≡ u.given = t.places.is ∙ ap (λ (es : List (Place × ℕ)). all_given k es old) lists ∙ sym u.places.is in
     let log : t.log ≡ u.log = same_log t.log u.log t.change u.change (sym t.plays ∙ u.plays) in
     let change : t.change ≡ u.change = same_change t.log u.log t.change u.change (sym t.plays ∙ u.plays) in (
       t.record_is ∙ (λ i. record_of (fixed_in (hart_of k old) old.memory) (accesses_in (log i)) (change i)) ∙ sym u.record_is,

@@ -8,7 +8,6 @@ use Rattle.sv_walk.specs.declared.entry.Kind.TheVariants.{Fetch as ForFetch, Loa
 use Rattle.sv_walk.specs.Translation.{Reached, arrived, is_translated, translated}
 use Rattle.rv_hart.specs.Machine.{data_view, fetch_view}
 use Rattle.leaf_link.specs.Turns.{Turn}
-use Rattle.leaf_link.specs.FetchAnswers.{fetch_space}
 use Rattle.leaf_link.specs.Extras.{BiasesAreKept}
 use Rattle.data_goals.specs.Rows.{rows_without}
 use Rattle.data_goals.proofs.Untranslated.{rows_are_there}
@@ -17,9 +16,6 @@ use Rattle.leaf_link.specs.RowsExist.{DataRowsExist}
 use Rattle.leaf_turn.specs.Untranslated.{LeafAnswersWithoutRows}
 
 -- THE PC
-pub one_pair : (t : Turn) → is_translated (fetch_view t.fixed) ≡ false → fetch_space t ≡ 1
-one_pair t h = rw h refl
-
 pub plain_fetch : (t : Turn) (tell : Teller) → is_translated (fetch_view t.fixed) ≡ false → answer_told tell (translated t.fixed.ram (fetch_view t.fixed) ForFetch t.fixed.pc) ≡ Does [] (arrived t.fixed.ram ForFetch t.fixed.pc)
 plain_fetch t tell h = ap (λ (s : Script Reached). answer_told tell s) (without t.fixed.ram (fetch_view t.fixed) ForFetch t.fixed.pc h)
 

@@ -81,12 +81,8 @@ pub record ArePlaced (k : ℕ) (new : Known) (old now : Whole) : Type 0 where
   pub is : now ≡ all_given k places old
 
 -- the new places of an answer, registers and CSRs of the hart and words of memory, were given their values, in the order in which the step asks for them
-pub record AreGiven (k : ℕ) (x : Values) (old new : Whole) : Type 0 where
-  pub places : List (Place × ℕ)
-  pub can : CanGive k places old
-  pub listed : AreListed places (new_at k old x)
-  pub asked : AreAsked k (new_at k old x) places old
-  pub now : new ≡ all_given k places old
+abbrev pub AreGiven : ℕ → Values → Whole → Whole → Type 0
+AreGiven k x old new = ArePlaced k (new_at k old x) old new
 
 -- and then it took its next step, with this record
 pub record IsTakenBy (k : ℕ) (x : Values) (r : Record) (old new : Whole) : Type 0 where

@@ -1,5 +1,6 @@
 -- A fetch on a test: the page table entries that it starts, and where the pc then leads.
-use Rattle.std.specs.Prelude.{◌≡◌, ℕ, ◌%◌, true, List, Some}
+use Rattle.std.specs.Prelude.{◌≡◌, ℕ, ◌%◌, Bool, true, List, Some}
+use Rattle.std.specs.List.{list_all}
 use Rattle.rv_csr.specs.Table.{register_at}
 use Rattle.rv_script.specs.declared.place.Place.{Place}
 use Rattle.rv_script.specs.declared.place.Place.TheVariants.{Csr}
@@ -11,7 +12,7 @@ use Rattle.sv_walk.specs.declared.entry.View.{View}
 use Rattle.sv_walk.specs.Translation.{At, root_address}
 use Rattle.row_parts.specs.declared.forms.Forms.{Forms}
 use Rattle.fetch_ways.specs.declared.way.FetchWay.{FetchWay}
-use Rattle.fetch_ways.specs.Ways.{AreFetchWays}
+use Rattle.fetch_ways.specs.Ways.{AreFetchWays, is_free_walk}
 use Rattle.foot_map.specs.declared.touch.Touch.{Touch}
 use Rattle.foot_map.specs.Races.{IsFootprint}
 use Rattle.rv_hart.specs.Machine.{fetch_view}
@@ -83,6 +84,10 @@ pub record IsEnteredAt (k : ℕ) (x : Values) (pa : ℕ) (old new : Whole) : Typ
   pub placed : ArePlaced k (entries_at k old x) old new
   pub walk : List Entry
   pub leads : Leads k new walk pa
+
+-- the reading of each of these entries races with none of the touches
+abbrev pub are_free_walks : List Touch → ℕ → List (ℕ × ℕ) → Bool
+are_free_walks feet hart ptes = list_all (λ e. is_free_walk feet hart e.0) ptes
 
 -- ---- the answer of a fetch
 

@@ -33,7 +33,7 @@ ghost use Rattle.leaf_turn.specs.Asking.{AreExtrasOf, AreOfCases};
 
 use crate::OutOfMemory;
 use crate::built::leaves_with_bytes_are_posable;
-use crate::entering::pairs_of;
+use crate::entering::{data_view, pairs_of};
 use crate::known::known_is_words;
 use crate::laws::{answers_are_found, rows_are_there};
 use crate::memory::bytes_for;
@@ -121,7 +121,7 @@ pub fn leaf_answer(
     let biases = biases_of(alloc, wishes)?;
     let names = names_of(alloc, part, t)?;
     let sources = sources_of(alloc, part, hart, t, &names, &atoms)?;
-    let pairs = pairs_of(alloc, part, hart, t)?;
+    let pairs = pairs_of(alloc, data_view(part, hart), t)?;
     let bytes = bytes_for(alloc, part, hart, pa, t, wishes)?;
     let stand = stand_of(part, hart, pa, pairs, t, &names, &sources, bytes);
     answer_of(alloc, &stand, &atoms, &biases, draws, nodes)

@@ -1,23 +1,27 @@
 // The fetch of a `do` leaf: the page table entries that it starts, and where the pc then leads.
 ghost use Rattle.tpl_ast.specs.declared.template.Template.{Template as ATemplate};
-ghost use Rattle.std.specs.Prelude.{◌≡◌, ◌<◌, ◌%◌, false, ℕ, List, length, IfOk, OnErr, if◌then◌else◌, nat_eq};
+ghost use Rattle.std.specs.Prelude.{◌≡◌, ◌<◌, ◌%◌, false, ℕ, List, length, IfOk, OnOk, OnErr, if◌then◌else◌, nat_eq};
 ghost use Rattle.foot_map.specs.declared.touch.Touch.{Touch as ATouch};
 ghost use Rattle.foot_map.specs.Races.{IsFootprint};
-ghost use Rattle.rv_mem.specs.Seen.{is_there};
 ghost use Rattle.rv_hart.specs.Machine.{data_view};
-ghost use Rattle.sv_walk.specs.Translation.{is_in_ram, is_translated, root_address};
+ghost use Rattle.sv_walk.specs.Clauses.{AreAligned, ended};
+ghost use Rattle.sv_walk.specs.declared.ending.WalkEnd.TheVariants.{Missing};
+ghost use Rattle.sv_walk.specs.Translation.{is_translated, root_address};
+ghost use Rattle.fetch_ways.specs.Ways.{is_free_walk};
 ghost use Rattle.tpl_admit.specs.Races.{footprints_of};
-ghost use Rattle.part_machine.specs.Whole.{fixed_in, hart_of, records_of};
+ghost use Rattle.part_machine.specs.Whole.{Whole, fixed_in, hart_of, records_of};
 ghost use Rattle.part_state.specs.State.{here};
 ghost use Rattle.fd_prob.specs.declared.problem.Assignment.{Assignment as AnAssignment};
 ghost use Rattle.fd_prob.specs.declared.slot.Slot.TheVariants.{FirstPte as First, SecondPte as Second};
 ghost use Rattle.fd_solve.specs.declared.answers.Solved.TheVariants.{Found};
 ghost use Rattle.leaf_link.specs.Answers.{values_in};
-ghost use Rattle.leaf_link.specs.Firsts.{data_pairs};
+ghost use Rattle.leaf_link.specs.FetchAnswers.{fetch_space};
+ghost use Rattle.leaf_link.specs.Firsts.{pairs_at};
 ghost use Rattle.turn_laws.specs.Ahead.{AreVectors};
+ghost use Rattle.turn_laws.specs.Entered.{walked_at};
 ghost use Rattle.turn_laws.specs.Given.{Setting, turn_at};
 ghost use Rattle.leaf_turn.specs.Answers.{AreKept};
-ghost use Rattle.leaf_turn.specs.Entering.{AnswersFetch, AreFormsOf, AreWalksOf, IsEnterable, IsEnteredAs, IsEnteredAt, root_at, view_at};
+ghost use Rattle.leaf_turn.specs.Entering.{AnswersFetch, AreFormsOf, AreWalksOf, IsEnterable, IsEnteredAs, IsEnteredAt, are_free_walks, root_at, view_at};
 ghost use Rattle.leaf_turn.specs.Grounds.{HasFewForms, IsSettingOf};
 
 use crate::OutOfMemory;
@@ -28,14 +32,14 @@ use dom_set::Set;
 use fd_prob::{Assignment, Slot};
 use fd_solve::{Solved, solve};
 use fetch_ways::{EntryForms, FetchWay, Forms, entry_forms, fetch_pairs, fetch_ways};
+use foot_map::FootMap;
 use leaf_link::fetch_answers_are_exact;
 use leaf_pose::fetch_problem;
 use part_state::Part;
 use rv_csr::Priv;
-use rv_mem::{Seen, Words};
-use rv_script::Place;
+use rv_script::{Place, Role};
 use std::alloc::Global;
-use sv_walk::{Kind, View, WalkEnd, walk};
+use sv_walk::{Kind, View, Walk, WalkEnd, walk};
 use tpl_ast::Template;
 use turn_laws::{entries_are_next, given_places_are_known, places_are_next};
 
@@ -54,7 +58,7 @@ fn fetch_view(part: &Part, hart: u8) -> View
 }
 
 /// What the translation of a hart's loads and stores goes by.
-fn data_view(part: &Part, hart: u8) -> View
+pub fn data_view(part: &Part, hart: u8) -> View
     requires { hart < length part.now.now.harts }
     ensures { result ≡ data_view (fixed_in (hart_of hart (here part.now)) (here part.now).memory) }
 {
@@ -103,13 +107,11 @@ fn forms_of(alloc: Global, t: &Template) -> Result<Forms, OutOfMemory>
     })
 }
 
-/// How many pairs of page table entries a load or store of a hart may start; 1 where it is not translated.
-pub fn pairs_of(alloc: Global, part: &Part, hart: u8, t: &Template) -> Result<u64, OutOfMemory>
-    requires hart { hart < length part.now.now.harts }
-    requires few { HasFewForms t.now }
-    ensures { IfOk result (λ pairs. (s : Setting) (feet : List ATouch) → IsSettingOf t.now s → data_pairs (turn_at s feet hart (here part.now)) ≡ pairs) }
+/// How many pairs of page table entries a translation may start that goes by a view; 1 where addresses are not translated.
+pub fn pairs_of(alloc: Global, view: View, t: &Template) -> Result<u64, OutOfMemory>
+    requires { HasFewForms t.now }
+    ensures { IfOk result (λ pairs. (s : Setting) (feet : List ATouch) (k : ℕ) (w : Whole) → IsSettingOf t.now s → pairs_at (turn_at s feet k w) view ≡ pairs) }
 {
-    let view = data_view(part, hart);
     if !is_translated(view) {
         return Ok(1);
     }
@@ -238,38 +240,59 @@ pub enum Entered {
     Spent,
 }
 
-/// Whether the word at an address, a multiple of 4, is one of RAM.
-fn is_in_ram(part: &Part, addr: u32) -> bool
+/// Whether the reading of a page table entry at an address, a multiple of 4, races with nothing.
+fn is_free_walk(feet: &FootMap, hart: u8, addr: u32) -> bool
     requires { addr % 4 ≡ 0 }
-    ensures { result ≡ is_in_ram (λ n. is_there ((here part.now).memory n)) addr }
+    ensures { result ≡ is_free_walk feet.now hart addr }
 {
-    match part.memory().word(addr) {
-        Seen::Known(_) | Seen::Untouched => true,
-        Seen::Vacant => false,
+    match feet.may(hart, Role::Walk, addr, 4) {
+        None => true,
+        Some(_) => false,
     }
 }
 
-/// The fetch of a `do` leaf where a hart stands and addresses are not translated: it starts nothing, and the pc leads to
-/// itself.
-fn enter_untranslated(part: &Part, hart: u8, nodes: u64) -> Entered
-    requires hart { hart < length part.now.now.harts }
-    ensures { (t : ATemplate) (draws : List ℕ) → is_translated (view_at hart (here part.now)) ≡ false → IsEnteredAs t hart draws nodes (here part.now) (here part.now) result }
+/// Whether that of each of the entries of a walk does.
+fn are_free_walks(feet: &FootMap, hart: u8, entries: &[(u32, u32)]) -> bool
+    requires { AreAligned entries.now }
+    ensures { result ≡ are_free_walks feet.now hart entries.now }
 {
+    for entry in entries {
+        if !is_free_walk(feet, hart, entry.0) {
+            return false;
+        }
+    }
+    true
+}
+
+/// The fetch of a `do` leaf where a hart stands whose walk lacks no entry: it starts nothing. `pairs` is how many pairs of
+/// page table entries a search for its answer would have to look at.
+fn enter_settled(part: &Part, hart: u8, walked: &Walk, pairs: u64, nodes: u64) -> Entered
+    requires hart { hart < length part.now.now.harts }
+    requires walk { ended walked.now.ptes walked.now.outcome ≡ walked_at hart (here part.now) }
+    requires aligned { AreAligned walked.now.ptes }
+    requires settled { (addr : ℕ) → walked.now.outcome ≡ Missing addr → ⊥ }
+    ensures { (t : ATemplate) (draws : List ℕ) → ((s : Setting) (feet : List ATouch) → IsSettingOf t s → fetch_space (turn_at s feet hart (here part.now)) ≡ pairs) → IsEnteredAs t hart draws nodes (here part.now) (here part.now) result }
+{
+    part.is_test();
     known_is_words(part, hart);
-    // Such a fetch has one pair of page table entries.
-    if nodes < 1 {
+    if nodes < pairs {
         return Entered::Spent;
     }
-    let pc = part.hart(hart).pc;
-    if !is_in_ram(part, pc) {
-        return Entered::NoneFits;
+    match walked.outcome {
+        WalkEnd::Pa(pa) => {
+            if are_free_walks(part.feet(), hart, walked.ptes.as_slice()) {
+                Entered::At(pa)
+            } else {
+                Entered::NoneFits
+            }
+        }
+        WalkEnd::Fault(_) | WalkEnd::Outside => Entered::NoneFits,
+        WalkEnd::Missing(_) => unreachable!(),
     }
-    Entered::At(pc)
 }
 
-/// Answers the fetch of a `do` leaf where a hart stands, with the first two of the 16 draws and `nodes` for its budget, and
-/// starts the page table entries of what is found. Where nothing is found, nothing is changed.
-pub fn enter_fetch(
+/// Answers the fetch of a `do` leaf where a hart stands, and starts the page table entries of what is found.
+fn answer_and_enter(
     alloc: Global,
     part: &mut Part,
     hart: u8,
@@ -283,12 +306,44 @@ pub fn enter_fetch(
     ensures entered { IfOk result (IsEnteredAs t.now hart draws.now nodes (here part.old) (here part.new)) }
     ensures kept { AreKept part.old part.new }
 {
-    if !is_translated(fetch_view(part, hart)) {
-        return Ok(enter_untranslated(part, hart, nodes));
+    let view = fetch_view(part, hart);
+    let pc = part.hart(hart).pc;
+    let walked = walk(part.memory(), view, pc, Kind::Fetch);
+    if !matches!(walked.outcome, WalkEnd::Missing(_)) {
+        // It has one answer, which takes no search.
+        let pairs = pairs_of(alloc, view, t)?;
+        return Ok(enter_settled(part, hart, &walked, pairs, nodes));
     }
     match fetch_answer(alloc, part, hart, t, draws, nodes)? {
         Solved::NoneFits => Ok(Entered::NoneFits),
         Solved::Spent => Ok(Entered::Spent),
         Solved::Found(x) => Ok(Entered::At(enter(part, hart, &x)?)),
+    }
+}
+
+/// Answers the fetch of a `do` leaf where a hart stands, with the first two of the 16 draws and `nodes` for its budget, and
+/// starts the page table entries of what is found. Where nothing is found, nothing is changed, and neither is by a refusal.
+pub fn enter_fetch(
+    alloc: Global,
+    part: &mut Part,
+    hart: u8,
+    t: &Template,
+    draws: &[u32; 16],
+    nodes: u64,
+) -> Result<Entered, OutOfMemory>
+    requires hart { hart < length part.old.now.harts }
+    requires few { HasFewForms t.now }
+    requires vectors { AreVectors t.now.vectors }
+    ensures entered { IfOk result (IsEnteredAs t.now hart draws.now nodes (here part.old) (here part.new)) }
+    ensures kept { OnOk result (AreKept part.old part.new) }
+    ensures refused { OnErr result (part.new ≡ part.old) }
+{
+    let mark = part.mark();
+    match answer_and_enter(alloc, part, hart, t, draws, nodes) {
+        Ok(entered) => Ok(entered),
+        Err(error) => {
+            part.rollback(mark);
+            Err(error)
+        }
     }
 }

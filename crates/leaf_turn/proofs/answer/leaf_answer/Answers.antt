@@ -6,7 +6,9 @@ use Rattle.tpl_ast.specs.declared.template.Atom.{Atom}
 use Rattle.tpl_ast.specs.declared.template.Var.TheVariants as vars
 use Rattle.data_bytes.specs.declared.memory.DataBytes.{DataBytes}
 use Rattle.dom_set.specs.Elements.{is_in}
+use Rattle.sv_walk.specs.declared.entry.View.{View}
 use Rattle.leaf_link.specs.Cases.{all_tests}
+use Rattle.leaf_link.specs.Firsts.{pairs_at}
 use Rattle.leaf_stand.specs.Posed.{are_posable}
 use Rattle.leaf_stand.specs.Relations.{are_between}
 use Rattle.part_state.specs.State.{here}
@@ -15,6 +17,10 @@ use Rattle.leaf_turn.proofs.Grounding.{setting_at, setting_is}
 use Rattle.leaf_turn.proofs.Plainness.{biases_between, each_plain, plain_mandatory}
 use Rattle.leaf_turn.proofs.Wholly.{answered, found_by, plain_data, posed_at}
 use Rattle.leaf_turn.proofs.answer.leaf_answer.Goals as goal
+
+pub stand_of-stand-requires-clause-pairs : goal.stand_of-stand-requires-clause-pairs
+stand_of-stand-requires-clause-pairs c = λ s feet setting.
+    ap (λ (v : View). pairs_at (turn_at s feet c.args.hart (here c.args.part.now)) v) (sym c.data_view.ensures) ∙ c.in_ok-pairs.ensures s feet c.args.hart (here c.args.part.now) setting
 
 pub answer_of-requires-clause-between : goal.answer_of-requires-clause-between
 answer_of-requires-clause-between c =

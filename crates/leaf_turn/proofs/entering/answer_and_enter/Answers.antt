@@ -1,11 +1,14 @@
 use Rattle.std.proofs.Common.{refl, sym, ap, ◌∙◌, subst}
-use Rattle.sv_walk.specs.Translation.{is_translated}
+use Rattle.sv_walk.specs.declared.entry.View.{View}
+use Rattle.leaf_link.specs.Firsts.{pairs_at}
+use Rattle.turn_laws.specs.Given.{turn_at}
 use Rattle.part_state.specs.State.{here}
 use Rattle.leaf_turn.specs.Entering.{AnswersFetch}
-use Rattle.leaf_turn.proofs.entering.enter_fetch.Goals as goal
+use Rattle.leaf_turn.proofs.entering.answer_and_enter.Goals as goal
 
-pub returns-then-not-is_translated-clause-entered : goal.returns-then-not-is_translated-clause-entered
-returns-then-not-is_translated-clause-entered c = c.enter_untranslated.ensures c.args.t.now c.args.draws.now (ap is_translated (sym c.fetch_view.ensures) ∙ sym c.is_translated.ensures ∙ c.if-not-is_translated.true)
+pub returns-then-not-matches-clause-entered : goal.returns-then-not-matches-clause-entered
+returns-then-not-matches-clause-entered c = c.enter_settled.ensures c.args.t.now c.args.draws.now (λ s feet setting.
+    ap (λ (v : View). pairs_at (turn_at s feet c.args.hart (here c.args.part.now)) v) (sym c.fetch_view-view.ensures) ∙ c.in_ok-pairs.ensures s feet c.args.hart (here c.args.part.now) setting)
 
 pub returns-in-NoneFits-clause-entered : goal.returns-in-NoneFits-clause-entered
 returns-in-NoneFits-clause-entered c = (subst (AnswersFetch c.args.t.now c.args.hart c.args.draws.now c.args.nodes (here c.args.part.now)) c.in-NoneFits.is c.in_ok-fetch_answer.ensures.answer, refl)
