@@ -48,6 +48,17 @@ fn is_of_sum(rel: &Rel) -> bool {
     matches!(rel, Rel::Sum(..) | Rel::Target(..))
 }
 
+/// Of how many rows a relation is asked before sums, at most.
+const ROWS: usize = 4;
+
+/// Whether the relation is asked first. Sums and many rows take longest, and less time where the others have taken what they can.
+fn is_asked_first(rel: &Rel) -> bool {
+    match rel {
+        Rel::Rows(rows) => rows.as_slice().len() <= ROWS,
+        _ => !is_of_sum(rel),
+    }
+}
+
 /// Whether some variable lost as large a part of its values as would leave none after so many passes as there are at most.
 fn has_lost_much(before: &[u64; 14], after: &[u64; 14]) -> bool {
     for place in 0..14 {
@@ -198,6 +209,45 @@ impl Domains {
         Ok(())
     }
 
+    /// Goes through the relations that are asked first, or through the others, each alone, until a domain is empty.
+    fn ask_those(
+        &mut self,
+        alloc: Global,
+        op: Op,
+        rels: &[Rel],
+        times: &mut Times,
+        first: bool,
+    ) -> Result<(), OutOfMemory>
+        ensures { OnOk result (Narrows op rels.now self.old self.new) }
+    {
+        for (number, rel) in rels.iter().enumerate() {
+            if is_asked_first(rel) == first {
+                self.ask(alloc, op, rel, number, times)?;
+            }
+        }
+        Ok(())
+    }
+
+    /// Goes through the relations that are asked first. Where one took values and sums are to follow, it does so once more, since
+    /// that may tell others of them more.
+    fn ask_firsts(
+        &mut self,
+        alloc: Global,
+        op: Op,
+        rels: &[Rel],
+        times: &mut Times,
+    ) -> Result<(), OutOfMemory>
+        ensures { OnOk result (Narrows op rels.now self.old self.new) }
+    {
+        let before = times.now;
+        self.ask_those(alloc, op, rels, times, true)?;
+        if times.now == before || !rels.iter().any(is_of_sum) {
+            return Ok(());
+        }
+        self.ask_those(alloc, op, rels, times, true)?;
+        Ok(())
+    }
+
     /// Goes through the relations once, each alone and then all together, until a domain is empty.
     fn pass(
         &mut self,
@@ -208,9 +258,8 @@ impl Domains {
     ) -> Result<(), OutOfMemory>
         ensures { OnOk result (Narrows op rels.now self.old self.new) }
     {
-        for (number, rel) in rels.iter().enumerate() {
-            self.ask(alloc, op, rel, number, times)?;
-        }
+        self.ask_firsts(alloc, op, rels, times)?;
+        self.ask_those(alloc, op, rels, times, false)?;
         self.narrow_standing(alloc, op, rels);
         Ok(())
     }

@@ -1,6 +1,6 @@
 -- What fits a problem with its marked biases.
 use Rattle.std.proofs.Common.{◌≡◌, ℕ, ◌+◌, ◌<◌, ◌≤◌, Bool, true, false, not, ◌&&◌, ◌||◌, ◌==◌, List, [], ◌∷◌, ◌++◌, All, length, drop, get_or, refl, sym, ap, ◌∙◌, arith}
-use Rattle.std.specs.Prelude.{if◌then◌else◌, filter}
+use Rattle.std.specs.Prelude.{if◌then◌else◌, filter, slice_set}
 use Rattle.std.specs.List.{list_any, list_all}
 use Rattle.std.proofs.lemmas.List.Elements.{All-head, All-tail}
 use Rattle.std.proofs.lemmas.List.Folds.{list_all-append}
@@ -19,36 +19,38 @@ use Rattle.fd_prob.specs.declared.slot.Slot.TheVariants as slots
 use Rattle.fd_prob.specs.Extras.{closed_by, cut_by, cut_by_all, extended, extended_case, extended_cases}
 use Rattle.fd_prob.specs.Fitting.{IsCase, IsProblem, fits_case, is_within}
 use Rattle.fd_prob.specs.Relations.{holds, value_of}
+use Rattle.fd_prob.specs.Slots.{slot_number}
 use Rattle.fd_prob.proofs.Fitted.{all_within, each_within}
 use Rattle.fd_solve.specs.Answers.{NothingFits}
 use Rattle.fd_solve.specs.Marks.{marked_case, with_marked}
 use Rattle.fd_solve.specs.Meeting.{is_in_cut, meets_bias, meets_marked}
+use Rattle.fd_solve.specs.Asking.{with_doms}
 use Rattle.case_search.proofs.Inside.{each_of, inside_of, within_same}
 use Rattle.case_search.proofs.Putting.{put_in, put_out, value_in}
 use Rattle.fd_solve.proofs.Extensions.{case_whole, length_cut}
 use Rattle.fd_solve.proofs.Lists.{drop_here, drop_past}
 use Rattle.fd_solve.proofs.Marking.{many_marked, marked_at}
 
-abbrev with_doms : Case → List (List ℕ) → Case
-with_doms c doms = record { op = c.op; doms = doms; rels = c.rels }
+-- one domain less what a test leaves out
+pub one_less : (c : Case) (x : Assignment) (s : Slot) (test : ℕ → Bool) → length c.doms ≡ 14 → is_within (with_doms c (slice_set c.doms (slot_number s) (filter test (domain_in c.doms s)))) x ≡ (test (value_of x s) && is_within c x)
+one_less c x s test long =
+    let old : List ℕ = domain_in c.doms s in
+    let v : ℕ = value_of x s in
+    let d : List ℕ = filter test old in
+    let made : Case = with_doms c (slice_set c.doms (slot_number s) d) in
+    same (is_within made x) (test v && is_within c x)
+    (λ h.
+    let inside = inside_of made x (each_within made x h) in
+    let both : (test v && is_in old v) ≡ true = sym (is_in-filter test old v) ∙ value_in c.doms s d long x inside in
+    joined (test v) (is_within c x) (left (test v) (is_in old v) both)
+    (all_within c x (each_of c x (put_out c.doms s d long x inside (right (test v) (is_in old v) both)))))
+    (λ h.
+    let inside = inside_of c x (each_within c x (right (test v) (is_within c x) h)) in
+    all_within made x (each_of made x (put_in c.doms s d long x inside (is_in-filter test old v ∙ joined (test v) (is_in old v) (left (test v) (is_within c x) h) (inside s)))))
 
 -- one cut
 one_cut : (c : Case) (x : Assignment) (cut : Slot × List ℕ) → length c.doms ≡ 14 → is_within (with_doms c (cut_by cut c.doms)) x ≡ (is_in_cut x cut && is_within c x)
-one_cut c x cut long =
-    let s : Slot = cut.0 in
-    let old : List ℕ = domain_in c.doms s in
-    let v : ℕ = value_of x s in
-    let d : List ℕ = filter (is_in cut.1) old in
-    let made : Case = with_doms c (cut_by cut c.doms) in
-    same (is_within made x) (is_in_cut x cut && is_within c x)
-    (λ h.
-    let inside = inside_of made x (each_within made x h) in
-    let both : (is_in cut.1 v && is_in old v) ≡ true = sym (is_in-filter (is_in cut.1) old v) ∙ value_in c.doms s d long x inside in
-    joined (is_in_cut x cut) (is_within c x) (left (is_in cut.1 v) (is_in old v) both)
-    (all_within c x (each_of c x (put_out c.doms s d long x inside (right (is_in cut.1 v) (is_in old v) both)))))
-    (λ h.
-    let inside = inside_of c x (each_within c x (right (is_in_cut x cut) (is_within c x) h)) in
-    all_within made x (each_of made x (put_in c.doms s d long x inside (is_in-filter (is_in cut.1) old v ∙ joined (is_in cut.1 v) (is_in old v) (left (is_in_cut x cut) (is_within c x) h) (inside s)))))
+one_cut c x cut long = one_less c x cut.0 (is_in cut.1) long
 
 turned : (a b c : Bool) → ((a && b) && c) ≡ (b && (a && c))
 turned true b c = refl
@@ -83,7 +85,8 @@ sorted true true true true false true = refl
 sorted true true true true true false = refl
 sorted true true true true true true = refl
 
-one_bias : (e : Extra) (place : ℕ) (c : Case) (x : Assignment) → IsCase c → fits_case x (extended_case e (get_or e.cases place false) c) ≡ (fits_case x c && meets_bias (op_numbered c.op) x place e)
+-- what fits a case with a bias fits the case and meets the bias
+pub one_bias : (e : Extra) (place : ℕ) (c : Case) (x : Assignment) → IsCase c → fits_case x (extended_case e (get_or e.cases place false) c) ≡ (fits_case x c && meets_bias (op_numbered c.op) x place e)
 unfolding fits_case
 one_bias e place c x is =
     let op : Op = op_numbered c.op in

@@ -16,3 +16,4 @@ pub mod FittingMarks
 pub mod Biases
 pub mod Dropping
 pub mod Equivalence
+pub mod Asking

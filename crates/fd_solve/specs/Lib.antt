@@ -5,6 +5,7 @@ pub mod Known
 pub mod Marks
 pub mod Meeting
 pub mod Ready
+pub mod Asking
 pub mod Laws
 pub mod Taking
 pub mod Shrinking

@@ -2,7 +2,7 @@
 // nothing fits it, nothing fits it with a further bias, and where an assignment that fits it fits it with the bias too, the
 // bias is kept.
 ghost use Rattle.std.specs.Prelude.{◌≡◌, ◌+◌, ◌-◌, ◌<◌, ◌≤◌, ◌++◌, ◌∷◌, [], false, true, All, IfOk, OnOk, length, slice_index_or, slice_set};
-ghost use Rattle.fd_prob.specs.Fitting.{IsProblem};
+ghost use Rattle.fd_prob.specs.Fitting.{IsCase, IsProblem};
 ghost use Rattle.fd_prob.specs.Spaces.{space};
 ghost use Rattle.fd_solve.specs.Answers.{IsAnswer, IsLeafAnswer, NothingFits};
 ghost use Rattle.fd_solve.specs.Equivalent.{AreTried};
@@ -19,8 +19,8 @@ use crate::marked::{Marked, base_of};
 use crate::operations::answer_alone;
 use crate::ready::Ready;
 use crate::sought::Tried;
-use dom_set::OutOfMemory;
-use fd_prob::{Extra, Items, Problem, Slot};
+use dom_set::{OutOfMemory, Set};
+use fd_prob::{Case, Extra, Items, Problem, Slot};
 use std::alloc::Global;
 
 /// Whether a bias cuts no variable whose cut may make the space of a problem larger.
@@ -54,6 +54,28 @@ fn known_next(
 {
     let within = shrinks(bias) && !before.was_spent();
     known_after(alloc, before, ready, marked, within, nodes)
+}
+
+/// In how many pieces a domain may be so that its case is not large.
+const FEW: usize = 256;
+
+/// Whether the domain is in many pieces.
+fn is_large(alloc: Global, domain: &Set) -> Result<bool, OutOfMemory> {
+    let spans = domain.spans(alloc)?;
+    Ok(spans.len() > FEW)
+}
+
+/// Whether the addresses of one of the cases, or the values of rs1 in it, are in many pieces, so that to narrow it takes far
+/// longer than to copy it.
+fn are_large(alloc: Global, cases: &[Case]) -> Result<bool, OutOfMemory>
+    requires { All IsCase cases.now }
+{
+    for case in cases {
+        if is_large(alloc, case.domain(Slot::Ea))? || is_large(alloc, case.domain(Slot::A))? {
+            return Ok(true);
+        }
+    }
+    Ok(false)
 }
 
 /// The biases that were taken so far.
@@ -125,7 +147,10 @@ impl Taken {
                 self.firsts = Some(firsts);
                 self.known = known;
             }
-            Some(spent) => self.unmark(spent)?,
+            Some(spent) => {
+                self.ready.refuse(alloc, &marked, spent)?;
+                self.unmark(spent)?;
+            }
         }
         Ok(())
     }
@@ -174,7 +199,7 @@ pub fn solve_leaf(
         marks: Vec::new(alloc),
         firsts: None,
         known: Known::Answer(answer_alone(alloc, p, nodes)?),
-        ready: Ready::new(),
+        ready: Ready::new(are_large(alloc, p.cases.as_slice())?),
         dropped: Items::new(alloc),
     };
     for bias in biases {

@@ -16,6 +16,7 @@ mod meeting;
 mod operations;
 mod pivots;
 mod ready;
+mod refused;
 mod sought;
 
 pub use answers::{LeafAnswer, Solved};

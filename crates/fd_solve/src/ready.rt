@@ -1,8 +1,8 @@
 // A problem with the biases that were kept, from which searches go on.
-ghost use Rattle.std.specs.Prelude.{◌≡◌, ◌≤◌, ℕ, All, IfOk, None, OnOk, length, not};
+ghost use Rattle.std.specs.Prelude.{◌≡◌, ◌-◌, ◌≤◌, false, ℕ, All, IfOk, None, OnOk, length, not};
 ghost use Rattle.std.specs.List.{list_all};
 ghost use Rattle.fd_prob.specs.Spaces.{space};
-ghost use Rattle.fd_solve.specs.Answers.{IsAnswer};
+ghost use Rattle.fd_solve.specs.Answers.{IsAnswer, NothingFits};
 ghost use Rattle.fd_prob.specs.Fitting.{IsProblem};
 ghost use Rattle.fd_solve.specs.Equivalent.{AreTried, StandFor};
 ghost use Rattle.fd_solve.specs.Marks.{IsSound, base_of, whole_of, with_marked};
@@ -11,7 +11,7 @@ ghost use Rattle.fd_solve.specs.Ready.{IsReady};
 use crate::answers::Solved;
 use crate::marked::{Marked, base_of, with_marked};
 use crate::operations::searched;
-use crate::sought::{Narrow, Tried, put_tried};
+use crate::sought::{Narrow, Tried, put_tried, refuse};
 use dom_set::OutOfMemory;
 use fd_prob::{Extra, Problem};
 use std::alloc::Global;
@@ -26,7 +26,7 @@ pub struct Ready {
     from: usize,
     /// Cases that stand for its own, which searches narrow. None where they weren't made, as before a second search.
     narrow: Option<Narrow>,
-    /// Whether it was searched before.
+    /// Whether it was searched before, or is so large that its cases are to be narrowed once.
     was_searched: bool,
 }
 
@@ -61,8 +61,8 @@ fn brought(
 }
 
 impl Ready {
-    /// The problem itself, brought up to no mark yet.
-    pub fn new() -> Ready
+    /// The problem itself, brought up to no mark yet. Where it is large, its cases are narrowed in the first search already.
+    pub fn new(large: bool) -> Ready
         ensures problem { result.problem ≡ None }
         ensures from { result.from ≡ 0 }
         ensures narrow { result.narrow ≡ None }
@@ -71,7 +71,7 @@ impl Ready {
             problem: None,
             from: 0,
             narrow: None,
-            was_searched: false,
+            was_searched: large,
         }
     }
 
@@ -156,6 +156,24 @@ impl Ready {
         self.settle(alloc, marked)?;
         let done = self.search_rest(alloc, marked)?;
         Ok(done)
+    }
+
+    /// Goes on from the narrow cases without what they can't have, where nothing fits the problem with all marks and not only the
+    /// budget was spent. It is brought up to the same marks as before.
+    pub fn refuse(&mut self, alloc: Global, marked: &Marked, spent: bool) -> Result<(), OutOfMemory>
+        requires sound { IsSound marked.now }
+        requires ready { IsReady marked.now.problem.now marked.now.biases.now marked.now.marks.now (length marked.now.marks.now - 1) self.old }
+        requires none { spent ≡ false → NothingFits (whole_of marked.now) }
+        ensures { OnOk result (IsReady marked.now.problem.now marked.now.biases.now marked.now.marks.now (length marked.now.marks.now - 1) self.new) }
+    {
+        if spent {
+            return Ok(());
+        }
+        let base = base_of(&self.problem, marked.problem);
+        let biases = &marked.biases[self.from..];
+        let marks = &marked.marks[self.from..];
+        refuse(&mut self.narrow, alloc, base, biases, marks)?;
+        Ok(())
     }
 
     /// Goes on from the narrow cases that a search of the problem with all marks made: it is brought up to these marks, and

@@ -1,14 +1,19 @@
 // Cases that stand for those of a problem in a search.
 ghost use Rattle.std.specs.Prelude.{◌≡◌, ◌<◌, ◌≤◌, All, IfOk, List, OnOk, length, slice_index_or, slice_set};
 ghost use Rattle.fd_prob.specs.declared.problem.Case.{Case};
+ghost use Rattle.fd_prob.specs.Extras.{extended};
 ghost use Rattle.fd_prob.specs.Fitting.{IsCase, IsProblem};
+ghost use Rattle.fd_solve.specs.Answers.{NothingFits};
+ghost use Rattle.fd_solve.specs.Asking.{AsksFor};
 ghost use Rattle.fd_solve.specs.Equivalent.{AreEquivalent, AreMarked, AreTried, StandFor};
+ghost use Rattle.fd_solve.specs.Marks.{with_marked};
 
 use crate::marked::marked_case;
+use crate::refused::{asked_by, less, stays};
 use case_search::narrow_again;
-use dom_set::OutOfMemory;
+use dom_set::{OutOfMemory, Set};
 use fd_narrow::Losses;
-use fd_prob::{Case, Extra, Problem};
+use fd_prob::{Case, Extra, Problem, Slot};
 use std::alloc::Global;
 use std::marker::Model;
 
@@ -63,6 +68,13 @@ pub fn losses_by(biases: &[Extra], marks: &[bool]) -> Losses {
             }
         }
     }
+    losses
+}
+
+/// Just the variable.
+fn loss_of(slot: Slot) -> Losses {
+    let mut losses = [false; 14];
+    losses[slot.number()] = true;
     losses
 }
 
@@ -244,6 +256,52 @@ impl Narrow {
         }
     }
 
+    /// Takes values of a variable from the case at a place, which a bias that nothing fits asks for where the case stays.
+    fn refuse_at(
+        &mut self,
+        alloc: Global,
+        p: &Problem,
+        bias: &Extra,
+        place: usize,
+        slot: Slot,
+        set: &Set,
+    ) -> Result<(), OutOfMemory>
+        requires problem { IsProblem p.now }
+        requires entry { length bias.now.cases ≡ length p.now.cases }
+        requires none { NothingFits (extended bias.now p.now) }
+        requires asks { AsksFor bias.now slot set.now }
+        requires place { place < length self.old }
+        requires cases { AreEquivalent p.now.cases self.old }
+        ensures { OnOk result (AreEquivalent p.now.cases self.new) }
+    {
+        if !stays(bias, place) {
+            return Ok(());
+        }
+        if let Some(made) = less(alloc, self.case_at(place), slot, set)? {
+            let narrowing = self.narrowing(place);
+            self.note(place, narrowing.with(&loss_of(slot)));
+            self.put(place, made);
+        }
+        Ok(())
+    }
+
+    /// Takes from cases that stand for those of a problem what they can't have, since nothing fits the problem with the bias.
+    fn refuse(&mut self, alloc: Global, p: &Problem, bias: &Extra) -> Result<(), OutOfMemory>
+        requires problem { IsProblem p.now }
+        requires entry { length bias.now.cases ≡ length p.now.cases }
+        requires none { NothingFits (extended bias.now p.now) }
+        requires cases { AreEquivalent p.now.cases self.old }
+        ensures { OnOk result (AreEquivalent p.now.cases self.new) }
+    {
+        let Some((slot, set)) = asked_by(alloc, bias)? else {
+            return Ok(());
+        };
+        for place in 0..self.count() {
+            self.refuse_at(alloc, p, bias, place, slot, &set)?;
+        }
+        Ok(())
+    }
+
     /// Narrows the case at a place, if it may lose values by that. Where the search tries it with further biases, it is left as
     /// it is the first time: what is made of it is narrowed by all at once.
     fn settle_at(&mut self, alloc: Global, place: usize, tries: bool) -> Result<(), OutOfMemory>
@@ -277,6 +335,31 @@ impl Narrow {
             }
         }
         Ok(())
+    }
+}
+
+/// Takes from cases that stand for a problem's, where there are some, what they can't have, since nothing fits the problem with
+/// the marked biases: where these are one.
+pub fn refuse(
+    narrow: &mut Option<Narrow>,
+    alloc: Global,
+    p: &Problem,
+    biases: &[Extra],
+    marks: &[bool],
+) -> Result<(), OutOfMemory>
+    requires problem { IsProblem p.now }
+    requires entries { All (λ e. length e.cases ≡ length p.now.cases) biases.now }
+    requires room { length marks.now ≤ length biases.now }
+    requires none { NothingFits (with_marked marks.now biases.now p.now) }
+    requires narrow { StandFor p.now.cases narrow.old }
+    ensures { OnOk result (StandFor p.now.cases narrow.new) }
+{
+    if marks.len() != 1 || !marks[0] {
+        return Ok(());
+    }
+    match narrow {
+        Some(cases) => cases.refuse(alloc, p, &biases[0]),
+        None => Ok(()),
     }
 }
 

@@ -1,11 +1,11 @@
 use Rattle.std.proofs.Common.{◌≡◌, ◌<◌, ℕ, get_or, length}
 use Rattle.fd_prob.specs.declared.problem.Case.{Case}
-use Rattle.case_search.specs.Equivalent.{IsEquivalent}
+use Rattle.fd_solve.specs.Equivalent.{StandsIn}
 use Rattle.fd_solve.specs.Marks.{marked_case}
 use Rattle.fd_solve.proofs.sought.marked_cases.Given as goal
 
 abbrev pub invariant-loop-place : goal.invariant-loop-place
 invariant-loop-place l = record {
   count : length l.made.items ≡ l.place;
-  each : (n : ℕ) (c d : Case) → n < l.place → IsEquivalent (marked_case l.marks l.biases n (get_or l.cases n c)) (get_or l.made.items n d);
+  each : (n : ℕ) (c d : Case) → n < l.place → StandsIn (marked_case l.marks l.biases n (get_or l.cases n c)) (get_or l.made.items n d);
 }

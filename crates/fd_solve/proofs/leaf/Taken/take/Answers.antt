@@ -1,4 +1,4 @@
-use Rattle.std.proofs.Common.{◌≡◌, ℕ, ◌-◌, Bool, List, Some, true, length, refl, sym, subst, ◌∙◌, arith}
+use Rattle.std.proofs.Common.{◌≡◌, ℕ, ◌-◌, Bool, List, Some, true, ap, length, refl, sym, subst, ◌∙◌, arith}
 use Rattle.fd_prob.specs.declared.problem.Extra.{Extra}
 use Rattle.fd_prob.specs.declared.problem.Problem.{Problem}
 use Rattle.fd_solve.specs.declared.known.Known.{Known}
@@ -7,6 +7,7 @@ use Rattle.fd_solve.specs.declared.ready.Ready.{Ready}
 use Rattle.fd_solve.specs.Known.{IsKnown}
 use Rattle.fd_solve.specs.Marks.{with_marked}
 use Rattle.fd_solve.specs.Ready.{IsReady}
+use Rattle.fd_solve.proofs.Asking.{none_dropped}
 use Rattle.fd_solve.proofs.Biases.{none_next, sound_next, taken_dropped, taken_kept, told_dropped, told_kept, within_next}
 use Rattle.fd_solve.proofs.FirstMarks.{ready_next, ready_wider}
 use Rattle.fd_solve.proofs.leaf.Taken.take.Goals as goal
@@ -47,8 +48,14 @@ returns-in_ok-keep-in-None-clause-told c =
     let ready = subst (λ (ms : List Bool). IsReady c.args.p.now c.args.biases.now ms (length ms) c.keep.new.self) c.deref.ensures.value c.in_ok-keep-in-None.ensures in
     told_kept c.args.p.now c.args.biases.now c.args.nodes c.push.new.self.items c.in_ok-firsts.firsts c.in_ok-done.done.0 new sound (known_is c.args.p.now c.args.biases.now c.args.nodes c.in_ok-done.done.0 c.deref.result.now c.push.new.self.items c.deref.ensures.value c.in_ok-done.ensures.known) refl refl refl ready
 
+pub refuse-requires-clause-sound : goal.refuse-requires-clause-sound
+refuse-requires-clause-sound c = sound_next c.args.p.now c.args.biases.now c.args.nodes c.args.self.now c.args.bias.now c.requires.entries c.requires.more c.requires.next c.deref.result.now c.base_of.result.now c.in_ok-firsts.firsts c.requires.problem c.requires.told c.base_of.ensures c.in_ok-firsts.ensures.problem c.in_ok-firsts.ensures.firsts (c.deref.ensures.value ∙ c.in_ok-push.ensures.items)
+
+pub refuse-requires-clause-none : goal.refuse-requires-clause-none
+refuse-requires-clause-none c unspent = none_dropped (with_marked c.deref.result.now c.args.biases.now c.args.p.now) c.args.nodes c.in_ok-done.done.0 (sym c.in-Some.ensures ∙ ap Some unspent) c.in_ok-done.ensures.known
+
 pub returns-in_ok-unmark-in-Some-clause-taken : goal.returns-in_ok-unmark-in-Some-clause-taken
 returns-in_ok-unmark-in-Some-clause-taken c = taken_dropped c.args.p.now c.args.biases.now c.args.nodes c.args.self.now c.args.bias.now c.requires.entries c.requires.more c.requires.next c.push.new.self.items c.in_ok-push.ensures.items c.in_ok-done.done.0 (known_is c.args.p.now c.args.biases.now c.args.nodes c.in_ok-done.done.0 c.deref.result.now c.push.new.self.items c.deref.ensures.value c.in_ok-done.ensures.known) c.in-Some.spent c.unmark.new.self (sym c.in-Some.ensures) c.in_ok-unmark-in-Some.ensures.marks c.in_ok-unmark-in-Some.ensures.dropped
 
 pub returns-in_ok-unmark-in-Some-clause-told : goal.returns-in_ok-unmark-in-Some-clause-told
-returns-in_ok-unmark-in-Some-clause-told c = told_dropped c.args.p.now c.args.biases.now c.args.nodes c.args.self.now c.push.new.self.items c.unmark.new.self c.in_ok-push.ensures.items c.in_ok-unmark-in-Some.ensures.marks c.in_ok-unmark-in-Some.ensures.firsts c.in_ok-unmark-in-Some.ensures.known c.known_next.new.ready c.in_ok-unmark-in-Some.ensures.ready (ready_is c.args.p.now c.args.biases.now c.known_next.new.ready c.deref.result.now c.push.new.self.items c.deref.ensures.value c.in_ok-done.ensures.ready) c.requires.told
+returns-in_ok-unmark-in-Some-clause-told c = told_dropped c.args.p.now c.args.biases.now c.args.nodes c.args.self.now c.push.new.self.items c.unmark.new.self c.in_ok-push.ensures.items c.in_ok-unmark-in-Some.ensures.marks c.in_ok-unmark-in-Some.ensures.firsts c.in_ok-unmark-in-Some.ensures.known c.refuse.new.self c.in_ok-unmark-in-Some.ensures.ready (ready_is c.args.p.now c.args.biases.now c.refuse.new.self c.deref.result.now c.push.new.self.items c.deref.ensures.value c.in_ok-refuse-in-Some.ensures) c.requires.told

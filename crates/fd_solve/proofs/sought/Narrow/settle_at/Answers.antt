@@ -1,8 +1,7 @@
 use Rattle.std.proofs.Common.{sym, subst}
 use Rattle.fd_prob.specs.declared.problem.Case.{Case}
-use Rattle.case_search.specs.Equivalent.{IsEquivalent}
-use Rattle.fd_solve.specs.Equivalent.{AreEquivalent}
-use Rattle.fd_solve.proofs.Equivalence.{replaced}
+use Rattle.fd_solve.specs.Equivalent.{AreEquivalent, StandsIn}
+use Rattle.fd_solve.proofs.Equivalence.{replaced, stands_in}
 use Rattle.fd_solve.proofs.sought.Narrow.settle_at.Goals as goal
 
 pub returns : goal.returns
@@ -10,5 +9,5 @@ returns c cases are =
     let before = c.args.self.now in
     let case : Case = c.case_at-case.result.now in
     let made : Case = c.in_ok-made.made in
-    let one : IsEquivalent case made = subst (λ (d : Case). IsEquivalent d made) c.in_ok-same.ensures c.in_ok-made.ensures in
+    let one : StandsIn case made = subst (λ (d : Case). StandsIn d made) c.in_ok-same.ensures (stands_in c.in_ok-same.same made c.in_ok-made.ensures) in
     subst (AreEquivalent cases) (sym c.put_narrow.ensures) (replaced cases before c.args.place case made c.requires.place c.case_at-case.ensures one are)

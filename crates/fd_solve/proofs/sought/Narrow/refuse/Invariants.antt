@@ -1,0 +1,5 @@
+use Rattle.fd_solve.specs.Equivalent.{AreEquivalent}
+use Rattle.fd_solve.proofs.sought.Narrow.refuse.Given as goal
+
+abbrev pub invariant-loop-place : goal.invariant-loop-place
+invariant-loop-place l = AreEquivalent l.p.cases l.self
