@@ -1,5 +1,5 @@
 -- What pieces that are apart say of the list of their numbers.
-use Rattle.std.proofs.Common.{◌≡◌, ℕ, suc, ◌+◌, ◌-◌, ◌*◌, ◌%◌, ◌^◌, ◌<◌, ◌≤◌, ◌↔◌, inl, inr, Bool, true, false, cond, ◌&&◌, ◌||◌, not, eqb, ltb, leb, List, [], ◌∷◌, length, filter, Option, Some, None, Contains, All, IsNone, refl, sym, ap, ◌∙◌, arith}
+use Rattle.std.proofs.Common.{◌≡◌, ℕ, suc, ◌+◌, ◌-◌, ◌*◌, ◌%◌, ◌^◌, ◌<◌, ◌≤◌, ◌↔◌, inl, inr, Bool, true, false, cond, ◌&&◌, ◌||◌, not, eqb, ltb, leb, bit_and, List, [], ◌∷◌, length, filter, Option, Some, None, Contains, All, IsNone, refl, sym, ap, ◌∙◌, arith}
 use Rattle.std.specs.List.{find, slice_get}
 use Rattle.std.specs.List.Sorted.{IsStrictlyIncreasing}
 use Rattle.std.specs.Option.{option_or}
@@ -7,6 +7,7 @@ use Rattle.std.proofs.lemmas.Bool.{and_parts, cases_lt, lt-ltb, le-ltb, ltb-true
 use Rattle.std.specs.Prelude.{pos, negsuc}
 use Rattle.std.specs.Int.{w32, cast_signed}
 use Rattle.std.proofs.lemmas.Int.{to_z_pos}
+use Rattle.std.proofs.lemmas.Nat.{and_le_l}
 use Rattle.std.proofs.lemmas.Bool.Decides.{nat_tests}
 use Rattle.std.proofs.lemmas.Map.Keys.{sorted_from_strictly_increasing}
 use Rattle.set_pieces.specs.declared.piece.Piece.{Piece}
@@ -130,17 +131,23 @@ minus_is ps qs out h = filter_is (holds ps) (λ x. not (is_in (elements_of (hold
     holds_is out x ∙ ap (ltb 0) (h x) ∙ some_left (holds qs x) (times ps x)
     ∙ (λ i. sym (holds_is ps x) i && not (sym (is_in-elements (holds qs) x lt) i)))
 
+-- a word is in one set where what is made of it is in another
+moved_is : (f : ℕ → ℕ) (ps out : List Piece) → ((x : ℕ) → x < 2 ^ 32 → f x < 2 ^ 32) → ((x : ℕ) → x < 2 ^ 32 → times out x ≡ times ps (f x)) →
+    elements_of (holds out) ≡ elements_of (λ x. is_in (elements_of (holds ps)) (f x))
+moved_is f ps out word h = elements_same (holds out) (λ x. is_in (elements_of (holds ps)) (f x)) (λ x lt.
+    holds_is out x ∙ ap (ltb 0) (h x lt) ∙ sym (holds_is ps (f x)) ∙ sym (is_in-elements (holds ps) (f x) (word x lt)))
+
 pub shift_is : (ps out : List Piece) (d : ℕ) → ((y : ℕ) → y < 2 ^ 32 → times out y ≡ times ps ((y + (2 ^ 32 - d)) % 2 ^ 32)) →
     elements_of (holds out) ≡ elements_of (λ y. is_in (elements_of (holds ps)) ((y + (2 ^ 32 - d)) % 2 ^ 32))
-shift_is ps out d h = elements_same (holds out) (λ y. is_in (elements_of (holds ps)) ((y + (2 ^ 32 - d)) % 2 ^ 32)) (λ y lt.
-    holds_is out y ∙ ap (ltb 0) (h y lt) ∙ sym (holds_is ps ((y + (2 ^ 32 - d)) % 2 ^ 32))
-    ∙ sym (is_in-elements (holds ps) ((y + (2 ^ 32 - d)) % 2 ^ 32) (omega arith)))
+shift_is ps out d h = moved_is (λ y. (y + (2 ^ 32 - d)) % 2 ^ 32) ps out (λ y lt. omega arith) h
 
 pub odd_is : (ps out : List Piece) → ((x : ℕ) → x < 2 ^ 32 → times out x ≡ times ps (x - x % 2)) →
     elements_of (holds out) ≡ elements_of (λ x. is_in (elements_of (holds ps)) (x - x % 2))
-odd_is ps out h = elements_same (holds out) (λ x. is_in (elements_of (holds ps)) (x - x % 2)) (λ x lt.
-    holds_is out x ∙ ap (ltb 0) (h x lt) ∙ sym (holds_is ps (x - x % 2))
-    ∙ sym (is_in-elements (holds ps) (x - x % 2) (omega (arith, lt))))
+odd_is ps out h = moved_is (λ x. x - x % 2) ps out (λ x lt. omega (arith, lt)) h
+
+pub masked_is : (ps out : List Piece) (m : ℕ) → ((x : ℕ) → x < 2 ^ 32 → times out x ≡ times ps (bit_and x m)) →
+    elements_of (holds out) ≡ elements_of (λ x. is_in (elements_of (holds ps)) (bit_and x m))
+masked_is ps out m h = moved_is (λ x. bit_and x m) ps out (λ x lt. omega (arith, and_le_l x m, lt)) h
 
 -- ---- clipped
 

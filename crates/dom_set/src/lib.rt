@@ -12,8 +12,9 @@
 //! hole leaves are taken by its bits: for each bit that the hole has and the run's mask lacks a piece of those that differ
 //! in it first. So a set that `from_ranges` made at a power of two, less others that it made at greater powers, on the
 //! same or on other ranges, has one piece for each range into which the ends of all cut the numbers. Nothing of the kind
-//! is said of sets that are shifted by different distances or that `from_patterns` made. No mask of a result has a bit
-//! above all those of its sources.
+//! is said of sets that are shifted by different distances or that `from_patterns` or `masked` made. No mask of a result has
+//! a bit above all those of its sources, but one that `masked` makes, whose bits may be any of the mask's, so that `shift`
+//! may split such a piece often.
 //!
 //! `shift` keeps at most two pieces for one whose mask, and whose hole's, is 2^k - 1; the numbers of another with a hole
 //! are taken by the hole's bits first. Of a run whose mask is none of these it makes such runs, without the highest bits
@@ -21,6 +22,11 @@
 //! one, though those that hold no number are left out. Where the run reaches into no more blocks of as many numbers as tell
 //! the mask's bits apart than that, or, if the mask lacks two such bits or more, into fewer than 4,096, it is taken block by
 //! block.
+//!
+//! `masked` makes one piece of a piece whose run holds all numbers up to the mask that match its pattern. The range of
+//! another, first widened to rounder ends over numbers that don't match, is cut into blocks of 2^j numbers that begin at a
+//! multiple of 2^j, at most 64 of them, and each block that begins within the mask gives at most one piece, with the old one's
+//! hole. Where the mask has all bits, the pieces stay as they are.
 //!
 //! The pieces of a set begin in ascending order. So `and`, `minus` and `or` go through those of both sets once:
 //! on the way they keep apart the pieces of one set that have begun and have not ended, also where a long

@@ -5,7 +5,9 @@ ghost use Rattle.dom_set.specs.Elements.{is_within};
 ghost use Rattle.set_pieces.specs.Pieces.{in_piece, times, holds, Ascends, IsApart};
 ghost use Rattle.set_pieces.specs.Ends.{HasPage, IsFirstFrom, IsLast, AreEnds};
 
-use set_pieces::{END, OutOfMemory, Piece, greater, lesser, push_moved_piece, push_piece};
+use set_pieces::{
+    END, OutOfMemory, Piece, greater, lesser, push_masked_piece, push_moved_piece, push_piece,
+};
 use std::alloc::Global;
 
 /// Whether some piece holds the number.
@@ -198,5 +200,18 @@ pub fn with_odd(alloc: Global, pieces: &[Piece]) -> Result<Vec<Piece>, OutOfMemo
     for p in pieces {
         push_piece(&mut out, p.with_odd())?;
     }
+    Ok(out)
+}
+
+/// The words of which they hold the bits under the mask.
+pub fn masked(alloc: Global, pieces: &[Piece], mask: u32) -> Result<Vec<Piece>, OutOfMemory>
+    ensures { IfOk result (λ v. (x : ℕ) → x < 2 ^ 32 →
+        times v.items x ≡ times pieces.now (bit_and x mask)) }
+{
+    let mut out = Vec::new(alloc);
+    for p in pieces {
+        push_masked_piece(&mut out, *p, mask)?;
+    }
+    put_in_order(&mut out);
     Ok(out)
 }

@@ -247,6 +247,14 @@ impl Set {
         Ok(Set { pieces })
     }
 
+    /// The words of which the bits under the mask are an element.
+    pub fn masked(&self, alloc: Global, mask: u32) -> Result<Set, OutOfMemory>
+        ensures { IfOk result (λ s. s ≡ elements_of (λ x. is_in self.now (bit_and x mask))) }
+    {
+        let pieces = lists::masked(alloc, &self.pieces, mask)?;
+        Ok(Set { pieces })
+    }
+
     /// The elements that are less than the number.
     pub fn below(&self, alloc: Global, x: u32) -> Result<Set, OutOfMemory>
         ensures { IfOk result (λ s. s ≡ filter (λ y. nat_lt y x) self.now) }

@@ -14,3 +14,4 @@ pub mod Lasts
 pub mod Spans
 pub mod Tells
 pub mod Unmatched
+pub mod Masking

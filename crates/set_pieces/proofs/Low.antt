@@ -28,7 +28,7 @@ mod_down j k n le =
 
 -- ---- the multiples between two numbers
 
-multiple_below : (s n : ℕ) → 0 < s → (n - n % s) % s ≡ 0
+pub multiple_below : (s n : ℕ) → 0 < s → (n - n % s) % s ≡ 0
 multiple_below s n pos = let is : n - n % s ≡ n / s * s = omega arith in ap (λ (m : ℕ). m % s) is ∙ mul-mod_left (n / s) s
 
 -- first is `low` rounded up to a multiple of s, and last `high` rounded down to one

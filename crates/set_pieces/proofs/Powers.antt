@@ -3,7 +3,7 @@ use Rattle.std.proofs.Common.{◌≡◌, ℕ, ◌/◌, ◌^◌, ◌<◌, ◌≤�
 use Rattle.std.proofs.lemmas.Bool.{cases_lt}
 use Rattle.std.proofs.lemmas.Nat.{pow_below}
 
-power_up : (i j : ℕ) → i ≤ j → 2 ^ i ≤ 2 ^ j
+pub power_up : (i j : ℕ) → i ≤ j → 2 ^ i ≤ 2 ^ j
 power_up i j le = elim (cases_lt i j) [
   | inl below ↦ omega (arith, pow_below i j below)
   | inr from ↦ (let same : i ≡ j = omega (arith, le, from) in omega (arith, ap (λ (m : ℕ). 2 ^ m) same))

@@ -12,7 +12,7 @@ pub struct Pattern {
 }
 
 impl Pattern {
-    ghost use Rattle.std.specs.Prelude.{◌≡◌, ℕ, ◌+◌, ◌-◌, ◌*◌, ◌/◌, ◌%◌, ◌^◌, ◌<◌, ◌≤◌, ◌↔◌, ◌&&◌, true, false, not, IfSome, IsNone, IsTrue};
+    ghost use Rattle.std.specs.Prelude.{◌≡◌, ℕ, ◌+◌, ◌-◌, ◌*◌, ◌/◌, ◌%◌, ◌^◌, ◌<◌, ◌≤◌, ◌↔◌, ◌&&◌, true, false, not, bit_and, IfSome, IsNone, IsTrue};
     ghost use Rattle.set_pieces.specs.Counting.{one, total};
     ghost use Rattle.set_pieces.specs.Patterns.{is_matched, matches, matches_below, IsStep};
     ghost use Rattle.set_pieces.specs.Ends.{IsLastTo};
@@ -252,6 +252,19 @@ impl Pattern {
         }
         Some(Pattern {
             mask: self.mask - self.mask % 2,
+            bits: self.bits,
+        })
+    }
+
+    /// The pattern of the numbers whose bits under the mask match.
+    pub fn masked(self, mask: u32) -> Option<Pattern>
+        ensures { (x : ℕ) → is_matched result x ≡ matches self (bit_and x mask) }
+    {
+        if self.bits & mask != self.bits {
+            return None;
+        }
+        Some(Pattern {
+            mask: self.mask & mask,
             bits: self.bits,
         })
     }

@@ -6,6 +6,8 @@ mod byte_tests;
 #[cfg(test)]
 mod log_tests;
 #[cfg(test)]
+mod masked_tests;
+#[cfg(test)]
 mod set_tests;
 #[cfg(test)]
 mod stream_tests;

@@ -86,7 +86,7 @@ const NUMBERS: [u32; 11] = [
 ];
 
 /// A number in hexadecimal.
-fn number_of(rt: &impl Abort, word: &str) -> u32 {
+pub fn number_of(rt: &impl Abort, word: &str) -> u32 {
     u32::from_str_radix(word.trim(), 16).expect(rt, word)
 }
 
@@ -95,12 +95,12 @@ fn wide_number_of(rt: &impl Abort, word: &str) -> u64 {
 }
 
 /// What stands before a mark, and what stands behind it.
-fn parts<'a>(rt: &impl Abort, text: &'a str, mark: char) -> (&'a str, &'a str) {
+pub fn parts<'a>(rt: &impl Abort, text: &'a str, mark: char) -> (&'a str, &'a str) {
     text.split_once(mark).expect(rt, text)
 }
 
 /// The pairs of the words.
-fn pairs_of(rt: &impl Abort, alloc: Global, words: &str) -> Vec<(u32, u32)> {
+pub fn pairs_of(rt: &impl Abort, alloc: Global, words: &str) -> Vec<(u32, u32)> {
     let mut pairs = Vec::new(alloc);
     for word in words.split_whitespace() {
         let (one, other) = parts(rt, word, ':');
@@ -144,7 +144,7 @@ fn multiples(alloc: Global, align: u32, ranges: &[(u32, u32)]) -> Result<Vec<u32
 }
 
 /// The multiples of a power of two in ranges.
-fn set_of(rt: &impl Abort, alloc: Global, align: u32, ranges: &[(u32, u32)]) -> Set {
+pub fn set_of(rt: &impl Abort, alloc: Global, align: u32, ranges: &[(u32, u32)]) -> Set {
     set_laws();
     assert!(rt; align.is_power_of_two());
     Set::from_ranges(alloc, ranges, align).expect(rt, "memory")
@@ -157,7 +157,7 @@ fn matching(rt: &impl Abort, alloc: Global, patterns: &str) -> Set {
 }
 
 /// The power of two and the ranges of a text.
-fn aligned_of(rt: &impl Abort, alloc: Global, text: &str) -> (u32, Vec<(u32, u32)>) {
+pub fn aligned_of(rt: &impl Abort, alloc: Global, text: &str) -> (u32, Vec<(u32, u32)>) {
     let (align, ranges) = parts(rt, text, '=');
     (number_of(rt, align), pairs_of(rt, alloc, ranges))
 }
@@ -193,7 +193,7 @@ fn cases(rt: &impl Abort, alloc: Global) -> Vec<Case<'static>> {
 }
 
 /// The elements in ascending order.
-fn listed(alloc: Global, set: &Set) -> Result<Vec<u32>, AllocError> {
+pub fn listed(alloc: Global, set: &Set) -> Result<Vec<u32>, AllocError> {
     let mut out = Vec::new(alloc);
     for n in 0..set.size() {
         out.push(set.nth(n))?;

@@ -1,0 +1,6 @@
+use Rattle.std.proofs.Common.{◌≡◌, ℕ, ◌+◌, ◌^◌, ◌<◌, bit_and, drop}
+use Rattle.set_pieces.specs.Pieces.{times}
+use Rattle.dom_set.proofs.lists.masked.Given as goal
+
+abbrev pub invariant-loop-p : goal.invariant-loop-p
+invariant-loop-p l = (x : ℕ) → x < 2 ^ 32 → times l.out.items x + times (drop l.p-index l.pieces) (bit_and x l.mask) ≡ times l.pieces (bit_and x l.mask)
