@@ -1,0 +1,5 @@
+mod Reached
+mod Walked
+mod Parted
+mod Told
+mod Collected

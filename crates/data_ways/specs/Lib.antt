@@ -1,0 +1,4 @@
+pub mod Ways
+pub mod Barring
+pub mod Tables
+pub mod Making
