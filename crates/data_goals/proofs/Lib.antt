@@ -1,6 +1,7 @@
-pub mod Untranslated
 pub mod Bytes
 pub mod Memory
-pub mod Accesses
+pub mod Entries
+pub mod Freedom
+pub mod Through
 pub mod Ways
 pub mod Operations

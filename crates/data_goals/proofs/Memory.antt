@@ -1,5 +1,5 @@
 -- What the sets of a turn's memory say of one address.
-use Rattle.std.proofs.Common.{◌≡◌, ℕ, ◌+◌, ◌*◌, ◌/◌, ◌%◌, ◌^◌, ◌<◌, ◌≤◌, Bool, true, false, not, ◌&&◌, ◌||◌, nat_eq, refl, sym, ap, ◌∙◌, arith}
+use Rattle.std.proofs.Common.{◌≡◌, ℕ, ◌+◌, ◌*◌, ◌/◌, ◌%◌, ◌^◌, ◌<◌, ◌≤◌, Bool, true, false, not, ◌&&◌, ◌||◌, nat_eq, List, refl, sym, ap, ◌∙◌, arith}
 use Rattle.std.proofs.lemmas.Bool.{eqb-true, lt-ltb}
 use Rattle.std.proofs.lemmas.Bool.Decides.{nat_tests}
 use Rattle.std.specs.List.{list_any}
@@ -7,6 +7,7 @@ use Rattle.dom_set.specs.Elements.{is_in}
 use Rattle.rv_script.specs.declared.access.Role.TheVariants.{Load, Store}
 use Rattle.rv_script.specs.declared.place.Place.TheVariants.{Word}
 use Rattle.rv_script.specs.Bytes.{word_address}
+use Rattle.rv_script.specs.Folds.{Entry}
 use Rattle.foot_map.specs.Races.{is_blocked}
 use Rattle.rv_mem.specs.declared.words.Seen.{Seen}
 use Rattle.rv_mem.specs.declared.words.Seen.TheVariants.{Known, Untouched, Vacant}
@@ -18,7 +19,8 @@ use Rattle.data_bytes.specs.Starts.{IsSize, any_byte}
 use Rattle.leaf_link.specs.Turns.{Turn, in_frames}
 use Rattle.leaf_link.specs.Cases.{is_some_word}
 use Rattle.leaf_link.specs.Reaching.{not_code}
-use Rattle.data_goals.specs.Rows.{HasBytes}
+use Rattle.data_goals.specs.declared.accesses.Accesses.{Accesses}
+use Rattle.data_goals.specs.Grounds.{HasAccesses}
 use Rattle.data_goals.proofs.Bytes.{any_or, any_same, in_word}
 
 pub or_true : (b : Bool) → (b || true) ≡ true
@@ -64,20 +66,17 @@ untouched_is Vacant a b h = refl
 abbrev pub may_be_data : DataBytes → ℕ → Bool
 may_be_data bytes v = is_in bytes.known v || is_in bytes.fresh v
 
-module _ (t : Turn) (pa : ℕ) (bytes : DataBytes) (has : HasBytes t pa bytes) where
+module _ (t : Turn) (walk : List Entry) (pa : ℕ) (a : Accesses) (has : HasAccesses t walk pa a) where
   value_is : (v : ℕ) → is_known (has.mem (v / 4)) ≡ has_value t v
   value_is v = (let word : v / 4 * 4 ≡ word_address v = omega arith in sym (has.known (v / 4)) ∙ ap (λ (a : ℕ). is_some_word (t.known (Word a))) word)
 
   ram_is : (v : ℕ) → v < 2 ^ 32 → is_in_ram t.fixed.ram v ≡ is_there (has.mem (v / 4))
   ram_is v small = ap (λ (b : Bool). b && t.fixed.ram (v / 4)) (lt-ltb v (2 ^ 32) small) ∙ has.ram (v / 4)
 
-  pub known_in : (v : ℕ) → v < 2 ^ 32 → is_in bytes.known v ≡ has_value t v
+  pub known_in : (v : ℕ) → v < 2 ^ 32 → is_in a.bytes.known v ≡ has_value t v
   known_in v small = has.are.known v small ∙ value_is v
 
-  pub outside_in : (v : ℕ) → v < 2 ^ 32 → is_in bytes.outside v ≡ not (is_in_ram t.fixed.ram v)
-  outside_in v small = has.are.outside v small ∙ ap not (sym (ram_is v small))
-
-  pub fresh_in : (v : ℕ) → v < 2 ^ 32 → is_in bytes.fresh v ≡ ((is_in_ram t.fixed.ram v && not (has_value t v)) && may_begin t pa v)
+  pub fresh_in : (v : ℕ) → v < 2 ^ 32 → is_in a.bytes.fresh v ≡ ((is_in_ram t.fixed.ram v && not (has_value t v)) && may_begin t pa v)
   fresh_in v small =
       has.are.fresh v small
       ∙ untouched_is (has.mem (v / 4)) _ (may_begin t pa v) (λ none. begin_is t pa has.aligned v (sym (value_is v) ∙ none))
@@ -89,27 +88,27 @@ module _ (t : Turn) (pa : ℕ) (bytes : DataBytes) (has : HasBytes t pa bytes) w
   value_there v small h = ram_is v small ∙ there_since (has.mem (v / 4)) (value_is v ∙ h)
 
   -- each byte of an access may be data where its first one may
-  each_byte : (size v b : ℕ) → IsSize size → v % size ≡ 0 → v < 2 ^ 32 → may_be_data bytes v ≡ true → v ≤ b → b < v + size → (b < 2 ^ 32) × (may_be_data bytes b ≡ true)
+  each_byte : (size v b : ℕ) → IsSize size → v % size ≡ 0 → v < 2 ^ 32 → may_be_data a.bytes v ≡ true → v ≤ b → b < v + size → (b < 2 ^ 32) × (may_be_data a.bytes b ≡ true)
   each_byte size v b is m small may low high =
       let word : b / 4 ≡ v / 4 = in_word size v b is m low high in
       let frame : b / 4096 ≡ v / 4096 = omega (arith, word) in
       let below : b < 2 ^ 32 = omega (arith, word) in
-      let known : is_in bytes.known b ≡ is_in bytes.known v = has.are.known b below ∙ ap (λ (n : ℕ). is_known (has.mem n)) word ∙ sym (has.are.known v small) in
-      let fresh : is_in bytes.fresh b ≡ is_in bytes.fresh v =
+      let known : is_in a.bytes.known b ≡ is_in a.bytes.known v = has.are.known b below ∙ ap (λ (n : ℕ). is_known (has.mem n)) word ∙ sym (has.are.known v small) in
+      let fresh : is_in a.bytes.fresh b ≡ is_in a.bytes.fresh v =
       has.are.fresh b below
       ∙ ap (λ (n : ℕ). is_untouched (has.mem n) && (in_frames_of t.pool b && not (nat_eq n (pa / 4)))) word
       ∙ ap (λ (n : ℕ). is_untouched (has.mem (v / 4)) && (list_any (λ frame. nat_eq n (frame / 4096)) t.pool && not (nat_eq (v / 4) (pa / 4)))) frame
       ∙ sym (has.are.fresh v small) in
-      (below, ap (λ (k : Bool). k || is_in bytes.fresh b) known ∙ ap (λ (k : Bool). is_in bytes.known v || k) fresh ∙ may)
+      (below, ap (λ (k : Bool). k || is_in a.bytes.fresh b) known ∙ ap (λ (k : Bool). is_in a.bytes.known v || k) fresh ∙ may)
 
   -- no byte is barred where none is blocked
-  pub loads_barred : (size v : ℕ) → IsSize size → v % size ≡ 0 → v < 2 ^ 32 → may_be_data bytes v ≡ true
-      → any_byte size v (is_in bytes.not_loaded) ≡ any_byte size v (is_blocked t.feet t.fixed.number Load)
+  pub loads_barred : (size v : ℕ) → IsSize size → v % size ≡ 0 → v < 2 ^ 32 → may_be_data a.bytes v ≡ true
+      → any_byte size v (is_in a.bytes.not_loaded) ≡ any_byte size v (is_blocked t.feet t.fixed.number Load)
   loads_barred size v is m small may = any_same size v _ _ (λ b low high. let e = each_byte size v b is m small may low high in has.are.loaded b e.0 e.1)
 
   -- and none is fetched
-  pub stores_barred : (size v : ℕ) → IsSize size → v % size ≡ 0 → v < 2 ^ 32 → may_be_data bytes v ≡ true
-      → any_byte size v (is_in bytes.not_stored) ≡ (any_byte size v (is_blocked t.feet t.fixed.number Store) || any_byte size v (λ b. nat_eq (b / 4) (pa / 4)))
+  pub stores_barred : (size v : ℕ) → IsSize size → v % size ≡ 0 → v < 2 ^ 32 → may_be_data a.bytes v ≡ true
+      → any_byte size v (is_in a.bytes.not_stored) ≡ (any_byte size v (is_blocked t.feet t.fixed.number Store) || any_byte size v (λ b. nat_eq (b / 4) (pa / 4)))
   stores_barred size v is m small may =
       any_same size v _ _ (λ b low high. let e = each_byte size v b is m small may low high in has.are.stored b e.0 e.1)
       ∙ any_or size v (is_blocked t.feet t.fixed.number Store) (λ b. nat_eq (b / 4) (pa / 4))

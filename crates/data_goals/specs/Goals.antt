@@ -1,45 +1,55 @@
--- The ways of loads and stores, one for each goal.
-use Rattle.std.specs.Prelude.{◌≡◌, ℕ, ◌%◌, ◌^◌, ◌<◌, Bool, true, false, not, ◌&&◌, nat_eq, if◌then◌else◌, List, [], ◌∷◌, map, Option, Some, None}
+-- The ways of loads and stores, by where their addresses lead.
+use Rattle.std.specs.Prelude.{◌≡◌, ℕ, ◌+◌, ◌%◌, ◌^◌, ◌<◌, Bool, true, false, not, ◌&&◌, ◌||◌, nat_eq, bit_and, if◌then◌else◌, List, [], ◌∷◌, ◌++◌, Option, Some, None}
 use Rattle.dom_set.specs.Elements.{is_in}
 use Rattle.rv_isa.specs.declared.operation.Op.{Op}
 use Rattle.rv_isa.specs.Fields.{is_load}
 use Rattle.rv_isa.specs.Table.{row_of}
 use Rattle.rv_csr.specs.declared.cause.Cause.{Cause}
-use Rattle.rv_csr.specs.declared.cause.Cause.TheVariants.{LoadMisaligned, StoreMisaligned, LoadAccess, StoreAccess}
+use Rattle.rv_csr.specs.declared.cause.Cause.TheVariants.{LoadMisaligned, StoreMisaligned}
 use Rattle.rv_csr.specs.Causes.{number_of}
 use Rattle.rv_hart.specs.Machine.{size_of}
 use Rattle.tpl_ast.specs.declared.template.Atom.{Atom}
 use Rattle.tpl_ast.specs.declared.template.Var.TheVariants as vars
 use Rattle.fd_prob.specs.declared.slot.Slot.{Slot}
 use Rattle.fd_prob.specs.declared.slot.Slot.TheVariants as slots
-use Rattle.data_bytes.specs.declared.memory.DataBytes.{DataBytes}
 use Rattle.data_bytes.specs.declared.starts.DataAccess.{DataAccess}
 use Rattle.data_bytes.specs.declared.starts.DataAccess.TheVariants.{Load, Store}
 use Rattle.data_bytes.specs.Sets.{IsSetOf}
 use Rattle.data_bytes.specs.Starts.{barred_of, is_open}
+use Rattle.data_ways.specs.declared.way.DataEnd.{DataEnd}
+use Rattle.data_ways.specs.declared.way.DataEnd.TheVariants as ends
+use Rattle.data_ways.specs.declared.way.DataWay.{DataWay}
 use Rattle.leaf_link.specs.Turns.{Turn}
 use Rattle.leaf_link.specs.Cases.{Way, all_tests}
-use Rattle.leaf_link.specs.Kinds.{always, vector_alone}
+use Rattle.leaf_link.specs.Kinds.{always, is_vector}
+use Rattle.data_goals.specs.declared.accesses.Accesses.{Accesses}
 use Rattle.data_goals.specs.declared.goal.Goal.{Goal}
-use Rattle.data_goals.specs.declared.goal.Goal.TheVariants.{Misaligned, Outside, Known, Fresh}
+use Rattle.data_goals.specs.declared.goal.Goal.TheVariants.{Misaligned, Fails, Known, Fresh}
+use Rattle.data_goals.specs.declared.targets.Targets.{Targets}
 
 -- the words in a set are those that pass a test, or all words pass it
 abbrev pub IsCut : (ℕ → Bool) → Option (List ℕ) → Type 0
 IsCut test None = (v : ℕ) → v < 2 ^ 32 → test v ≡ true
 IsCut test (Some set) = IsSetOf test set
 
-abbrev pub goals : List Goal
-goals = Misaligned ∷ Outside ∷ Known ∷ Fresh ∷ []
-
 abbrev pub access_of : Op → DataAccess
 access_of op = if is_load (row_of op) then Load else Store
 
+-- where the addresses of a load or store lead
+abbrev pub ways_for : Accesses → Op → List DataWay
+ways_for a op = if is_load (row_of op) then a.loads.items else a.stores.items
+
+-- a misaligned address leads nowhere
+abbrev pub misses : DataWay
+misses = record { ea = []; first = []; second = []; end = ends.Fails LoadMisaligned }
+
 -- the cause of its trap, and nothing where it retires (Unprivileged, 2.6; Privileged, 3.1.15)
-abbrev pub cause_of : Op → Goal → Option Cause
-cause_of op Misaligned = Some (if is_load (row_of op) then LoadMisaligned else StoreMisaligned)
-cause_of op Outside = Some (if is_load (row_of op) then LoadAccess else StoreAccess)
-cause_of op Known = None
-cause_of op Fresh = None
+abbrev pub cause_of : Op → DataEnd → Goal → Option Cause
+cause_of op end Misaligned = Some (if is_load (row_of op) then LoadMisaligned else StoreMisaligned)
+cause_of op (ends.Fails cause) Fails = Some cause
+cause_of op (ends.At base mask) Fails = None
+cause_of op end Known = None
+cause_of op end Fresh = None
 
 abbrev pub outcome_of : Option Cause → ℕ
 outcome_of None = 255
@@ -50,45 +60,80 @@ retires None = true
 retires (Some cause) = false
 
 -- WHAT A GOAL SAYS OF SINGLE VARIABLES
-abbrev pub address_test : DataBytes → Op → Goal → ℕ → Bool
-address_test bytes op Misaligned v = not (nat_eq (v % size_of op) 0)
-address_test bytes op Outside v = is_in bytes.outside v && nat_eq (v % size_of op) 0
-address_test bytes op Known v = is_in bytes.known v && is_open (barred_of bytes (access_of op)) (size_of op) v
-address_test bytes op Fresh v = is_in bytes.fresh v && is_open (barred_of bytes (access_of op)) (size_of op) v
+abbrev pub is_aligned_to : Op → ℕ → Bool
+is_aligned_to op v = nat_eq (v % size_of op) 0
+
+-- a wanted physical address in one of some words, at which the access races with nothing; a store does not go to what its fetch reads
+abbrev pub target_test : Accesses → Op → (ℕ → Bool) → (ℕ → Bool) → ℕ → Bool
+target_test a op words wanted p =
+    ((words p && is_open (barred_of a.bytes (access_of op)) (size_of op) p) && wanted p) && (is_load (row_of op) || not (is_in a.walked p))
+
+-- the targets of an operation, of those that are wanted
+pub record AreTargets (a : Accesses) (op : Op) (wanted : ℕ → Bool) (targets : Targets) : Type 0 where
+  pub known : IsSetOf (target_test a op (is_in a.bytes.known) wanted) targets.known
+  pub fresh : IsSetOf (target_test a op (is_in a.bytes.fresh) wanted) targets.fresh
+
+-- where an address leads
+abbrev pub place_at : DataEnd → ℕ → ℕ
+place_at (ends.At base mask) v = (base + bit_and v mask) % 2 ^ 32
+place_at (ends.Fails cause) v = v
+
+-- only what leads somewhere has a target
+abbrev pub leads_to : DataEnd → (ℕ → Bool) → ℕ → Bool
+leads_to (ends.At base mask) test v = test ((base + bit_and v mask) % 2 ^ 32)
+leads_to (ends.Fails cause) test v = false
+
+abbrev pub address_test : Accesses → Op → DataWay → (ℕ → Bool) → Goal → ℕ → Bool
+address_test a op way wanted Misaligned v = not (is_aligned_to op v)
+address_test a op way wanted Fails v = is_in way.ea v && is_aligned_to op v
+address_test a op way wanted Known v = (is_in way.ea v && is_aligned_to op v) && leads_to way.end (target_test a op (is_in a.bytes.known) wanted) v
+address_test a op way wanted Fresh v = (is_in way.ea v && is_aligned_to op v) && leads_to way.end (target_test a op (is_in a.bytes.fresh) wanted) v
 
 -- only a word that is started has a value of its own
 abbrev pub word_test : Goal → ℕ → Bool
-word_test Misaligned v = nat_eq v 0
-word_test Outside v = nat_eq v 0
-word_test Known v = nat_eq v 0
 word_test Fresh v = true
+word_test goal v = nat_eq v 0
 
-abbrev pub goal_test : DataBytes → Op → Goal → Slot → ℕ → Bool
-goal_test bytes op goal slots.Ea v = address_test bytes op goal v
-goal_test bytes op goal slots.DataWord v = word_test goal v
-goal_test bytes op goal _ v = true
+-- and so have the entries of the way
+abbrev pub entry_test : Goal → List ℕ → ℕ → Bool
+entry_test Misaligned entries v = nat_eq v 0
+entry_test goal entries v = is_in entries v
 
--- nothing is started but the data word, or the vector of a trap
+abbrev pub goal_test : Accesses → Op → DataWay → (ℕ → Bool) → Goal → Slot → ℕ → Bool
+goal_test a op way wanted goal slots.Ea v = address_test a op way wanted goal v
+goal_test a op way wanted goal slots.FirstPte v = entry_test goal way.first v
+goal_test a op way wanted goal slots.SecondPte v = entry_test goal way.second v
+goal_test a op way wanted goal slots.DataWord v = word_test goal v
+goal_test a op way wanted goal _ v = true
+
+-- no CSR is read, and nothing but the vector of a trap is started beside what the goal says
 abbrev pub end_test : Turn → Option Cause → Slot → ℕ → Bool
-end_test t None slots.FirstPte v = nat_eq v 0
-end_test t None slots.SecondPte v = nat_eq v 0
-end_test t None slots.OldCsr v = nat_eq v 0
+end_test t cause slots.OldCsr v = nat_eq v 0
 end_test t None slots.Vector v = nat_eq v 0
-end_test t None _ v = true
-end_test t (Some cause) slot v = vector_alone t cause slot v
+end_test t (Some cause) slots.Vector v = is_vector t cause v
+end_test t cause _ v = true
 
--- what the atoms say of the physical address, which is the virtual one
-abbrev pub wanted_test : Turn → List Atom → Bool → Slot → ℕ → Bool
-wanted_test t leaf true slots.Ea v = all_tests t leaf vars.Pa v
-wanted_test t leaf reaches slot v = true
-
-abbrev pub goal_way : Turn → DataBytes → List Atom → Op → Goal → Way
-goal_way t bytes leaf op goal = record {
-  outcome = outcome_of (cause_of op goal);
-  reaches = retires (cause_of op goal);
-  also = λ slot v. end_test t (cause_of op goal) slot v && (goal_test bytes op goal slot v && wanted_test t leaf (retires (cause_of op goal)) slot v);
+-- THE WAYS OF GOALS
+abbrev pub goal_way : Turn → Accesses → List Atom → Op → DataWay → Goal → Way
+goal_way t a leaf op way goal = record {
+  outcome = outcome_of (cause_of op way.end goal);
+  reaches = retires (cause_of op way.end goal);
+  also = λ slot v. end_test t (cause_of op way.end goal) slot v && goal_test a op way (all_tests t leaf vars.Pa) goal slot v;
   holds = always;
 }
 
-abbrev pub goal_ways : Turn → DataBytes → List Atom → Op → List Way
-goal_ways t bytes leaf op = map (goal_way t bytes leaf op) goals
+-- the goals of a way, by its end
+abbrev pub goals_by : DataEnd → List Goal
+goals_by (ends.At base mask) = Known ∷ Fresh ∷ []
+goals_by (ends.Fails cause) = Fails ∷ []
+
+abbrev pub ways_by : Turn → Accesses → List Atom → Op → DataWay → List Goal → List Way
+ways_by t a leaf op way [] = []
+ways_by t a leaf op way (goal ∷ goals) = goal_way t a leaf op way goal ∷ ways_by t a leaf op way goals
+
+abbrev pub ways_through : Turn → Accesses → List Atom → Op → List DataWay → List Way
+ways_through t a leaf op [] = []
+ways_through t a leaf op (way ∷ ways) = ways_by t a leaf op way (goals_by way.end) ++ ways_through t a leaf op ways
+
+abbrev pub goal_ways : Turn → Accesses → List Atom → Op → List Way
+goal_ways t a leaf op = goal_way t a leaf op misses Misaligned ∷ ways_through t a leaf op (ways_for a op)

@@ -1,3 +1,3 @@
 pub mod Goals
-pub mod Rows
+pub mod Grounds
 pub mod Laws

@@ -1,37 +1,45 @@
 // Where a load or store goes.
 
-ghost use Rattle.std.specs.Prelude.{◌≡◌};
-ghost use Rattle.data_goals.specs.Goals.{access_of, cause_of};
+ghost use Rattle.std.specs.Prelude.{◌≡◌, IfOk};
+ghost use Rattle.data_goals.specs.Goals.{access_of, cause_of, misses, ways_for};
 ghost use Rattle.rv_hart.specs.Machine.{size_of};
 
+use crate::accesses::Accesses;
 use data_bytes::DataAccess;
+use data_ways::{DataEnd, DataWay};
+use dom_set::Set;
 use rv_csr::Cause;
 use rv_isa::Op;
+use std::alloc::Global;
 
-/// Where a load or store goes, at an address that is not translated.
+/// Where a load or store goes whose address leads as a way says.
 #[derive(Clone, Copy, Debug, PartialEq, Eq)]
 pub enum Goal {
-    /// The address is no multiple of the access's size: it traps.
+    /// The address is no multiple of the access's size: it traps, wherever it leads.
     Misaligned,
-    /// It is outside of RAM: it traps.
-    Outside,
-    /// It is in a word that has a value.
+    /// The translation or the access fails: it traps.
+    Fails,
+    /// It leads to a word that has a value.
     Known,
-    /// It is in a word of the pool, which the access starts.
+    /// It leads to a word of the pool, which the access starts.
     Fresh,
 }
 
 impl Goal {
     /// The cause of the trap of a load or store that goes there, and nothing where it retires.
-    pub fn cause(self, op: Op) -> Option<Cause>
-        ensures { result ≡ cause_of op self }
+    pub fn cause(self, op: Op, end: DataEnd) -> Option<Cause>
+        ensures { result ≡ cause_of op end self }
     {
-        match (self, op.is_load()) {
-            (Goal::Misaligned, true) => Some(Cause::LoadMisaligned),
-            (Goal::Misaligned, false) => Some(Cause::StoreMisaligned),
-            (Goal::Outside, true) => Some(Cause::LoadAccess),
-            (Goal::Outside, false) => Some(Cause::StoreAccess),
-            (Goal::Known | Goal::Fresh, _) => None,
+        match (self, end) {
+            (Goal::Misaligned, _) => {
+                if op.is_load() {
+                    Some(Cause::LoadMisaligned)
+                } else {
+                    Some(Cause::StoreMisaligned)
+                }
+            }
+            (Goal::Fails, DataEnd::Fails(cause)) => Some(cause),
+            (Goal::Fails, DataEnd::At { .. }) | (Goal::Known | Goal::Fresh, _) => None,
         }
     }
 }
@@ -55,5 +63,30 @@ pub fn access_of(op: Op) -> DataAccess
         DataAccess::Load
     } else {
         DataAccess::Store
+    }
+}
+
+/// A way for misaligned addresses, which lead nowhere.
+pub fn misses(alloc: Global) -> DataWay
+    ensures { result ≡ misses }
+{
+    DataWay {
+        ea: Set::new(alloc),
+        first: Set::new(alloc),
+        second: Set::new(alloc),
+        end: DataEnd::Fails(Cause::LoadMisaligned),
+    }
+}
+
+impl Accesses {
+    /// Where the addresses of a load or store lead.
+    pub fn ways(&self, op: Op) -> &[DataWay]
+        ensures { result.now ≡ ways_for self.now op }
+    {
+        if op.is_load() {
+            &self.loads
+        } else {
+            &self.stores
+        }
     }
 }

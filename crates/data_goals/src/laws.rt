@@ -1,10 +1,9 @@
 // The law of goals.
-ghost use Rattle.data_goals.specs.Laws.{GoalsAreWays, RowsAreThere, WaysAreGoals};
+ghost use Rattle.data_goals.specs.Laws.{GoalsAreWays, WaysAreGoals};
 
-/// Does nothing. Its contract says that where no data access is translated there are the rows of `rows_without`, and that
-/// the ways of a load or store over these rows are those of the goals.
+/// Does nothing. Its contract says that the ways of a load or store, over rows of the addresses of which it is told where they
+/// lead, are those of the goals.
 pub fn accesses_are_goals()
-    ensures rows { RowsAreThere }
     ensures there { WaysAreGoals }
     ensures back { GoalsAreWays }
 {}

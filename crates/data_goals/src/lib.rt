@@ -1,13 +1,19 @@
-//! The ways of loads and stores where no data access is translated: an address may be misaligned, lie outside of RAM, in a
-//! known word, or in a word of the pool that the access starts. It stands on `leaf_link`, whose definitions say what a
-//! step does, and on `data_bytes`, whose sets say what may be done with which byte. It promises that what each goal says of
-//! a variable is told as a set exactly, and that the ways of the four goals are together those of the definition.
+//! The ways of loads and stores: an address may be misaligned, its translation or the access may fail, it may lead to a known
+//! word, or to a word of the pool that the access starts. It stands on `data_ways`, which tells where addresses lead with
+//! which new page table entries, on `data_bytes`, whose sets say what may be done with which byte, and on the definitions of
+//! `leaf_link`. It promises that what each goal says of a variable is told as a set exactly, and that the ways of all goals are
+//! together those of the definition.
 #![tactic(auto)]
 
+mod accesses;
 mod cuts;
 mod goal;
 mod laws;
+mod targets;
 
+pub use accesses::Accesses;
 pub use cuts::goal_cut;
-pub use goal::Goal;
+pub use data_ways::{DataEnd, DataWay};
+pub use goal::{Goal, misses};
 pub use laws::accesses_are_goals;
+pub use targets::{Targets, targets_of};

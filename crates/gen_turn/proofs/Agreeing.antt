@@ -22,13 +22,11 @@ use Rattle.leaf_link.specs.Values.{Values, new_places}
 use Rattle.leaf_turn.specs.declared.taking.Fetch.{Fetch}
 use Rattle.leaf_turn.specs.declared.taking.Fetch.TheVariants as fetches
 use Rattle.leaf_turn.specs.Answers.{ArePlaced, IsPlayable, TakingsAreOne}
-use Rattle.leaf_turn.specs.Built.{LeavesBarSatp, LeavesWithoutDataBarIt}
 use Rattle.leaf_turn.specs.Entering.{root_at}
 use Rattle.leaf_turn.specs.Finding.{AnswersAreFound, FaultsArePlayable, FoundArePlayable}
 use Rattle.leaf_turn.specs.Wishes.{biases_of, mandatory_of}
 use Rattle.gen_search.specs.Laws.{HasOneAnswer}
 use Rattle.gen_search.specs.Search.{IsLeaf, IsLeaf.leaf, IsLeaf.fault, Turned, Turned.Taken}
-use Rattle.gen_turn.specs.Bodies.{is_plain}
 use Rattle.gen_turn.specs.Drafts.{Drafted, at_test, turn_of}
 use Rattle.gen_turn.specs.Grounds.{IsBuilt, IsGround}
 use Rattle.gen_turn.specs.Rules.{Shown, can_be_taken, draft_of, draft_rules, turn_shown}
@@ -37,25 +35,25 @@ use Rattle.gen_turn.proofs.Behind.{fetched_ground, one_placed}
 use Rattle.gen_turn.proofs.Failing.{playable}
 use Rattle.gen_turn.proofs.Settling.{biases_are_plain, found, one_walk, posed, turn}
 
-one_taken : TakingsAreOne → (keeps : Bool) (k : ℕ) (ws : List Wish) (dropped : List (ℕ × Bool)) (fetch : Fetch) (x : Values) (old one other : Whole) → IsTest old → k < length old.harts → IsPlayable keeps k old fetch x
+one_taken : TakingsAreOne → (k : ℕ) (ws : List Wish) (dropped : List (ℕ × Bool)) (fetch : Fetch) (x : Values) (old one other : Whole) → IsTest old → k < length old.harts → IsPlayable k old fetch x
     → IsLeafTaken k ws dropped x old one → IsLeafTaken k ws dropped x old other → one ≡ other
-one_taken law keeps k ws dropped fetch x old one other test l can a b =
-    let same = law keeps k fetch x a.done b.done old a.stepped b.stepped test l can a.taken b.taken in
+one_taken law k ws dropped fetch x old one other test l can a b =
+    let same = law k fetch x a.done b.done old a.stepped b.stepped test l can a.taken b.taken in
     a.is
     ∙ (λ i. with_all_dropped (map (listed_as k (length (records_of k old)) ws) dropped)
     (with_names (names_bound (λ v. value_of v (moment_at k x (same.0 i) old)) dropped 0 ws (same.1 i).names) (same.1 i)))
     ∙ sym b.is
 
-module _ (leaves : LeafAnswersAgree) (fetching : FetchAnswersAgree) (faults : FaultAnswersAgree) (takings : TakingsAreOne) (found_law : AnswersAreFound) (bar : LeavesWithoutDataBarIt) (barred : LeavesBarSatp) (are_playable : FoundArePlayable) (faults_playable : FaultsArePlayable) where
+module _ (leaves : LeafAnswersAgree) (fetching : FetchAnswersAgree) (faults : FaultAnswersAgree) (takings : TakingsAreOne) (found_law : AnswersAreFound) (are_playable : FoundArePlayable) (faults_playable : FaultsArePlayable) where
   -- answers that say the same make one test
   one_ending : (d : Drafted) (k : ℕ) (g : IsGround d k) (ws : List Wish) (dropped drops : List (ℕ × Bool)) (fetch : Fetch) (places : Values → Known) (s u : Solved) (one other : Turned Drafted)
-      → ((x : Assignment) → s ≡ answers.Found x → IsPlayable (is_plain d.template) k d.now fetch (values_in x)) → AreSame places s u → dropped ≡ drops → EndsAs d k ws dropped s one → EndsAs d k ws drops u other → one ≡ other
+      → ((x : Assignment) → s ≡ answers.Found x → IsPlayable k d.now fetch (values_in x)) → AreSame places s u → dropped ≡ drops → EndsAs d k ws dropped s one → EndsAs d k ws drops u other → one ≡ other
   one_ending d k g ws dropped drops fetch places (answers.Found x) (answers.Found y) one other can same listed ends ends_so =
       let values : values_in x ≡ values_in y = fun_ext same.values in
       let moved : IsLeafTaken k ws dropped (values_in x) d.now ends_so.0 =
       subst (λ (ds : List (ℕ × Bool)). IsLeafTaken k ws ds (values_in x) d.now ends_so.0) (sym listed)
       (subst (λ (z : Values). IsLeafTaken k ws drops z d.now ends_so.0) (sym values) ends_so.1) in
-      let after : ends.0 ≡ ends_so.0 = one_taken takings (is_plain d.template) k ws dropped fetch (values_in x) d.now ends.0 ends_so.0 g.test g.hart (can x refl) ends.1 moved in
+      let after : ends.0 ≡ ends_so.0 = one_taken takings k ws dropped fetch (values_in x) d.now ends.0 ends_so.0 g.test g.hart (can x refl) ends.1 moved in
       ends.2 ∙ ap (λ (w : Whole). Taken (at_test d w)) after ∙ sym ends_so.2
   one_ending d k g ws dropped drops fetch places answers.NoneFits answers.NoneFits one other can same listed ends ends_so = ends ∙ sym ends_so
   one_ending d k g ws dropped drops fetch places answers.Spent answers.Spent one other can same listed ends ends_so = ends ∙ sym ends_so
@@ -74,7 +72,7 @@ module _ (leaves : LeafAnswersAgree) (fetching : FetchAnswersAgree) (faults : Fa
       let there : IsTurnLeafAnswer t a.pa (mandatory_of ws) (biases_of ws) draws d.nodes b.answer = subst (λ (pa : ℕ). IsTurnLeafAnswer t pa (mandatory_of ws) (biases_of ws) draws d.nodes b.answer) (sym w.address) b.is in
       let agree = leaves t a.walk a.pa (mandatory_of ws) (biases_of ws) draws d.nodes a.answer b.answer (posed d k g ws built a.walk a.pa a.leads) (biases_are_plain d k g ws built) a.is there in
       one_ending d k g ws a.answer.dropped b.answer.dropped (fetches.From a.pa) (new_places t.fixed t.known) a.answer.solved b.answer.solved one other
-      (λ x is. are_playable (is_plain d.template) k d.now a.pa (values_in x) (found d k g ws built found_law bar barred draws one a x is)) agree.0 agree.1 a.ends b.ends
+      (λ x is. are_playable k d.now a.pa (values_in x) (found d k g ws built found_law draws one a x is)) agree.0 agree.1 a.ends b.ends
 
   module _ (d : Drafted) (k : ℕ) (g : IsGround d k) (ws : List Wish) (built : IsBuilt d.template k ws) (draws : List ℕ) (one other : Turned Drafted) where
     -- behind entries that are the same
@@ -104,7 +102,7 @@ module _ (leaves : LeafAnswersAgree) (fetching : FetchAnswersAgree) (faults : Fa
   one_failed d k g causes draws one other a b =
       let t : Turn = turn_of d [] k in
       one_ending d k g [] [] [] (fetches.Fails (root_at k d.now)) (new_places t.fixed t.known) a.fetch b.fetch one other
-      (λ x is. playable faults_playable d k g causes draws x (is_plain d.template) (subst (IsFaultAnswer t (is_in causes) draws d.nodes) is a.is))
+      (λ x is. playable faults_playable d k g causes draws x (subst (IsFaultAnswer t (is_in causes) draws d.nodes) is a.is))
       (faults t (is_in causes) draws d.nodes a.fetch b.fetch a.is b.is) refl a.ends b.ends
 
   one_turn : (s : Shown) (k line : ℕ) (i : Item) (draws : List ℕ) (a b : Turned Shown) → IsLeaf i line → can_be_taken s k i → draft_rules.turn k i draws s a → draft_rules.turn k i draws s b → a ≡ b

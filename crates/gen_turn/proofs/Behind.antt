@@ -13,8 +13,6 @@ use Rattle.turn_laws.specs.Given.{CanGive, all_given, given_to, known_at}
 use Rattle.turn_laws.specs.Laws.{IsBeside}
 use Rattle.turn_laws.proofs.Places.{beside, beside_one, known_one, test_one}
 use Rattle.leaf_turn.specs.Answers.{AreAsked, ArePlaced}
-use Rattle.leaf_turn.proofs.Giving.{all_satp}
-use Rattle.gen_turn.specs.Bodies.{is_plain}
 use Rattle.gen_turn.specs.Drafts.{Drafted, at_test}
 use Rattle.gen_turn.specs.Grounds.{IsGround, IsOfWords, IsSameGround}
 use Rattle.gen_turn.proofs.Drafting.{ground_stays}
@@ -22,28 +20,26 @@ use Rattle.gen_turn.proofs.Elsewhere.{all_stay, all_words}
 
 -- ---- its ground
 
-pub ground_then : (keeps : Bool) (a b c : Whole) → IsSameGround keeps a b → IsSameGround keeps b c → IsSameGround keeps a c
-ground_then keeps a b c one two = record {
+pub ground_then : (a b c : Whole) → IsSameGround a b → IsSameGround b c → IsSameGround a c
+ground_then a b c one two = record {
   harts = two.harts ∙ one.harts;
   names = two.names ∙ one.names;
-  satp = λ asked j. two.satp asked j ∙ one.satp asked j;
   test = λ t. two.test (one.test t);
   words = λ j o. two.words j (one.words j o);
 }
 
-pub entered_ground : (keeps : Bool) (k : ℕ) (new : Known) (old fetched : Whole) → ArePlaced k new old fetched → IsTest fetched → IsOfWords k fetched → IsSameGround keeps old fetched
-entered_ground keeps k new old fetched placed test words =
+pub entered_ground : (k : ℕ) (new : Known) (old fetched : Whole) → ArePlaced k new old fetched → IsTest fetched → IsOfWords k fetched → IsSameGround old fetched
+entered_ground k new old fetched placed test words =
     let b : IsBeside old fetched = subst (IsBeside old) (sym placed.is) (beside k placed.places old) in
     record {
       harts = b.harts;
       names = ap length b.names;
-      satp = λ asked j. ap (λ (w : Whole). (hart_of j w).csrs.satp) placed.is ∙ all_satp k placed.places old j;
       test = λ before. test;
       words = all_words k old fetched (λ j other. ap (λ (w : Whole). hart_of j w) placed.is ∙ all_stay k j other placed.places old) words;
     }
 
 pub fetched_ground : (d : Drafted) (k : ℕ) (new : Known) (fetched : Whole) → IsGround d k → ArePlaced k new d.now fetched → IsTest fetched → IsOfWords k fetched → IsGround (at_test d fetched) k
-fetched_ground d k new fetched g placed test words = ground_stays d.template d.nodes d.now fetched (entered_ground (is_plain d.template) k new d.now fetched placed test words) k g
+fetched_ground d k new fetched g placed test words = ground_stays d.template d.nodes d.now fetched (entered_ground k new d.now fetched placed test words) k g
 
 -- ---- there is one
 

@@ -14,8 +14,7 @@ use Rattle.part_state.specs.Meaning.{held_in}
 use Rattle.part_state.specs.State.{whole}
 use Rattle.part_state.specs.Told.{FitsFile, Tells}
 use Rattle.leaf_link.specs.Admitted.{MetAreTrue, StepsAreFetched}
-use Rattle.leaf_link.specs.Placing.{NewWordsAreTwo}
-use Rattle.leaf_turn.specs.Built.{LeavesBarSatp, LeavesWithoutDataBarIt}
+use Rattle.leaf_link.specs.Placing.{NewWordsAreFour}
 use Rattle.leaf_turn.specs.Finding.{AnswersAreFound}
 use Rattle.gen_search.specs.declared.draws.Tally.{Tally}
 use Rattle.gen_search.specs.Laws.{StillAllows}
@@ -35,7 +34,7 @@ nothing_at zero i d = refl
 nothing_at (suc n) zero d = refl
 nothing_at (suc n) (suc i) d = nothing_at n i d
 
-module _ (met_are_true : MetAreTrue) (are_fetched : StepsAreFetched) (words_are_two : NewWordsAreTwo) (entries : EntriesAreByPlaces) (found_law : AnswersAreFound) (bar : LeavesWithoutDataBarIt) (barred : LeavesBarSatp) (still : StillAllows can_be_taken draft_rules) (t : Template) (seed nodes turns : ℕ) (keeps : KeepsLimits t.text t) (last : Shown) (tally : Tally) (comes : Comes t seed nodes turns (Done last tally))
+module _ (met_are_true : MetAreTrue) (are_fetched : StepsAreFetched) (words_are_few : NewWordsAreFour) (entries : EntriesAreByPlaces) (found_law : AnswersAreFound) (still : StillAllows can_be_taken draft_rules) (t : Template) (seed nodes turns : ℕ) (keeps : KeepsLimits t.text t) (last : Shown) (tally : Tally) (comes : Comes t seed nodes turns (Done last tally))
     (ready : BodiesAreReady (can_be_taken (shown t nodes comes.first)) t.harts) where
   abbrev first : Shown
   first = shown t nodes comes.first
@@ -43,11 +42,11 @@ module _ (met_are_true : MetAreTrue) (are_fetched : StepsAreFetched) (words_are_
   abbrev w : Whole
   w = whole last.now
 
-  carried : IsCarried met_are_true are_fetched words_are_two entries found_law bar barred still t turns (all_items 0 t.harts) first
+  carried : IsCarried met_are_true are_fetched words_are_few entries found_law still t turns (all_items 0 t.harts) first
   carried = record { ready = ready; test = comes.test; template = refl }
 
   path : IsPath t (all_items 0 t.harts) first last
-  path = search_ends met_are_true are_fetched words_are_two entries found_law bar barred still t turns carried comes.searches.2 (walk_ends met_are_true are_fetched words_are_two entries found_law bar barred still t turns comes.searches.1 carried)
+  path = search_ends met_are_true are_fetched words_are_few entries found_law still t turns carried comes.searches.2 (walk_ends met_are_true are_fetched words_are_few entries found_law still t turns comes.searches.1 carried)
 
   stays : IsOfStart first last
   stays = comes_keep first turns comes.searches.2 (walks_keep first turns comes.searches.1 (own first turns))

@@ -11,7 +11,6 @@ use Rattle.gen_search.specs.Ready.{AllowsAll}
 use Rattle.gen_search.specs.Search.{IsLeaf, IsLeaf.leaf, IsLeaf.fault, Turned.Taken}
 use Rattle.gen_search.specs.Wholes.{answered, kept}
 use Rattle.leaf_turn.specs.Answers.{AreKept}
-use Rattle.gen_turn.specs.Bodies.{is_plain}
 use Rattle.gen_turn.specs.Drafts.{drafted}
 use Rattle.gen_turn.specs.Grounds.{IsGround, IsSameGround}
 use Rattle.gen_turn.specs.Rules.{Shown, can_be_taken, shown, turn_shown}
@@ -57,7 +56,7 @@ module _ (t : Template) (nodes : ℕ) where
       ∙ own
 
   -- what could be taken still can
-  pub ground_stays : (old new : Whole) → IsSameGround (is_plain t) old new → (k : ℕ) → IsGround (drafted t nodes old) k → IsGround (drafted t nodes new) k
+  pub ground_stays : (old new : Whole) → IsSameGround old new → (k : ℕ) → IsGround (drafted t nodes old) k → IsGround (drafted t nodes new) k
   ground_stays old new same k g = record {
     hart = subst (λ (n : ℕ). k < n) (sym same.harts) g.hart;
     few = g.few;
@@ -66,12 +65,12 @@ module _ (t : Template) (nodes : ℕ) where
     frames = g.frames;
     forms = g.forms;
     vectors = g.vectors;
-    untranslated = λ plain. same.satp plain k ∙ g.untranslated plain;
+    apart = g.apart;
     test = same.test g.test;
     words = same.words k g.words;
   }
 
-  pub still_allowed : (old new : Test) → IsSameGround (is_plain t) (whole_of old) (whole_of new) → AllowsAll can_be_taken (shown t nodes old) (shown t nodes new)
+  pub still_allowed : (old new : Test) → IsSameGround (whole_of old) (whole_of new) → AllowsAll can_be_taken (shown t nodes old) (shown t nodes new)
   still_allowed old new same k (items.Leaf line ws) can = (ground_stays (whole_of old) (whole_of new) same k can.0, can.1)
   still_allowed old new same k (items.FetchFault line causes) can = ground_stays (whole_of old) (whole_of new) same k can
   still_allowed old new same k (items.Label name) can = (ground_stays (whole_of old) (whole_of new) same k can.0, can.1)

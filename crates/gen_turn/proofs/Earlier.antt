@@ -22,13 +22,12 @@ use Rattle.leaf_link.specs.Answers.{values_in}
 use Rattle.leaf_link.specs.FetchAnswers.{IsFetchAnswer}
 use Rattle.leaf_link.specs.Fetches.{fetch_places}
 use Rattle.leaf_link.specs.FetchPlacing.{FetchWordsAreTwo, root_word}
-use Rattle.leaf_link.specs.Placing.{AreTwoWords, NewWordsAreTwo}
+use Rattle.leaf_link.specs.Placing.{AreTwoWords, NewWordsAreFour}
 use Rattle.leaf_link.specs.Turns.{Turn}
 use Rattle.turn_laws.specs.Laws.{IsBeside, IsStartOn}
 use Rattle.turn_laws.proofs.Places.{beside}
 use Rattle.turn_laws.proofs.Starts.{others_stay, start_then, starts_grow}
 use Rattle.leaf_turn.specs.Answers.{ArePlaced}
-use Rattle.leaf_turn.specs.Built.{LeavesBarSatp, LeavesWithoutDataBarIt}
 use Rattle.leaf_turn.specs.Finding.{AnswersAreFound}
 use Rattle.leaf_turn.specs.Grounds.{declared_set}
 use Rattle.leaf_turn.specs.Wishes.{mandatory_of}
@@ -84,7 +83,7 @@ module _ (sets : ℕ → List ℕ) (k : ℕ) (ws : List Wish) (new : Known) (old
   listed_old : AreListedBehind k mid after.dropped → AreListedBehind k old after.dropped
   listed_old listed = subst (λ (rs : List Record). ListedAt rs old.dropped) records_mid (subst (ListedAt (records_of k mid)) beside_mid.dropped listed)
 
-  module _ (few : words_in es ≤ 2) (fresh : length after.words ≤ length mid.words + 2) where
+  module _ (few : words_in es ≤ 2) (fresh : length after.words ≤ length mid.words + 4) where
     step_behind : IsStepDone sets k ws mid after → IsStepDone sets k ws old after
     step_behind done = record {
       record_is = done.record_is;
@@ -127,7 +126,7 @@ module _ (sets : ℕ → List ℕ) (k : ℕ) (ws : List Wish) (new : Known) (old
 
 -- ---- a turn of a `do` leaf
 
-module _ (met_are_true : MetAreTrue) (are_fetched : StepsAreFetched) (words_are_two : NewWordsAreTwo) (entries_are_two : FetchWordsAreTwo) (found_law : AnswersAreFound) (bar : LeavesWithoutDataBarIt) (barred : LeavesBarSatp)
+module _ (met_are_true : MetAreTrue) (are_fetched : StepsAreFetched) (words_are_few : NewWordsAreFour) (entries_are_two : FetchWordsAreTwo) (found_law : AnswersAreFound)
     (d : Drafted) (k : ℕ) (ws : List Wish) (g : IsGround d k) (built : IsBuilt d.template k ws) (draws : List ℕ) (e : Drafted) where
   pub turn_done : IsDone d k ws draws (Taken e) → IsLeafDone (λ n. declared_set (slice_get d.template.names n)) k ws d.now e.now
   turn_done done = go done.fetch done.is done.goes_on
@@ -141,9 +140,9 @@ module _ (met_are_true : MetAreTrue) (are_fetched : StepsAreFetched) (words_are_
           two_words k (root_word t) two.other a.placed.places d.now g.test g.hart (aligned_word (root_address (fetch_view t.fixed) t.fixed.pc)) two.aligned a.placed.can (λ n v h. two.either n v (sym (a.placed.listed (Word n)) ∙ h)) in
           let mid : Drafted = at_test d a.fetched in
           let ground : IsGround mid k = fetched_ground d k new a.fetched g a.placed a.test a.words in
-          let turn = answer_made found_law bar barred mid k ground ws built draws e a.answered in
+          let turn = answer_made found_law mid k ground ws built draws e a.answered in
           leaf_behind (λ n. declared_set (slice_get d.template.names n)) k ws new d.now a.fetched e.now a.placed g.test g.hart a.test few
-          (few_new met_are_true are_fetched words_are_two mid k ws ground built draws e.now turn)
-          (leaf_done met_are_true are_fetched words_are_two mid k ws ground built draws e.now turn)
+          (few_new met_are_true are_fetched words_are_few mid k ws ground built draws e.now turn)
+          (leaf_done met_are_true are_fetched words_are_few mid k ws ground built draws e.now turn)
       go answers.NoneFits is none = absurd (cc none)
       go answers.Spent is none = absurd (cc none)

@@ -1,5 +1,5 @@
 -- What is found for a `fault` leaf can be taken.
-use Rattle.std.proofs.Common.{ℕ, Bool, true, List, []}
+use Rattle.std.proofs.Common.{ℕ, true, List, []}
 use Rattle.dom_set.specs.Elements.{is_in}
 use Rattle.fd_prob.specs.declared.problem.Assignment.{Assignment}
 use Rattle.fd_solve.specs.declared.answers.Solved.TheVariants as answers
@@ -16,6 +16,6 @@ use Rattle.gen_turn.specs.Grounds.{IsGround}
 use Rattle.gen_turn.specs.Touches.{touches_from}
 use Rattle.gen_turn.proofs.Touching.{touches_are_footprints}
 
-pub playable : FaultsArePlayable → (d : Drafted) (k : ℕ) (g : IsGround d k) (causes draws : List ℕ) (x : Assignment) (keeps : Bool) → IsFaultAnswer (turn_of d [] k) (is_in causes) draws d.nodes (answers.Found x) → IsPlayable keeps k d.now (fetches.Fails (root_at k d.now)) (values_in x)
-playable law d k g causes draws x keeps answer =
-    law keeps k d.now (setting_of d.template (all_tests (turn_with d (λ v. true) k) [] vars.A)) (touches_from 0 d.now.traces) (is_in causes) draws d.nodes x g.vectors (touches_are_footprints d.now.traces) g.words.aligned answer
+pub playable : FaultsArePlayable → (d : Drafted) (k : ℕ) (g : IsGround d k) (causes draws : List ℕ) (x : Assignment) → IsFaultAnswer (turn_of d [] k) (is_in causes) draws d.nodes (answers.Found x) → IsPlayable k d.now (fetches.Fails (root_at k d.now)) (values_in x)
+playable law d k g causes draws x answer =
+    law k d.now (setting_of d.template (all_tests (turn_with d (λ v. true) k) [] vars.A)) (touches_from 0 d.now.traces) (is_in causes) draws d.nodes x g.vectors (touches_are_footprints d.now.traces) g.words.aligned answer

@@ -36,7 +36,7 @@ pub record IsFaultDone (sets : ℕ → List ℕ) (k : ℕ) (causes : List ℕ) (
   pub step : IsStepDone sets k [] old after
   pub fails : (is_unfetched step.record_is.outcome && is_in causes (outcome_in step.record_is.outcome)) ≡ true
 
-module _ (are_unfetched : FaultsAreUnfetched) (words_are_two : FaultWordsAreTwo) (d : Drafted) (k : ℕ) (g : IsGround d k) (causes draws : List ℕ) where
+module _ (are_unfetched : FaultsAreUnfetched) (words_are_few : FaultWordsAreTwo) (d : Drafted) (k : ℕ) (g : IsGround d k) (causes draws : List ℕ) where
   module _ (x : Assignment) (answer : IsFaultAnswer (turn_of d [] k) (is_in causes) draws d.nodes (answers.Found x)) (after : Whole) (l : IsLeafTaken k [] [] (values_in x) d.now after) where
     abbrev t : Turn
     t = turn_of d [] k
@@ -53,10 +53,11 @@ module _ (are_unfetched : FaultsAreUnfetched) (words_are_two : FaultWordsAreTwo)
         ∙ and_from _ _ (are_unfetched t (is_in causes) (new_at k d.now (values_in x)) answer.1.is) answer.1.is.meets.cause
 
     -- the root entry and the second one alone are new words
-    few_words : words_in l.taken.places.places ≤ 2
+    few_words : words_in l.taken.places.places ≤ 4
     few_words =
-        let two : AreTwoWords (new_at k d.now (values_in x)) (root_word t) = words_are_two t (is_in causes) (new_at k d.now (values_in x)) answer.1.is in
-        two_words k (root_word t) two.other l.taken.places.places d.now g.test g.hart (aligned_word (root_address (fetch_view t.fixed) t.fixed.pc)) two.aligned l.taken.places.can (λ a u h. two.either a u (sym (l.taken.places.listed (Word a)) ∙ h))
+        let two : AreTwoWords (new_at k d.now (values_in x)) (root_word t) = words_are_few t (is_in causes) (new_at k d.now (values_in x)) answer.1.is in
+        let both = two_words k (root_word t) two.other l.taken.places.places d.now g.test g.hart (aligned_word (root_address (fetch_view t.fixed) t.fixed.pc)) two.aligned l.taken.places.can (λ a u h. two.either a u (sym (l.taken.places.listed (Word a)) ∙ h)) in
+        omega (arith, both)
 
     nothing_listed : AreListedBehind k d.now after.dropped
     nothing_listed harts few small = (

@@ -102,7 +102,7 @@ module _ (t : Template) (keeps : KeepsLimits t.text t) where
     pub listed : AreDroppedTo (length t.harts) 0 w.dropped (place_of_step k (length (records_of k w)))
     pub few : length w.dropped ≤ total w.traces * file_limits.atoms
     pub many : length w.names ≡ length t.names
-    pub words : length w.words ≤ length t.words + total w.traces * 4
+    pub words : length w.words ≤ length t.words + total w.traces * 6
 
   fit_chosen : (k : ℕ) (w v : Whole) → IsChosen w v → IsFit k w → IsFit k v
   fit_chosen k w v is fit = record {
@@ -111,7 +111,7 @@ module _ (t : Template) (keeps : KeepsLimits t.text t) where
     names = λ n u h. fit.names n u (ap (λ (x : Whole). slice_index_or x.names n None) (sym is.1) ∙ h);
     listed = subst (λ (x : Whole). AreDroppedTo (length t.harts) 0 x.dropped (place_of_step k (length (records_of k x)))) (sym is.1) fit.listed;
     few = subst (λ (x : Whole). length x.dropped ≤ total x.traces * file_limits.atoms) (sym is.1) fit.few;
-    words = subst (λ (x : Whole). length x.words ≤ length t.words + total x.traces * 4) (sym is.1) fit.words;
+    words = subst (λ (x : Whole). length x.words ≤ length t.words + total x.traces * 6) (sym is.1) fit.words;
     many = ap (λ (x : Whole). length x.names) is.1 ∙ fit.many;
   }
     where

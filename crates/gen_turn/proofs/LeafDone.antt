@@ -34,7 +34,7 @@ use Rattle.leaf_link.specs.Answers.{values_in}
 use Rattle.leaf_link.specs.Candidates.{IsCandidate, accesses_in, all_met, is_met, is_named, moment_of, registers_from}
 use Rattle.leaf_link.specs.Extras.{IsTurnLeafAnswer}
 use Rattle.leaf_link.specs.Firsts.{IsTurnAnswer}
-use Rattle.leaf_link.specs.Placing.{AreTwoWords, NewWordsAreTwo}
+use Rattle.leaf_link.specs.Placing.{AreFourWords, NewWordsAreFour}
 use Rattle.leaf_link.specs.Turns.{Turn}
 use Rattle.leaf_link.specs.Values.{Values}
 use Rattle.leaf_link.specs.Ways.{IsFetched}
@@ -43,12 +43,10 @@ use Rattle.turn_laws.specs.Laws.{IsStartOn}
 use Rattle.turn_laws.proofs.Places.{known}
 use Rattle.turn_laws.proofs.Starts.{start_then}
 use Rattle.leaf_turn.specs.Answers.{IsFound, new_at}
-use Rattle.leaf_turn.specs.Built.{LeavesBarSatp, LeavesWithoutDataBarIt}
 use Rattle.leaf_turn.specs.Finding.{AnswersAreFound}
 use Rattle.leaf_turn.specs.Grounds.{declared_set}
 use Rattle.leaf_turn.specs.Wishes.{biases_of, mandatory_of, retires}
 use Rattle.gen_search.specs.Search.{Turned.Taken}
-use Rattle.gen_turn.specs.Bodies.{is_plain}
 use Rattle.gen_turn.specs.Drafts.{Drafted, at_test, turn_of}
 use Rattle.gen_turn.specs.Grounds.{IsBuilt, IsGround}
 use Rattle.gen_turn.specs.Turns.{EndsAs, IsAnswered, IsLeafTaken, is_listed, listed_as, moment_at, names_bound, next_bias}
@@ -61,7 +59,7 @@ use Rattle.gen_turn.proofs.SmallValues.{value_small}
 use Rattle.gen_turn.proofs.Settling.{found}
 use Rattle.gen_turn.proofs.StepDone.{AreListedBehind, IsStepDone, same_taken}
 use Rattle.gen_turn.proofs.StepDone as steps
-use Rattle.gen_turn.proofs.WordCounts.{two_words, words_in}
+use Rattle.gen_turn.proofs.WordCounts.{four_words, words_in}
 
 -- ---- what the end knows of a test before it
 
@@ -140,11 +138,11 @@ module _ (d : Drafted) (k : ℕ) (ws : List Wish) (draws : List ℕ) where
     pub is : IsTurnLeafAnswer (turn_of d (mandatory_of ws) k) pa (mandatory_of ws) (biases_of ws) draws d.nodes answer
     pub values : Assignment
     pub found : answer.solved ≡ answers.Found values
-    pub found_is : IsFound (is_plain d.template) k d.now pa (values_in values)
+    pub found_is : IsFound k d.now pa (values_in values)
     pub taken : IsLeafTaken k ws answer.dropped (values_in values) d.now after
 
-pub answer_made : AnswersAreFound → LeavesWithoutDataBarIt → LeavesBarSatp → (d : Drafted) (k : ℕ) (g : IsGround d k) (ws : List Wish) (built : IsBuilt d.template k ws) (draws : List ℕ) (e : Drafted) → IsAnswered d k ws draws (Taken e) → IsTurn d k ws draws e.now
-answer_made found_law bar barred d k g ws built draws e a = go a.answer.solved refl a.ends
+pub answer_made : AnswersAreFound → (d : Drafted) (k : ℕ) (g : IsGround d k) (ws : List Wish) (built : IsBuilt d.template k ws) (draws : List ℕ) (e : Drafted) → IsAnswered d k ws draws (Taken e) → IsTurn d k ws draws e.now
+answer_made found_law d k g ws built draws e a = go a.answer.solved refl a.ends
   where
     go : (s : Solved) → a.answer.solved ≡ s → EndsAs d k ws a.answer.dropped s (Taken e) → IsTurn d k ws draws e.now
     go (answers.Found x) is ends = record {
@@ -155,7 +153,7 @@ answer_made found_law bar barred d k g ws built draws e a = go a.answer.solved r
       is = a.is;
       values = x;
       found = is;
-      found_is = found d k g ws built found_law bar barred draws (Taken e) a x is;
+      found_is = found d k g ws built found_law draws (Taken e) a x is;
       taken = subst (IsLeafTaken k ws a.answer.dropped (values_in x) d.now) (sym (ap (λ (f : Drafted). f.now) (same_taken e (at_test d ends.0) ends.2))) ends.1;
     }
     go answers.NoneFits is ends = absurd (cc ends)
@@ -163,7 +161,7 @@ answer_made found_law bar barred d k g ws built draws e a = go a.answer.solved r
 
 -- ---- what it did
 
-module _ (met_are_true : MetAreTrue) (are_fetched : StepsAreFetched) (words_are_two : NewWordsAreTwo) (d : Drafted) (k : ℕ) (ws : List Wish) (ground : IsGround d k) (built : IsBuilt d.template k ws) (draws : List ℕ) (after : Whole)
+module _ (met_are_true : MetAreTrue) (are_fetched : StepsAreFetched) (words_are_few : NewWordsAreFour) (d : Drafted) (k : ℕ) (ws : List Wish) (ground : IsGround d k) (built : IsBuilt d.template k ws) (draws : List ℕ) (after : Whole)
     (turn : IsTurn d k ws draws after) where
   abbrev old : Whole
   old = d.now
@@ -220,18 +218,18 @@ module _ (met_are_true : MetAreTrue) (are_fetched : StepsAreFetched) (words_are_
     listed_between harts k (length (records_of k old)) ws few small built.short t pa draws d.nodes (mandatory_of ws) (record { atoms = turn.is.0; dropped = turn.answer.dropped }) turn.is.1,
   )
 
-  -- the fetched word and that of the data access alone are new
+  -- the fetched word, two entries and that of the data access alone are new
 
-  few_words : words_in es ≤ 2
-  few_words = two_words k pa two.other es old ground.test ground.hart aligned two.aligned l.taken.places.can (λ a u h. two.either a u (sym (l.taken.places.listed (Word a)) ∙ h))
+  few_words : words_in es ≤ 4
+  few_words = four_words k pa (new_at k old x) es old ground.test ground.hart aligned four l.taken.places.can (λ a u h. sym (l.taken.places.listed (Word a)) ∙ h)
     where
       aligned : turn.pa % 4 ≡ 0
       aligned = offset_kept _ _ _ _ _ turn.found_is.walk turn.pa turn.found_is.fetched.translates ∙ turn.found_is.fetched.aligned
 
-      two : AreTwoWords (new_at k old x) turn.pa
-      two = words_are_two (turn_at turn.found_is.setting turn.found_is.feet k old) turn.found_is.walk turn.pa turn.found_is.leaf (new_at k old x) turn.found_is.fetched turn.found_is.candidate turn.found_is.plain
+      four : AreFourWords (new_at k old x) turn.pa
+      four = words_are_few (turn_at turn.found_is.setting turn.found_is.feet k old) turn.found_is.walk turn.pa turn.found_is.leaf (new_at k old x) turn.found_is.fetched turn.found_is.candidate
 
-  pub few_new : length after.words ≤ length old.words + 2
+  pub few_new : length after.words ≤ length old.words + 4
   few_new = steps.words_after k ws turn.answer.dropped x old after ground.test ground.hart ground.words l few_words
 
   -- the candidate

@@ -1,5 +1,5 @@
 -- The path of a walk that is finished: the pieces that it went through, and the tests between them.
-use Rattle.std.proofs.Common.{◌≡◌, ℕ, zero, suc, ◌+◌, ◌<◌, true, List, [], ◌∷◌, ◌++◌, append_assoc, append-nil, drop, take, length, Some, refl, sym, ap, ◌∙◌, subst, arith}
+use Rattle.std.proofs.Common.{◌≡◌, ℕ, zero, suc, ◌+◌, ◌<◌, List, [], ◌∷◌, ◌++◌, append_assoc, append-nil, drop, take, length, Some, refl, sym, ap, ◌∙◌, subst, arith}
 use Rattle.std.specs.Prelude.{Vec}
 use Rattle.std.specs.Global.{Global}
 use Rattle.std.specs.List.{slice_get}
@@ -15,8 +15,7 @@ use Rattle.part_state.specs.State.{data_of, whole}
 use Rattle.part_state.proofs.States.{whole_again}
 use Rattle.leaf_link.specs.Admitted.{MetAreTrue, StepsAreFetched}
 use Rattle.leaf_link.specs.FetchPlacing.{FaultWordsAreTwo, FaultsAreUnfetched, FetchWordsAreTwo}
-use Rattle.leaf_link.specs.Placing.{NewWordsAreTwo}
-use Rattle.leaf_turn.specs.Built.{LeavesBarSatp, LeavesWithoutDataBarIt}
+use Rattle.leaf_link.specs.Placing.{NewWordsAreFour}
 use Rattle.leaf_turn.specs.Finding.{AnswersAreFound}
 use Rattle.leaf_turn.specs.Grounds.{declared_set}
 use Rattle.gen_search.specs.declared.draws.Tally.{Tally}
@@ -136,9 +135,9 @@ pub record EntriesAreByPlaces : Type 0 where
   pub fault_words : FaultWordsAreTwo
   pub unfetched : FaultsAreUnfetched
 
-module _ (met_are_true : MetAreTrue) (are_fetched : StepsAreFetched) (words_are_two : NewWordsAreTwo) (entries : EntriesAreByPlaces) (found_law : AnswersAreFound) (bar : LeavesWithoutDataBarIt) (barred : LeavesBarSatp) (still : StillAllows can_be_taken draft_rules) (t : Template) (turns : ℕ) where
+module _ (met_are_true : MetAreTrue) (are_fetched : StepsAreFetched) (words_are_few : NewWordsAreFour) (entries : EntriesAreByPlaces) (found_law : AnswersAreFound) (still : StillAllows can_be_taken draft_rules) (t : Template) (turns : ℕ) where
   done_by : (s : Shown) (k : ℕ) (ws : Vec Wish Global) (can : IsGround (draft_of s) k × IsBuilt s.template k ws.items) (e : Drafted) (draws : List ℕ) → IsDone (draft_of s) k ws.items draws (Taken e) → IsLeafDone (sets_of s.template) k ws.items (whole s.now) e.now
-  done_by s k ws can e draws is = turn_done met_are_true are_fetched words_are_two entries.fetch_words found_law bar barred (draft_of s) k ws.items can.0 can.1 draws e is
+  done_by s k ws can e draws is = turn_done met_are_true are_fetched words_are_few entries.fetch_words found_law (draft_of s) k ws.items can.0 can.1 draws e is
 
   -- behind a turn that is taken is the test that it made
   taken_is : (next : Shown) (e : Drafted) → Taken next ≡ turn_shown (Taken e) → IsTest e.now → whole next.now ≡ e.now
@@ -187,7 +186,7 @@ module _ (met_are_true : MetAreTrue) (are_fetched : StepsAreFetched) (words_are_
   label_path : (k name : ℕ) (todo : List (ℕ × Item)) (s last : Shown) → can_be_taken s k (items.Label name) → IsPath t todo (draft_rules.label k name s) last → IsPath t ((k, items.Label name) ∷ todo) s last
   label_path k name todo s last can p =
       let now_is : whole (data_of (labelled k name (whole s.now))) ≡ labelled k name (whole s.now) =
-      whole_again (labelled k name (whole s.now)) ((named_ground true _ (whole s.now) (many_with_name name (Some (hart_of k (whole s.now)).pc) s.now.names)).test can.0.test) in
+      whole_again (labelled k name (whole s.now)) ((named_ground _ (whole s.now) (many_with_name name (Some (hart_of k (whole s.now)).pc) s.now.names)).test can.0.test) in
       record {
         choices = p.choices;
         ps = (k, pieces.Label name) ∷ p.ps;
@@ -202,7 +201,7 @@ module _ (met_are_true : MetAreTrue) (are_fetched : StepsAreFetched) (words_are_
   choice_path : (k line : ℕ) (ways : Vec (ℕ × Vec Item Global) Global) (todo : List (ℕ × Item)) (s last : Shown) (x : ℕ × Vec Item Global) → IsTest (whole s.now)
       → IsWay ways.items x → IsPath t (of_hart k x.1.items ++ todo) (draft_rules.way x.0 s) last → IsPath t ((k, views.Choose line ways) ∷ todo) s last
   choice_path k line ways todo s last x test way p =
-      let now_is : whole (data_of (chosen x.0 (whole s.now))) ≡ chosen x.0 (whole s.now) = whole_again (chosen x.0 (whole s.now)) ((chosen_ground true x.0 (whole s.now)).test test) in
+      let now_is : whole (data_of (chosen x.0 (whole s.now))) ≡ chosen x.0 (whole s.now) = whole_again (chosen x.0 (whole s.now)) ((chosen_ground x.0 (whole s.now)).test test) in
       record {
         choices = x.0 ∷ p.choices;
         ps = p.ps;
@@ -250,7 +249,7 @@ module _ (met_are_true : MetAreTrue) (are_fetched : StepsAreFetched) (words_are_
   label_carried : (k name : ℕ) (todo : List (ℕ × Item)) (s : Shown) → IsCarried ((k, items.Label name) ∷ todo) s → IsCarried todo (draft_rules.label k name s)
   label_carried k name todo s c =
       let can : can_be_taken s k (items.Label name) = first_label (can_be_taken s) k name todo c.ready in
-      let new : IsTest (labelled k name (whole s.now)) = (named_ground true _ (whole s.now) (many_with_name name (Some (hart_of k (whole s.now)).pc) s.now.names)).test c.test in
+      let new : IsTest (labelled k name (whole s.now)) = (named_ground _ (whole s.now) (many_with_name name (Some (hart_of k (whole s.now)).pc) s.now.names)).test c.test in
       record {
         ready = ready_still Shown can_be_taken s (draft_rules.label k name s) (still.label k name s can) todo c.ready.1;
         test = subst IsTest (sym (whole_again (labelled k name (whole s.now)) new)) new;
@@ -259,7 +258,7 @@ module _ (met_are_true : MetAreTrue) (are_fetched : StepsAreFetched) (words_are_
 
   way_carried : (k n : ℕ) (body : Vec Item Global) (todo : List (ℕ × Item)) (s : Shown) → AreAllowed (can_be_taken s) k (parts_of_body body.items) → IsCarried todo s → IsCarried (of_hart k body.items ++ todo) (draft_rules.way n s)
   way_carried k n body todo s allowed c =
-      let new : IsTest (chosen n (whole s.now)) = (chosen_ground true n (whole s.now)).test c.test in
+      let new : IsTest (chosen n (whole s.now)) = (chosen_ground n (whole s.now)).test c.test in
       record {
         ready = ready_still Shown can_be_taken s (draft_rules.way n s) (still.way n s) (of_hart k body.items ++ todo) (body_before (can_be_taken s) k body todo allowed c.ready);
         test = subst IsTest (sym (whole_again (chosen n (whole s.now)) new)) new;

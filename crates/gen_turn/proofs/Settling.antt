@@ -18,14 +18,12 @@ use Rattle.leaf_link.specs.Turns.{Turn}
 use Rattle.leaf_link.specs.Ways.{IsFetched}
 use Rattle.turn_laws.specs.Given.{Setting}
 use Rattle.leaf_turn.specs.Answers.{IsFound}
-use Rattle.leaf_turn.specs.Built.{LeavesBarSatp, LeavesWithoutDataBarIt}
 use Rattle.leaf_turn.specs.Finding.{AnswersAreFound}
 use Rattle.leaf_turn.specs.Grounds.{IsSettingOf}
 use Rattle.leaf_turn.specs.Wishes.{biases_of, mandatory_of}
 use Rattle.leaf_turn.proofs.Plainness.{each_plain, plain_biases, plain_mandatory}
-use Rattle.leaf_turn.proofs.Wholly.{found_by, plain_data}
+use Rattle.leaf_turn.proofs.Wholly.{found_by}
 use Rattle.gen_search.specs.Search.{Turned}
-use Rattle.gen_turn.specs.Bodies.{is_plain}
 use Rattle.gen_turn.specs.Drafts.{Drafted, setting_of, turn_of, turn_with}
 use Rattle.gen_turn.specs.Grounds.{IsBuilt, IsGround}
 use Rattle.gen_turn.specs.Touches.{touches_from}
@@ -74,8 +72,5 @@ module _ (d : Drafted) (k : ℕ) (g : IsGround d k) (ws : List Wish) (built : Is
   footprint : IsFootprint feet (footprints_of (λ j. records_of j d.now))
   footprint = touches_are_footprints d.now.traces
 
-  pub found : AnswersAreFound → LeavesWithoutDataBarIt → LeavesBarSatp → (draws : List ℕ) (r : Turned Drafted) (a : IsAnswered d k ws draws r) (x : Assignment) → a.answer.solved ≡ answers.Found x → IsFound (is_plain d.template) k d.now a.pa (values_in x)
-  found law bar barred draws r a x =
-      found_by (is_plain d.template) k d.now setting feet a.walk a.pa ws draws d.nodes a.answer x law built.plain g.vectors footprint (posed a.walk a.pa a.leads)
-      (plain_data k d.now setting feet ws bar (λ lets. ((built.loads lets).1, g.untranslated (built.loads lets).0)))
-      (λ plain. barred ws (built.satp plain) turn) a.is
+  pub found : AnswersAreFound → (draws : List ℕ) (r : Turned Drafted) (a : IsAnswered d k ws draws r) (x : Assignment) → a.answer.solved ≡ answers.Found x → IsFound k d.now a.pa (values_in x)
+  found law draws r a x = found_by k d.now setting feet a.walk a.pa ws draws d.nodes a.answer x law built.plain g.vectors footprint (posed a.walk a.pa a.leads) a.is

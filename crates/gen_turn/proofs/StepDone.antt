@@ -68,7 +68,7 @@ pub record IsStepDone (sets : ℕ → List ℕ) (k : ℕ) (ws : List Wish) (old 
   pub values : (n v : ℕ) → slice_index_or after.names n None ≡ Some v → (slice_index_or old.names n None ≡ Some v) ⊎ ((v < 2 ^ 32) × (is_in (sets n) v ≡ true))
   pub listed : (test : Dropped → Bool) → list_any test old.dropped ≡ true → list_any test after.dropped ≡ true
   pub dropped : AreListedBehind k old after.dropped
-  pub words : length after.words ≤ length old.words + 4
+  pub words : length after.words ≤ length old.words + 6
   pub start : IsStartOn (partial_of old) (partial_of after)
   -- admission follows the registers
   pub filled : (end : Partial) (regs : List (Option ℕ)) → IsStartOn (partial_of after) end → IsFilled (partial_of old) k (end.start k).places regs → IsFilled (partial_of after) k (end.start k).places (written record_is.rd regs)
@@ -185,7 +185,7 @@ module _ (k : ℕ) (ws : List Wish) (dropped : List (ℕ × Bool)) (x : Values) 
       ∙ ap (λ (r : Record). slice_set given.traces k (records_of k given ++ r ∷ [])) (sym record_given)
       ∙ ap (λ (ts : List (List Record)). slice_set ts k (slice_index_or ts k [] ++ l.done ∷ [])) beside_given.traces
 
-  pub words_after : words_in es ≤ 2 → length after.words ≤ length old.words + 2
+  pub words_after : words_in es ≤ 4 → length after.words ≤ length old.words + 4
   words_after few =
       let all : length after.words ≡ length old.words + words_in es =
       ap (λ (w : Whole). length w.words) l.is ∙ ap (λ (w : Whole). length w.words) l.taken.now ∙ ap (λ (w : Whole). length w.words) l.taken.places.is ∙ words_given k es old in
@@ -225,7 +225,7 @@ module _ (k : ℕ) (ws : List Wish) (dropped : List (ℕ × Bool)) (x : Values) 
       (step_filled k (accesses_in log) change (partial_of given) (end.start k).places regs sound (filled_given end regs (start_then (partial_of given) (partial_of after) end start_step on) filled)))
 
   -- two words at most are new behind those of its fetch, the names that are bound have values of their sets, and the biases that are listed are of this step
-  pub step_done : (sets : ℕ → List ℕ) → words_in es ≤ 2 → ((n v : ℕ) → slice_index_or after.names n None ≡ Some v → (slice_index_or old.names n None ≡ Some v) ⊎ ((v < 2 ^ 32) × (is_in (sets n) v ≡ true)))
+  pub step_done : (sets : ℕ → List ℕ) → words_in es ≤ 4 → ((n v : ℕ) → slice_index_or after.names n None ≡ Some v → (slice_index_or old.names n None ≡ Some v) ⊎ ((v < 2 ^ 32) × (is_in (sets n) v ≡ true)))
       → AreListedBehind k old after.dropped → IsStepDone sets k ws old after
   step_done sets few values dropped_to = record {
     record_is = l.done;
@@ -250,7 +250,7 @@ module _ (k : ℕ) (ws : List Wish) (dropped : List (ℕ × Bool)) (x : Values) 
     filled = filled_after;
   }
 
-  pub record_done : (sets : ℕ → List ℕ) (few : words_in es ≤ 2) (values : (n v : ℕ) → slice_index_or after.names n None ≡ Some v → (slice_index_or old.names n None ≡ Some v) ⊎ ((v < 2 ^ 32) × (is_in (sets n) v ≡ true)))
+  pub record_done : (sets : ℕ → List ℕ) (few : words_in es ≤ 4) (values : (n v : ℕ) → slice_index_or after.names n None ≡ Some v → (slice_index_or old.names n None ≡ Some v) ⊎ ((v < 2 ^ 32) × (is_in (sets n) v ≡ true)))
       (dropped_to : AreListedBehind k old after.dropped) → (step_done sets few values dropped_to).record_is ≡ l.done
   unfolding step_done
   record_done sets few values dropped_to = refl

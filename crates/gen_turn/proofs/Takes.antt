@@ -63,11 +63,10 @@ module _ (k : ℕ) (ws : List Wish) (dropped : List (ℕ × Bool)) (old stepped 
   pub same_after : after ≡ with_all_dropped (map (listed_as k step ws) dropped) (with_names (names_bound (λ v. value_of v m) dropped 0 ws stepped.names) stepped)
   same_after = lists ∙ ap (with_all_dropped (map (listed_as k step ws) dropped)) names
 
-  pub same_ground : (keeps : Bool) → IsStill keeps k old stepped → ((j : ℕ) → j ≢ k → hart_of j stepped ≡ hart_of j old) → IsTest after → IsOfWords k after → IsSameGround keeps old after
-  same_ground keeps still others test words = record {
+  pub same_ground : IsStill old stepped → ((j : ℕ) → j ≢ k → hart_of j stepped ≡ hart_of j old) → IsTest after → IsOfWords k after → IsSameGround old after
+  same_ground still others test words = record {
     harts = ap (λ (w : Whole). length w.harts) same_after ∙ still.harts;
     names = ap (λ (w : Whole). length w.names) same_after ∙ many_bound (λ v. value_of v m) dropped 0 ws stepped.names ∙ ap length still.names;
-    satp = λ asked j. ap (λ (w : Whole). (hart_of j w).csrs.satp) same_after ∙ still.satp j (λ own. asked);
     test = λ before. test;
     words = all_words k old after (λ j other. ap (λ (w : Whole). hart_of j w) same_after ∙ others j other) words;
   }

@@ -24,7 +24,6 @@ use Rattle.leaf_turn.specs.Grounds.{IsSettingOf}
 use Rattle.leaf_turn.specs.Wishes.{biases_of, mandatory_of}
 use Rattle.leaf_turn.proofs.Grounding.{tests_apart}
 use Rattle.gen_search.specs.Search.{Turned, Turned.NoneFits, Turned.Spent}
-use Rattle.gen_turn.specs.Bodies.{is_plain}
 use Rattle.gen_turn.specs.Drafts.{Drafted, at_test, setting_of, turn_with}
 use Rattle.gen_turn.specs.Grounds.{IsGround, IsOfWords, IsSameGround}
 use Rattle.gen_turn.specs.Touches.{touches_from}
@@ -83,8 +82,8 @@ module _ (d : Drafted) (k : ℕ) (ws : List Wish) (draws : List ℕ) where
 
 -- ---- grounds
 
-pub own_ground : (keeps : Bool) (old new : Whole) → new ≡ old → IsSameGround keeps old new
-own_ground keeps old new is = subst (IsSameGround keeps old) (sym is) (record { harts = refl; names = refl; satp = λ asked j. refl; test = λ t. t; words = λ j o. o })
+pub own_ground : (old new : Whole) → new ≡ old → IsSameGround old new
+own_ground old new is = subst (IsSameGround old) (sym is) (record { harts = refl; names = refl; test = λ t. t; words = λ j o. o })
 
 module _ (d : Drafted) (k : ℕ) (draws : List ℕ) (mid : Whole) (pa : ℕ) (e : IsEnteredAs d.template k draws d.nodes d.now mid (entered.At pa)) where
   pub entered_harts : k < length d.now.harts → k < length mid.harts
@@ -95,8 +94,8 @@ module _ (d : Drafted) (k : ℕ) (draws : List ℕ) (mid : Whole) (pa : ℕ) (e 
   pub ground_at : IsGround d k → IsTest mid → IsOfWords k mid → IsGround (at_test d mid) k
   ground_at g test words = fetched_ground d k _ mid g e.2.placed test words
 
-  pub ground_from : IsTest mid → IsOfWords k mid → (new : Whole) → IsSameGround (is_plain d.template) mid new → IsSameGround (is_plain d.template) d.now new
-  ground_from test words new same = ground_then (is_plain d.template) d.now mid new (entered_ground (is_plain d.template) k _ d.now mid e.2.placed test words) same
+  pub ground_from : IsTest mid → IsOfWords k mid → (new : Whole) → IsSameGround mid new → IsSameGround d.now new
+  ground_from test words new same = ground_then d.now mid new (entered_ground k _ d.now mid e.2.placed test words) same
 
 -- ---- a `fault` leaf
 

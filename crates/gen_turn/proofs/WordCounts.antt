@@ -1,14 +1,17 @@
--- How many words a start gives: each step starts two at most, and so does its fetch.
+-- How many words a start gives: each step starts four at most, and its fetch two.
 use Rattle.std.proofs.Common.{◌≡◌, ℕ, ◌+◌, ◌*◌, ◌/◌, ◌%◌, ◌<◌, ◌≤◌, ◌⊎◌, Bool, true, false, eqb, if◌then◌else◌, List, [], ◌∷◌, ◌++◌, length, Option, Some, None, refl, sym, ap, ◌∙◌, subst, inl, inr, arith}
 use Rattle.std.specs.Option.{is_some, option_or}
-use Rattle.std.proofs.lemmas.Bool.{cases_eq, eq-eqb, eqb-true, ne_eqb}
+use Rattle.std.proofs.lemmas.Bool.{cases_Bool, cases_eq, eq-eqb, eqb-true, ne_eqb}
 use Rattle.rv_script.specs.declared.place.Place.{Place}
 use Rattle.rv_script.specs.declared.place.Place.TheVariants.{Reg, Csr, Word}
 use Rattle.rv_script.specs.Bytes.{word_address}
+use Rattle.rv_script.specs.Folds.{Known}
+use Rattle.rv_script.specs.Lists.{HasItem}
 use Rattle.rv_script.specs.Logs.{same_place}
 use Rattle.rv_script.proofs.Plays.{same_is}
 use Rattle.part_told.specs.Words.{AreListed as AreWordsListed, ListsWords}
 use Rattle.tpl_admit.specs.Starts.{found}
+use Rattle.leaf_link.specs.Placing.{AreFourWords}
 use Rattle.part_machine.specs.Whole.{Whole, given}
 use Rattle.part_state.specs.Meaning.{IsTest, place_given}
 use Rattle.turn_laws.specs.Given.{CanGive, all_given, given_to, known_at}
@@ -40,83 +43,6 @@ words_given k (e ∷ es) w = let one = words_one k e.0 e.1 w in let rest = words
 
 pub aligned_word : (addr : ℕ) → word_address addr % 4 ≡ 0
 aligned_word addr = omega arith
-
--- ---- a word that is known isn't given again
-
-none_given : (k addr v : ℕ) (es : List (Place × ℕ)) (w : Whole) → IsTest w → k < length w.harts → addr % 4 ≡ 0 → CanGive k es w → known_at k w (Word addr) ≡ Some v → ((a u : ℕ) → given_to es (Word a) ≡ Some u → a ≡ addr) → words_in es ≡ 0
-none_given k addr v [] w test l aligned can known only = refl
-none_given k addr v (e ∷ es) w test l aligned can known only =
-    let b = beside_one k e.0 e.1 w in
-    let new : IsTest (place_given k e.0 e.1 w) = test_one k e.0 e.1 w test l can.0 can.1 can.2 in
-    let more : k < length (place_given k e.0 e.1 w).harts = omega (arith, l, b.harts) in
-    let other = own e.0 refl in
-    let still : known_at k (place_given k e.0 e.1 w) (Word addr) ≡ Some v =
-    known_one k e.0 e.1 w test l can.0 can.1 can.2 (Word addr) aligned ∙ ap (λ (c : Bool). if c then Some e.1 else known_at k w (Word addr)) (apart e.0 other) ∙ known in
-    let rest = none_given k addr v es (place_given k e.0 e.1 w) new more aligned can.3 still (later e.0 other) in
-    let zero_own = no_word e.0 other in
-    omega (arith, rest, zero_own)
-  where
-    -- no place of the list is a word
-    own : (place : Place) → e.0 ≡ place → (a : ℕ) → e.0 ≡ Word a → ⊥
-    own place is a at =
-        let same : a ≡ addr = only a e.1 (ap (λ (c : Bool). if c then Some e.1 else given_to es (Word a)) (ap (λ (p : Place). same_place p (Word a)) at ∙ eq-eqb a a refl)) in
-        let none : known_at k w (Word addr) ≡ None = ap (known_at k w) (ap Word (sym same) ∙ sym at) ∙ can.0.unknown in
-        absurd (cc (sym none ∙ known))
-
-    apart : (place : Place) → ((a : ℕ) → place ≡ Word a → ⊥) → same_place place (Word addr) ≡ false
-    apart (Reg n) h = refl
-    apart (Csr n) h = refl
-    apart (Word a) h = absurd (h a refl)
-
-    no_word : (place : Place) → ((a : ℕ) → place ≡ Word a → ⊥) → word_in place ≡ 0
-    no_word (Reg n) h = refl
-    no_word (Csr n) h = refl
-    no_word (Word a) h = absurd (h a refl)
-
-    past : (place : Place) (a : ℕ) → ((a : ℕ) → place ≡ Word a → ⊥) → same_place place (Word a) ≡ false
-    past (Reg n) a h = refl
-    past (Csr n) a h = refl
-    past (Word b) a h = absurd (h b refl)
-
-    later : (place : Place) → ((a : ℕ) → place ≡ Word a → ⊥) → (a u : ℕ) → given_to es (Word a) ≡ Some u → a ≡ addr
-    later place h a u is = only a u (ap (λ (c : Bool). if c then Some e.1 else given_to es (Word a)) (past e.0 a (own e.0 refl)) ∙ is)
-
-pub one_word : (k addr : ℕ) (es : List (Place × ℕ)) (w : Whole) → IsTest w → k < length w.harts → addr % 4 ≡ 0 → CanGive k es w → ((a u : ℕ) → given_to es (Word a) ≡ Some u → a ≡ addr) → words_in es ≤ 1
-one_word k addr [] w test l aligned can only = omega arith
-one_word k addr (e ∷ es) w test l aligned can only =
-    let b = beside_one k e.0 e.1 w in
-    let new : IsTest (place_given k e.0 e.1 w) = test_one k e.0 e.1 w test l can.0 can.1 can.2 in
-    let more : k < length (place_given k e.0 e.1 w).harts = omega (arith, l, b.harts) in
-    go e.0 refl new more (one_word k addr es (place_given k e.0 e.1 w) new more aligned can.3)
-  where
-    skipped : (same : (a : ℕ) → same_place e.0 (Word a) ≡ false) (a u : ℕ) → given_to es (Word a) ≡ Some u → a ≡ addr
-    skipped same a u h = only a u (ap (λ (c : Bool). if c then Some e.1 else given_to es (Word a)) (same a) ∙ h)
-
-    others : (at : e.0 ≡ Word addr) (a u : ℕ) → given_to es (Word a) ≡ Some u → a ≡ addr
-    others at a u h = elim (cases_eq addr a) [
-      | inl same ↦ sym same
-      | inr apart ↦ only a u (ap (λ (c : Bool). if c then Some e.1 else given_to es (Word a)) (ap (λ (p : Place). same_place p (Word a)) at ∙ ne_eqb addr a apart) ∙ h)
-    ]
-
-    go : (place : Place) → e.0 ≡ place → IsTest (place_given k e.0 e.1 w) → k < length (place_given k e.0 e.1 w).harts
-        → (((a u : ℕ) → given_to es (Word a) ≡ Some u → a ≡ addr) → words_in es ≤ 1) → word_in e.0 + words_in es ≤ 1
-    go (Reg n) is new more rest =
-        let none : word_in e.0 ≡ 0 = ap word_in is in
-        let h = rest (skipped (λ a. ap (λ (p : Place). same_place p (Word a)) is)) in
-        omega (arith, none, h)
-    go (Csr n) is new more rest =
-        let none : word_in e.0 ≡ 0 = ap word_in is in
-        let h = rest (skipped (λ a. ap (λ (p : Place). same_place p (Word a)) is)) in
-        omega (arith, none, h)
-    go (Word a) is new more rest =
-        let same : a ≡ addr = only a e.1 (ap (λ (c : Bool). if c then Some e.1 else given_to es (Word a)) (ap (λ (p : Place). same_place p (Word a)) is ∙ eq-eqb a a refl)) in
-        let at : e.0 ≡ Word addr = is ∙ ap (λ (n : ℕ). Word n) same in
-        let known : known_at k (place_given k e.0 e.1 w) (Word addr) ≡ Some e.1 =
-        known_one k e.0 e.1 w test l can.0 can.1 can.2 (Word addr) aligned
-        ∙ ap (λ (c : Bool). if c then Some e.1 else known_at k w (Word addr)) (ap (λ (p : Place). same_place p (Word addr)) at ∙ eq-eqb addr addr refl) in
-        let none = none_given k addr e.1 es (place_given k e.0 e.1 w) new more aligned can.3 known (others at) in
-        let one : word_in e.0 ≡ 1 = ap word_in is in
-        omega (arith, none, one)
 
 -- ---- a certificate lists no more words than were given
 
@@ -186,7 +112,7 @@ aligned_key ram from (e ∷ es) key v are h = go (eqb e.0 key) refl h (aligned_k
     go true is h rest = subst (λ (n : ℕ). n % 4 ≡ 0) (eqb-true e.0 key is) are.1
     go false is h rest = rest h
 
--- ---- two words at most
+-- ---- some words at most
 
 -- what is known isn't given again
 not_again : (k addr v : ℕ) (es : List (Place × ℕ)) (w : Whole) → IsTest w → k < length w.harts → addr % 4 ≡ 0 → CanGive k es w → known_at k w (Word addr) ≡ Some v → (u : ℕ) → given_to es (Word addr) ≡ Some u → ⊥
@@ -205,9 +131,60 @@ not_again k addr v (e ∷ es) w test l aligned can known u h = go (same_place e.
         let still : known_at k (place_given k e.0 e.1 w) (Word addr) ≡ Some v = known_one k e.0 e.1 w test l can.0 can.1 can.2 (Word addr) aligned ∙ ap (λ (c : Bool). if c then Some e.1 else known_at k w (Word addr)) same ∙ known in
         rest still (sym (ap (λ (c : Bool). if c then Some e.1 else given_to es (Word addr)) same) ∙ h)
 
-pub two_words : (k one two : ℕ) (es : List (Place × ℕ)) (w : Whole) → IsTest w → k < length w.harts → one % 4 ≡ 0 → two % 4 ≡ 0 → CanGive k es w → ((a u : ℕ) → given_to es (Word a) ≡ Some u → (a ≡ one) ⊎ (a ≡ two)) → words_in es ≤ 2
-two_words k one two [] w test l first second can only = omega arith
-two_words k one two (e ∷ es) w test l first second can only = go e.0 refl (two_words k one two es (place_given k e.0 e.1 w) new more first second can.3)
+-- the addresses without one
+abbrev but : ℕ → List ℕ → List ℕ
+but addr [] = []
+but addr (a ∷ addrs) = if eqb addr a then but addr addrs else a ∷ but addr addrs
+
+no_more_but : (addr : ℕ) (addrs : List ℕ) → length (but addr addrs) ≤ length addrs
+no_more_but addr [] = omega arith
+no_more_but addr (a ∷ addrs) = go (eqb addr a) (no_more_but addr addrs)
+  where
+    go : (b : Bool) → length (but addr addrs) ≤ length addrs → length (if b then but addr addrs else a ∷ but addr addrs) ≤ length (a ∷ addrs)
+    go true h = omega (arith, h)
+    go false h = omega (arith, h)
+
+one_but : (addr : ℕ) (addrs : List ℕ) → HasItem addrs addr → length (but addr addrs) < length addrs
+one_but addr [] i = absurd i
+one_but addr (a ∷ addrs) i = elim (cases_Bool (eqb addr a)) [
+  | inl same ↦ let rest = no_more_but addr addrs in let e : length (but addr (a ∷ addrs)) ≡ length (but addr addrs) = ap (λ (b : Bool). length (if b then but addr addrs else a ∷ but addr addrs)) same in omega (arith, rest, e)
+  | inr apart ↦
+      let e : length (but addr (a ∷ addrs)) ≡ length (a ∷ but addr addrs) = ap (λ (b : Bool). length (if b then but addr addrs else a ∷ but addr addrs)) apart in
+      elim i [
+        | inl is ↦ absurd (cc (sym (eq-eqb addr a (sym is)) ∙ apart))
+        | inr later ↦ let rest = one_but addr addrs later in omega (arith, rest, e)
+      ]
+]
+
+still_but : (addr : ℕ) (addrs : List ℕ) (a : ℕ) → HasItem addrs a → (addr ≡ a → ⊥) → HasItem (but addr addrs) a
+still_but addr [] a i apart = absurd i
+still_but addr (b ∷ addrs) a i apart = go (eqb addr b) refl (λ later. still_but addr addrs a later apart)
+  where
+    go : (c : Bool) → eqb addr b ≡ c → (HasItem addrs a → HasItem (but addr addrs) a) → HasItem (if c then but addr addrs else b ∷ but addr addrs) a
+    go true same rest = elim i [
+      | inl is ↦ absurd (apart (eqb-true addr b same ∙ is))
+      | inr later ↦ rest later
+    ]
+    go false other rest = elim i [
+      | inl is ↦ inl is
+      | inr later ↦ inr (rest later)
+    ]
+
+of_but : (addr : ℕ) (addrs : List ℕ) (a : ℕ) → HasItem (but addr addrs) a → HasItem addrs a
+of_but addr [] a i = absurd i
+of_but addr (b ∷ addrs) a i = go (eqb addr b) i (λ j. of_but addr addrs a j)
+  where
+    go : (c : Bool) → HasItem (if c then but addr addrs else b ∷ but addr addrs) a → (HasItem (but addr addrs) a → HasItem addrs a) → HasItem (b ∷ addrs) a
+    go true j rest = inr (rest j)
+    go false j rest = elim j [
+      | inl is ↦ inl is
+      | inr later ↦ inr (rest later)
+    ]
+
+-- of words at some addresses no more are given than there are addresses
+pub words_among : (k : ℕ) (addrs : List ℕ) (es : List (Place × ℕ)) (w : Whole) → IsTest w → k < length w.harts → ((a : ℕ) → HasItem addrs a → a % 4 ≡ 0) → CanGive k es w → ((a u : ℕ) → given_to es (Word a) ≡ Some u → HasItem addrs a) → words_in es ≤ length addrs
+words_among k addrs [] w test l aligned can only = omega arith
+words_among k addrs (e ∷ es) w test l aligned can only = go e.0 refl (λ left has all. words_among k left es (place_given k e.0 e.1 w) new more has can.3 all)
   where
     new : IsTest (place_given k e.0 e.1 w)
     new = test_one k e.0 e.1 w test l can.0 can.1 can.2
@@ -215,45 +192,67 @@ two_words k one two (e ∷ es) w test l first second can only = go e.0 refl (two
     more : k < length (place_given k e.0 e.1 w).harts
     more = let same = (beside_one k e.0 e.1 w).harts in omega (arith, l, same)
 
-    -- behind a word only the other one is given
-    only_other : (own other : ℕ) → own % 4 ≡ 0 → e.0 ≡ Word own → ((a : ℕ) → (a ≡ one) ⊎ (a ≡ two) → (a ≡ own) ⊎ (a ≡ other)) → (a u : ℕ) → given_to es (Word a) ≡ Some u → a ≡ other
-    only_other own other aligned at among a u h = elim (cases_eq own a) [
-      | inl same ↦
-          let known : known_at k (place_given k e.0 e.1 w) (Word own) ≡ Some e.1 =
-          known_one k e.0 e.1 w test l can.0 can.1 can.2 (Word own) aligned ∙ ap (λ (c : Bool). if c then Some e.1 else known_at k w (Word own)) (ap (λ (p : Place). same_place p (Word own)) at ∙ eq-eqb own own refl) in
-          absurd (not_again k own e.1 es (place_given k e.0 e.1 w) new more aligned can.3 known u (ap (λ (n : ℕ). given_to es (Word n)) same ∙ h))
-      | inr apart ↦
-          let which = among a (only a u (ap (λ (c : Bool). if c then Some e.1 else given_to es (Word a)) (ap (λ (p : Place). same_place p (Word a)) at ∙ ne_eqb own a apart) ∙ h)) in
-          elim which [
-            | inl is ↦ absurd (apart (sym is))
-            | inr is ↦ is
-          ]
-    ]
-
-    behind : (own other : ℕ) → own % 4 ≡ 0 → other % 4 ≡ 0 → e.0 ≡ Word own → ((a : ℕ) → (a ≡ one) ⊎ (a ≡ two) → (a ≡ own) ⊎ (a ≡ other)) → word_in e.0 + words_in es ≤ 2
-    behind own other aligned more_aligned at among =
-        let here : word_in e.0 ≡ 1 = ap word_in at in
-        let rest = one_word k other es (place_given k e.0 e.1 w) new more more_aligned can.3 (only_other own other aligned at among) in
-        omega (arith, here, rest)
-
-    skipped : (same : (a : ℕ) → same_place e.0 (Word a) ≡ false) (a u : ℕ) → given_to es (Word a) ≡ Some u → (a ≡ one) ⊎ (a ≡ two)
+    skipped : (same : (a : ℕ) → same_place e.0 (Word a) ≡ false) (a u : ℕ) → given_to es (Word a) ≡ Some u → HasItem addrs a
     skipped same a u h = only a u (ap (λ (c : Bool). if c then Some e.1 else given_to es (Word a)) (same a) ∙ h)
 
-    go : (place : Place) → e.0 ≡ place → (((a u : ℕ) → given_to es (Word a) ≡ Some u → (a ≡ one) ⊎ (a ≡ two)) → words_in es ≤ 2) → word_in e.0 + words_in es ≤ 2
+    go : (place : Place) → e.0 ≡ place → ((left : List ℕ) → ((a : ℕ) → HasItem left a → a % 4 ≡ 0) → ((a u : ℕ) → given_to es (Word a) ≡ Some u → HasItem left a) → words_in es ≤ length left) → word_in e.0 + words_in es ≤ length addrs
     go (Reg n) is rest =
         let none : word_in e.0 ≡ 0 = ap word_in is in
-        let h = rest (skipped (λ a. ap (λ (p : Place). same_place p (Word a)) is)) in
+        let h = rest addrs aligned (skipped (λ a. ap (λ (p : Place). same_place p (Word a)) is)) in
         omega (arith, none, h)
     go (Csr n) is rest =
         let none : word_in e.0 ≡ 0 = ap word_in is in
-        let h = rest (skipped (λ a. ap (λ (p : Place). same_place p (Word a)) is)) in
+        let h = rest addrs aligned (skipped (λ a. ap (λ (p : Place). same_place p (Word a)) is)) in
         omega (arith, none, h)
-    go (Word c) is rest =
-        let which = only c e.1 (ap (λ (d : Bool). if d then Some e.1 else given_to es (Word c)) (ap (λ (p : Place). same_place p (Word c)) is ∙ eq-eqb c c refl)) in
-        elim which [
-          | inl same ↦ behind one two first second (is ∙ ap (λ (n : ℕ). Word n) same) (λ a h. h)
-          | inr same ↦ behind two one second first (is ∙ ap (λ (n : ℕ). Word n) same) (λ a h. elim h [ inl x ↦ inr x | inr x ↦ inl x ])
+    go (Word own) is rest =
+        let item : HasItem addrs own = only own e.1 (ap (λ (c : Bool). if c then Some e.1 else given_to es (Word own)) (ap (λ (p : Place). same_place p (Word own)) is ∙ eq-eqb own own refl)) in
+        let known : known_at k (place_given k e.0 e.1 w) (Word own) ≡ Some e.1 =
+        known_one k e.0 e.1 w test l can.0 can.1 can.2 (Word own) (aligned own item) ∙ ap (λ (c : Bool). if c then Some e.1 else known_at k w (Word own)) (ap (λ (p : Place). same_place p (Word own)) is ∙ eq-eqb own own refl) in
+        let h = rest (but own addrs) (λ a i. aligned a (of_but own addrs a i)) (λ a u given. elim (cases_eq own a) [
+          | inl same ↦ absurd (not_again k own e.1 es (place_given k e.0 e.1 w) new more (aligned own item) can.3 known u (ap (λ (n : ℕ). given_to es (Word n)) same ∙ given))
+          | inr apart ↦ still_but own addrs a (only a u (ap (λ (c : Bool). if c then Some e.1 else given_to es (Word a)) (ap (λ (p : Place). same_place p (Word a)) is ∙ ne_eqb own a apart) ∙ given)) apart
+        ]) in
+        let less = one_but own addrs item in
+        let one : word_in e.0 ≡ 1 = ap word_in is in
+        omega (arith, one, h, less)
+
+pub two_words : (k one two : ℕ) (es : List (Place × ℕ)) (w : Whole) → IsTest w → k < length w.harts → one % 4 ≡ 0 → two % 4 ≡ 0 → CanGive k es w → ((a u : ℕ) → given_to es (Word a) ≡ Some u → (a ≡ one) ⊎ (a ≡ two)) → words_in es ≤ 2
+two_words k one two es w test l first second can only =
+    words_among k (one ∷ two ∷ []) es w test l (λ a i. elim i [
+      | inl is ↦ subst (λ (n : ℕ). n % 4 ≡ 0) is first
+      | inr j ↦ elim j [
+        | inl is ↦ subst (λ (n : ℕ). n % 4 ≡ 0) is second
+        | inr none ↦ absurd none
+      ]
+    ]) can (λ a u h. elim (only a u h) [
+      | inl is ↦ inl (sym is)
+      | inr is ↦ inr (inl (sym is))
+    ])
+
+pub four_words : (k pa : ℕ) (new : Known) (es : List (Place × ℕ)) (w : Whole) → IsTest w → k < length w.harts → pa % 4 ≡ 0 → AreFourWords new pa → CanGive k es w → ((a u : ℕ) → given_to es (Word a) ≡ Some u → new (Word a) ≡ Some u) → words_in es ≤ 4
+four_words k pa new es w test l aligned are can only =
+    words_among k (pa ∷ are.first ∷ are.second ∷ are.third ∷ []) es w test l (λ a i. elim i [
+      | inl is ↦ subst (λ (n : ℕ). n % 4 ≡ 0) is aligned
+      | inr j ↦ elim j [
+        | inl is ↦ subst (λ (n : ℕ). n % 4 ≡ 0) is are.first_aligned
+        | inr m ↦ elim m [
+          | inl is ↦ subst (λ (n : ℕ). n % 4 ≡ 0) is are.second_aligned
+          | inr q ↦ elim q [
+            | inl is ↦ subst (λ (n : ℕ). n % 4 ≡ 0) is are.third_aligned
+            | inr none ↦ absurd none
+          ]
         ]
+      ]
+    ]) can (λ a u h. elim (are.one a u (only a u h)) [
+      | inl is ↦ inl (sym is)
+      | inr j ↦ elim j [
+        | inl is ↦ inr (inl (sym is))
+        | inr m ↦ elim m [
+          | inl is ↦ inr (inr (inl (sym is)))
+          | inr is ↦ inr (inr (inr (inl (sym is))))
+        ]
+      ]
+    ])
 
 pub few_words : (ram words pairs : List (ℕ × ℕ)) → ListsWords ram words pairs → length pairs ≤ length words
 few_words ram words pairs lists = few_listed ram 0 pairs words lists.listed (λ key v h.

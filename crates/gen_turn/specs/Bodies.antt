@@ -1,51 +1,39 @@
 -- What the leaves of templates let through.
-use Rattle.std.specs.Prelude.{ℕ, ◌==◌, not, ◌&&◌, ◌||◌, Bool, true, false, List, [], ◌∷◌, map, Vec}
+use Rattle.std.specs.Prelude.{ℕ, not, ◌&&◌, ◌||◌, Bool, true, false, List, [], ◌∷◌, map, Vec}
 use Rattle.std.specs.Global.{Global}
 use Rattle.tpl_ast.specs.declared.template.HartDecl.{HartDecl}
 use Rattle.tpl_ast.specs.declared.template.Item.{Item}
 use Rattle.tpl_ast.specs.declared.template.Item.TheFolds.{fold-Item}
 use Rattle.tpl_ast.specs.declared.template.Item.TheOpen.{Item-F}
 use Rattle.tpl_ast.specs.declared.template.Item.TheOpen as layers
-use Rattle.tpl_ast.specs.declared.template.Template.{Template}
 use Rattle.tpl_ast.specs.declared.template.Wish.{Wish}
 use Rattle.tpl_ast.specs.Choices.{all_true, all_ways}
-use Rattle.leaf_turn.specs.Built.{bars_satp, lets_data}
-use Rattle.gen_turn.specs.declared.built.Rule.{Rule}
-use Rattle.gen_turn.specs.declared.built.Rule.TheVariants.{NoData, Plain}
+use Rattle.leaf_turn.specs.Built.{lets_data}
 
--- the atoms of a leaf keep to a rule: they bar accesses to satp, and loads and stores too unless the hart is the `first`; or they let no load or store through
-abbrev pub keeps_rule : Rule → List Wish → Bool
-keeps_rule (Plain first) ws = bars_satp ws && (first || not (lets_data ws))
-keeps_rule NoData ws = not (lets_data ws)
+-- the hart is the first, or the atoms of its leaf let no load or store through
+abbrev pub may_stand : Bool → List Wish → Bool
+may_stand first ws = first || not (lets_data ws)
 
--- an item each of whose leaves does, with the answer for each inner item in its place
-abbrev pub keeps_in : Rule → Item-F Bool → Bool
-keeps_in rule (layers.Leaf line wishes) = keeps_rule rule wishes.items
-keeps_in rule (layers.FetchFault line causes) = true
-keeps_in rule (layers.Seq body) = all_true body.items
-keeps_in rule (layers.Repeat times body) = all_true body.items
-keeps_in rule (layers.Choose line ways) = all_ways ways.items
-keeps_in rule (layers.Label name) = true
+-- an item of which so it is with each leaf, with the answer for each inner item in its place
+abbrev pub may_stand_in : Bool → Item-F Bool → Bool
+may_stand_in first (layers.Leaf line wishes) = may_stand first wishes.items
+may_stand_in first (layers.FetchFault line causes) = true
+may_stand_in first (layers.Seq body) = all_true body.items
+may_stand_in first (layers.Repeat times body) = all_true body.items
+may_stand_in first (layers.Choose line ways) = all_ways ways.items
+may_stand_in first (layers.Label name) = true
 
-abbrev pub item_keeps : Rule → Item → Bool
-item_keeps rule = fold-Item Bool (keeps_in rule)
+abbrev pub item_may : Bool → Item → Bool
+item_may first = fold-Item Bool (may_stand_in first)
 
-abbrev pub body_keeps : Rule → List Item → Bool
-body_keeps rule items = all_true (map (item_keeps rule) items)
+abbrev pub body_may : Bool → List Item → Bool
+body_may first items = all_true (map (item_may first) items)
 
-abbrev pub ways_keep : Rule → List (ℕ × Vec Item Global) → Bool
-ways_keep rule [] = true
-ways_keep rule (w ∷ ws) = body_keeps rule w.1.items && ways_keep rule ws
+abbrev pub ways_may : Bool → List (ℕ × Vec Item Global) → Bool
+ways_may first [] = true
+ways_may first (w ∷ ws) = body_may first w.1.items && ways_may first ws
 
--- satp is 0 where a hart starts and each leaf of its body bars accesses to it, so no address is translated; the first one may load and store
-abbrev pub are_harts_plain : Bool → List HartDecl → Bool
-are_harts_plain first [] = true
-are_harts_plain first (h ∷ hs) = ((h.start.satp == 0) && body_keeps (Plain first) h.body.items) && are_harts_plain false hs
-
-abbrev pub is_plain : Template → Bool
-is_plain t = are_harts_plain true t.harts
-
--- no hart loads or stores
-abbrev pub are_harts_dataless : List HartDecl → Bool
-are_harts_dataless [] = true
-are_harts_dataless (h ∷ hs) = body_keeps NoData h.body.items && are_harts_dataless hs
+-- loads and stores stand in the first hart alone
+abbrev pub harts_may : Bool → List HartDecl → Bool
+harts_may first [] = true
+harts_may first (h ∷ hs) = body_may first h.body.items && harts_may false hs

@@ -1,18 +1,18 @@
 -- The templates that this build takes.
-use Rattle.std.specs.Prelude.{◌≡◌, ℕ, ◌||◌, Bool, true}
+use Rattle.std.specs.Prelude.{◌≡◌, ℕ, Bool, true}
 use Rattle.tpl_ast.specs.declared.template.Template.{Template}
 use Rattle.tpl_ast.specs.Parsing.{Parses}
 use Rattle.part_machine.specs.Whole.{Whole}
 use Rattle.part_state.specs.Beginning.{IsBegun}
 use Rattle.part_state.specs.Meaning.{IsTest}
 use Rattle.gen_search.specs.Ready.{BodiesAreReady}
-use Rattle.gen_turn.specs.Bodies.{are_harts_dataless, is_plain}
+use Rattle.gen_turn.specs.Bodies.{harts_may}
 use Rattle.gen_turn.specs.Drafts.{drafted}
 use Rattle.gen_turn.specs.Grounds.{CanTake}
 
--- no address is translated, or no hart loads or stores
+-- no hart behind the first loads or stores
 abbrev pub is_template_built : Template → Bool
-is_template_built t = is_plain t || are_harts_dataless t.harts
+is_template_built t = harts_may true t.harts
 
 -- then each leaf and label of its bodies can be taken on the test that begins as it says
 abbrev pub BuiltTemplatesAreReady : Type 0

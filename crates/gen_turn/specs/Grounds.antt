@@ -1,5 +1,5 @@
 -- Which leaves and labels this build can take.
-use Rattle.std.specs.Prelude.{◌≡◌, ℕ, Bool, ◌%◌, ◌^◌, ◌<◌, ◌≤◌, true, List, length}
+use Rattle.std.specs.Prelude.{◌≡◌, ℕ, ◌%◌, ◌^◌, ◌<◌, ◌≤◌, true, false, List, length}
 use Rattle.std.specs.List.{AllByRecursion, list_all}
 use Rattle.rv_csr.specs.declared.access.CsrAccess.{CsrAccess}
 use Rattle.tpl_ast.specs.declared.template.Item.{Item}
@@ -10,14 +10,14 @@ use Rattle.tpl_ast.specs.Leaves.{IsPlain, NamedOnce, atoms_of, is_name_below}
 use Rattle.tpl_ast.specs.Limits.{most_atoms}
 use Rattle.part_machine.specs.Whole.{Whole, fixed_in, hart_of}
 use Rattle.part_state.specs.Meaning.{IsTest}
+use Rattle.leaf_link.specs.Turns.{in_frames}
 use Rattle.leaf_link.specs.Values.{fixed_value}
 use Rattle.leaf_link.specs.Ways.{AreWords}
 use Rattle.data_bytes.specs.Frames.{AreFrames}
-use Rattle.leaf_turn.specs.Built.{bars_satp, lets_data}
-use Rattle.leaf_turn.specs.Grounds.{HasFewForms, IsUntranslated}
+use Rattle.leaf_turn.specs.Built.{lets_data}
+use Rattle.leaf_turn.specs.Grounds.{HasFewForms}
 use Rattle.turn_laws.specs.Ahead.{AreVectors}
 use Rattle.turn_laws.specs.Given.{known_at}
-use Rattle.gen_turn.specs.Bodies.{is_plain}
 use Rattle.gen_turn.specs.Drafts.{Drafted}
 
 -- what is known of hart k and of memory is words, and so are the hart's CSRs that are always known; its pc is a multiple of 4
@@ -26,7 +26,7 @@ pub record IsOfWords (k : ℕ) (w : Whole) : Type 0 where
   pub known : AreWords (known_at k w)
   pub fixed : (access : CsrAccess) → fixed_value (fixed_in (hart_of k w) w.memory) access < 2 ^ 32
 
--- a hart of a test of the template. Where the template is plain, satp is 0
+-- a hart of a test of the template
 pub record IsGround (d : Drafted) (k : ℕ) : Type 0 where
   pub hart : k < length d.now.harts
   pub few : k < 2 ^ 8
@@ -35,16 +35,14 @@ pub record IsGround (d : Drafted) (k : ℕ) : Type 0 where
   pub frames : AreFrames d.template.pool
   pub forms : HasFewForms d.template
   pub vectors : AreVectors d.template.vectors
-  pub untranslated : is_plain d.template ≡ true → IsUntranslated k d.now
+  pub apart : (addr : ℕ) → in_frames d.template.tables addr ≡ true → in_frames d.template.pool addr ≡ false
   pub test : IsTest d.now
   pub words : IsOfWords k d.now
 
--- a leaf's atoms are those of a leaf of the template. They let loads and stores through in the first hart alone, and where no address is translated; and there they bar accesses
--- to satp
+-- a leaf's atoms are those of a leaf of the template, which let loads and stores through in the first hart alone
 pub record IsBuilt (t : Template) (k : ℕ) (ws : List Wish) : Type 0 where
   pub plain : AllByRecursion IsPlain (atoms_of ws)
-  pub loads : lets_data ws ≡ true → (is_plain t ≡ true) × (k ≡ 0)
-  pub satp : is_plain t ≡ true → bars_satp ws ≡ true
+  pub loads : lets_data ws ≡ true → k ≡ 0
   pub below : list_all (is_name_below (length t.names)) (atoms_of ws) ≡ true
   pub short : length ws ≤ most_atoms
   pub once : NamedOnce (atoms_of ws)
@@ -56,10 +54,9 @@ CanTake d k (items.FetchFault line causes) = IsGround d k
 CanTake d k (items.Label name) = IsGround d k × (name < length d.template.names)
 CanTake d k _ = ⊥
 
--- as many harts and names, and where that is asked (`keeps`), what is translated stays; it is still a test, and what is known is still words
-pub record IsSameGround (keeps : Bool) (old new : Whole) : Type 0 where
+-- as many harts and names; it is still a test, and what is known is still words
+pub record IsSameGround (old new : Whole) : Type 0 where
   pub harts : length new.harts ≡ length old.harts
   pub names : length new.names ≡ length old.names
-  pub satp : keeps ≡ true → (k : ℕ) → (hart_of k new).csrs.satp ≡ (hart_of k old).csrs.satp
   pub test : IsTest old → IsTest new
   pub words : (k : ℕ) → IsOfWords k old → IsOfWords k new

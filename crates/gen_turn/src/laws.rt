@@ -10,9 +10,7 @@ use leaf_link::{
     entries_are_by_places, fetches_have_one_answer, met_atoms_are_true, steps_are_fetched,
     values_are_by_places,
 };
-use leaf_turn::{
-    answers_are_found, answers_are_playable, leaves_with_bytes_are_posable, takings_are_one,
-};
+use leaf_turn::{answers_are_found, answers_are_playable, takings_are_one};
 use tpl_ast::template_law;
 use turn_laws::given_places_are_known;
 
@@ -27,7 +25,6 @@ pub fn turns_have_one_answer()
     given_places_are_known();
     answers_are_found();
     answers_are_playable();
-    leaves_with_bytes_are_posable();
     takings_are_one();
 }
 
@@ -75,5 +72,4 @@ pub fn done_tests_are_certified()
     values_are_by_places();
     entries_are_by_places();
     answers_are_found();
-    leaves_with_bytes_are_posable();
 }

@@ -1,5 +1,5 @@
 // The turns of leaves.
-ghost use Rattle.std.specs.Prelude.{◌≡◌, ◌<◌, ◌≤◌, Bool, true, List, length, OnOk, OnErr, IfOk};
+ghost use Rattle.std.specs.Prelude.{◌≡◌, ◌<◌, ◌≤◌, true, List, length, OnOk, OnErr, IfOk};
 ghost use Rattle.std.specs.List.{list_all};
 ghost use Rattle.rv_script.specs.Folds.{Entry as AnEntry};
 ghost use Rattle.tpl_ast.specs.Leaves.{atoms_of, is_name_below};
@@ -9,7 +9,6 @@ ghost use Rattle.leaf_link.specs.Answers.{values_in};
 ghost use Rattle.gen_search.specs.Wholes.{answered};
 ghost use Rattle.leaf_turn.specs.Answers.{AreKept, IsPlayable};
 ghost use Rattle.leaf_turn.specs.Entering.{Leads};
-ghost use Rattle.gen_turn.specs.Bodies.{is_plain};
 ghost use Rattle.gen_turn.specs.Drafts.{drafted};
 ghost use Rattle.gen_turn.specs.Grounds.{IsBuilt, IsGround, IsSameGround};
 ghost use Rattle.gen_turn.specs.Turns.{IsAnswered, IsDone, IsFailed, IsLeafTaken};
@@ -40,11 +39,11 @@ fn take_bind_and_list(
     x: &Assignment,
 ) -> Result<(), OutOfMemory>
     requires hart { hart < length part.old.now.harts }
-    requires playable { (keeps : Bool) × IsPlayable keeps hart (here part.old) fetch (values_in x.now) }
+    requires playable { IsPlayable hart (here part.old) fetch (values_in x.now) }
     requires below { list_all (is_name_below (length part.old.now.names)) (atoms_of wishes.now) ≡ true }
     requires short { length wishes.now ≤ most_atoms }
     ensures taken { OnOk result (IsLeafTaken hart wishes.now dropped.now (values_in x.now) (here part.old) (here part.new)) }
-    ensures ground { OnOk result ((keeps : Bool) → IsPlayable keeps hart (here part.old) fetch (values_in x.now) → IsSameGround keeps (here part.old) (here part.new)) }
+    ensures ground { OnOk result (IsSameGround (here part.old) (here part.new)) }
     ensures kept { AreKept part.old part.new }
 {
     // No test has so many steps.
@@ -80,7 +79,7 @@ fn answer_and_take(
     requires built { IsBuilt t.now hart wishes.now }
     requires leads { (walk : List AnEntry) × Leads hart (here part.old) walk pa }
     ensures turned { IfOk result (λ turn. IsAnswered (drafted t.now nodes (here part.old)) hart wishes.now draws.now (answered turn (drafted t.now nodes (here part.new)))) }
-    ensures ground { OnOk result (IsSameGround (is_plain t.now) (here part.old) (here part.new)) }
+    ensures ground { OnOk result (IsSameGround (here part.old) (here part.new)) }
     ensures kept { AreKept part.old part.new }
 {
     answers_are_playable();
@@ -115,7 +114,7 @@ fn enter_and_answer(
     requires ground { IsGround (drafted t.now nodes (here part.old)) hart }
     requires built { IsBuilt t.now hart wishes.now }
     ensures turned { IfOk result (λ turn. IsDone (drafted t.now nodes (here part.old)) hart wishes.now draws.now (answered turn (drafted t.now nodes (here part.new)))) }
-    ensures ground { OnOk result (IsSameGround (is_plain t.now) (here part.old) (here part.new)) }
+    ensures ground { OnOk result (IsSameGround (here part.old) (here part.new)) }
     ensures kept { AreKept part.old part.new }
 {
     match enter_fetch(alloc, part, hart, t, draws, nodes)? {
@@ -143,7 +142,7 @@ pub fn turn_leaf(
     requires ground { IsGround (drafted t.now nodes (here part.old)) hart }
     requires built { IsBuilt t.now hart wishes.now }
     ensures turned { IfOk result (λ turn. IsDone (drafted t.now nodes (here part.old)) hart wishes.now draws.now (answered turn (drafted t.now nodes (here part.new)))) }
-    ensures ground { OnOk result (IsSameGround (is_plain t.now) (here part.old) (here part.new)) }
+    ensures ground { OnOk result (IsSameGround (here part.old) (here part.new)) }
     ensures kept { OnOk result (AreKept part.old part.new) }
     ensures refused { OnErr result (part.new ≡ part.old) }
 {
@@ -169,7 +168,7 @@ fn answer_fault(
 ) -> Result<Turn, OutOfMemory>
     requires ground { IsGround (drafted t.now nodes (here part.old)) hart }
     ensures turned { IfOk result (λ turn. IsFailed (drafted t.now nodes (here part.old)) hart causes.now draws.now (answered turn (drafted t.now nodes (here part.new)))) }
-    ensures ground { OnOk result (IsSameGround (is_plain t.now) (here part.old) (here part.new)) }
+    ensures ground { OnOk result (IsSameGround (here part.old) (here part.new)) }
     ensures kept { AreKept part.old part.new }
 {
     match fault_answer(alloc, part, hart, t, causes, draws, nodes)? {
@@ -197,7 +196,7 @@ pub fn turn_fault(
 ) -> Result<Turn, OutOfMemory>
     requires ground { IsGround (drafted t.now nodes (here part.old)) hart }
     ensures turned { IfOk result (λ turn. IsFailed (drafted t.now nodes (here part.old)) hart causes.now draws.now (answered turn (drafted t.now nodes (here part.new)))) }
-    ensures ground { OnOk result (IsSameGround (is_plain t.now) (here part.old) (here part.new)) }
+    ensures ground { OnOk result (IsSameGround (here part.old) (here part.new)) }
     ensures kept { OnOk result (AreKept part.old part.new) }
     ensures refused { OnErr result (part.new ≡ part.old) }
 {

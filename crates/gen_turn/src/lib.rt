@@ -1,9 +1,8 @@
 //! Leaf turns, labels and choices on the test of a template: what the search for the test works on. A leaf turn answers
 //! the fetch of its hart and starts its page table entries, answers the leaf where the pc leads, starts the places of
-//! the answer, takes its step, binds names, and lists the biases that were not kept. Templates are taken in which no
-//! address is translated, as all `do` leaves bar accesses to satp, and in harts behind the first loads and stores; and
-//! those in which no `do` leaf lets a load or store through. It stands on `leaf_turn` and `gen_search`. It promises
-//! that what is made of a template is what its search comes to, and that a certificate is valid.
+//! the answer, takes its step, binds names, and lists the biases that were not kept. Templates are taken in which the
+//! `do` leaves of all harts behind the first bar loads and stores. It stands on `leaf_turn` and `gen_search`. It
+//! promises that what is made of a template is what its search comes to, and that a certificate is valid.
 #![tactic(auto)]
 
 mod binding;

@@ -1,5 +1,5 @@
 -- A step that reads a CSR takes no trap.
-use Rattle.std.proofs.Common.{◌≡◌, ℕ, if◌then◌else◌, ◌+◌, ◌%◌, ◌^◌, ◌||◌, Bool, true, false, eqb, Option, ◌⊎◌, inl, inr, refl, ap, ◌∙◌}
+use Rattle.std.proofs.Common.{◌≡◌, ℕ, if◌then◌else◌, ◌+◌, ◌*◌, ◌/◌, ◌%◌, ◌^◌, ◌||◌, Bool, true, false, eqb, Option, ◌⊎◌, inl, inr, refl, ap, ◌∙◌}
 use Rattle.std.proofs.lemmas.Bool.{cases_Bool}
 use Rattle.rv_isa.specs.declared.instruction.Instr.{Instr}
 use Rattle.rv_isa.specs.declared.table.Row.{Row}
@@ -14,18 +14,18 @@ use Rattle.rv_csr.specs.Access.{access_of}
 use Rattle.rv_csr.specs.Privilege.{is_machine}
 use Rattle.rv_csr.specs.declared.status.Flag.TheVariants.{Tsr}
 use Rattle.rv_script.specs.Labels.{Asks}
-use Rattle.rv_script.specs.Script.{Label, Label.FromCsr, Label.DataWord, Label.FromVector, Question, Question.OfRegister, Question.OfCsr, Question.OfMemory, Question.ToMemory, Script, Script.Done, ◌>>=◌}
+use Rattle.rv_script.specs.Script.{Label, Label.FromCsr, Label.DataRoot, Label.DataSecond, Label.DataWord, Label.FromVector, Question, Question.OfRegister, Question.OfCsr, Question.OfMemory, Question.ToMemory, Script, Script.Done, ◌>>=◌}
 use Rattle.sv_walk.specs.declared.entry.Kind.{Kind}
 use Rattle.sv_walk.specs.declared.entry.Kind.TheVariants.{Load as ForLoad, Store as ForStore}
 use Rattle.sv_walk.specs.declared.entry.View.{View}
-use Rattle.sv_walk.specs.Translation.{Reached, At, Fails, is_translated, translated}
+use Rattle.sv_walk.specs.Entry.{access_cause, is_closed, is_invalid, is_pointer, is_reserved, is_unaligned, page_cause}
+use Rattle.sv_walk.specs.Translation.{Reached, At, Fails, arrived, from_pointer, from_root, is_in_ram, is_translated, root_address, root_label, second_address, second_end, second_label, translated}
 use Rattle.rv_hart.specs.declared.record.Change.{Change}
 use Rattle.rv_hart.specs.Fixed.{Fixed}
 use Rattle.rv_hart.specs.Machine.{arriving, at_address, data_view, fence_row, jump_row, jumped, load_at, load_from, reached, store_at, store_to, upper_pc_row, upper_row}
 use Rattle.rv_hart.specs.Privileged.{address_fence_row, csr_accessed, csr_exchanged, csr_granted, csr_immediate_row, is_withheld, mret_row, old_value, reads_csr, sret_row, trap, write_csr, writes_csr}
 use Rattle.rv_hart.specs.Rests.{after_access, csr_access, rest}
-use Rattle.leaf_link.specs.Values.{field_of_operand, fixed_value, has_address, has_csr_operand, unasked_csr}
-use Rattle.leaf_link.proofs.NewWords.{store_address}
+use Rattle.leaf_link.specs.Values.{field_of_operand, fixed_value, has_csr_operand, unasked_csr}
 
 -- the old value of a CSR is asked for
 abbrev pub is_old : Label → Type 0
@@ -38,12 +38,14 @@ IsForOld (OfRegister label n) = ⊥
 IsForOld (OfMemory label addr size) = ⊥
 IsForOld (ToMemory addr size value) = ⊥
 
--- the data word or the vector is asked for
+-- a page table entry, the data word or the vector is asked for
 abbrev pub is_trap : Label → Type 0
 is_trap FromVector = Unit {0}
 is_trap _ = ⊥
 
 abbrev pub is_data : Label → Type 0
+is_data DataRoot = Unit {0}
+is_data DataSecond = Unit {0}
 is_data DataWord = Unit {0}
 is_data _ = ⊥
 
@@ -53,7 +55,7 @@ IsForLater (OfRegister label n) = ⊥
 IsForLater (OfMemory label addr size) = is_data label
 IsForLater (ToMemory addr size value) = Unit {0}
 
--- just the old value is asked for, or just the data word and the vector, where no CSR is read without asking
+-- just the old value is asked for, or just what comes later, where no CSR is read without asking
 pub record IsAlone (f : Fixed) (i : Instr) (s : Script Change) : Type 0 where
   pub is : Asks IsForOld s ⊎ (Asks IsForLater s × (unasked_csr f i ≡ 0))
 
@@ -77,20 +79,50 @@ arriving_later : (f : Fixed) (word va : ℕ) (next : ℕ → Script Change) (r :
 arriving_later f word va next (At pa) k = k pa
 arriving_later f word va next (Fails cause) k = trap_later f word cause va
 
-address_later : (kind : Kind) (f : Fixed) (word : ℕ) (v : View) (va : ℕ) (next : ℕ → Script Change) → is_translated v ≡ false → ((pa : ℕ) → Asks IsForLater (next pa)) → Asks IsForLater (at_address f word v kind va next)
-unfolding at_address translated
-address_later kind f word v va next plain k = rw plain (arriving_later f word va next _ k)
+-- a kind that asks for the entries of data asks for nothing else
+pub record AsksLater (kind : Kind) : Type 0 where
+  pub root : is_data (root_label kind)
+  pub second : is_data (second_label kind)
 
-reached_later : (kind : Kind) (f : Fixed) (word addr size : ℕ) (cause : Cause) (next : ℕ → Script Change) → is_translated (data_view f) ≡ false → ((pa : ℕ) → Asks IsForLater (next pa)) → Asks IsForLater (reached f word kind addr size cause next)
-reached_later kind f word addr size cause next plain k = let h = address_later kind f word (data_view f) addr next plain k in search (if_later, trap_later, h)
+module _ (kind : Kind) (f : Fixed) (word : ℕ) (v : View) (va : ℕ) (next : ℕ → Script Change) (of : AsksLater kind) (k : (pa : ℕ) → Asks IsForLater (next pa)) where
+  abbrev behind : Script Reached → Script Change
+  behind s = s >>= arriving f word va next
 
-load_later : (f : Fixed) (word : ℕ) (i : Instr) (addr : ℕ) → is_translated (data_view f) ≡ false → Asks IsForLater (load_from f word i addr)
+  ends : (r : Reached) → Asks IsForLater (behind (Done r))
+  ends r = arriving_later f word va next r k
+
+  if_behind : (b : Bool) (s u : Script Reached) → Asks IsForLater (behind s) → Asks IsForLater (behind u) → Asks IsForLater (behind (if b then s else u))
+  if_behind true s u h k = h
+  if_behind false s u h k = k
+
+  pointer_later : (entry : ℕ) → Asks IsForLater (behind (from_pointer f.ram v kind va entry))
+  unfolding from_pointer
+  pointer_later entry = if_behind (is_in_ram f.ram (second_address va entry)) _ _ (of.second, λ w. ends (second_end f.ram v kind va w)) (ends (Fails (access_cause kind)))
+
+  root_later : (entry : ℕ) → Asks IsForLater (behind (from_root f.ram v kind va entry))
+  unfolding from_root
+  root_later entry =
+      if_behind (is_invalid entry) _ _ (ends (Fails (page_cause kind)))
+      (if_behind (is_pointer entry) _ _ (if_behind (is_reserved entry) _ _ tt (pointer_later entry))
+      (if_behind (is_unaligned entry || is_closed v kind entry) _ _ (ends (Fails (page_cause kind))) (ends (arrived f.ram kind (entry / 2 ^ 20 * 2 ^ 22 + va % 2 ^ 22)))))
+
+  address_later : Asks IsForLater (at_address f word v kind va next)
+  unfolding at_address translated
+  address_later =
+      if_behind (is_translated v) _ _
+      (if_behind (is_in_ram f.ram (root_address v va)) _ _ (of.root, λ w. root_later w) (ends (Fails (access_cause kind))))
+      (ends (arrived f.ram kind va))
+
+reached_later : (kind : Kind) (f : Fixed) (word addr size : ℕ) (cause : Cause) (next : ℕ → Script Change) → AsksLater kind → ((pa : ℕ) → Asks IsForLater (next pa)) → Asks IsForLater (reached f word kind addr size cause next)
+reached_later kind f word addr size cause next of k = if_later (eqb (addr % size) 0) _ _ (address_later kind f word (data_view f) addr next of k) (trap_later f word cause addr)
+
+load_later : (f : Fixed) (word : ℕ) (i : Instr) (addr : ℕ) → Asks IsForLater (load_from f word i addr)
 unfolding load_at
-load_later f word i addr plain = reached_later ForLoad f word addr _ _ (load_at f word i) plain (λ pa. (tt, λ v. tt))
+load_later f word i addr = reached_later ForLoad f word addr _ _ (load_at f word i) (record { root = tt; second = tt }) (λ pa. (tt, λ v. tt))
 
-store_later : (f : Fixed) (word : ℕ) (i : Instr) (addr value : ℕ) → is_translated (data_view f) ≡ false → Asks IsForLater (store_to f word i addr value)
+store_later : (f : Fixed) (word : ℕ) (i : Instr) (addr value : ℕ) → Asks IsForLater (store_to f word i addr value)
 unfolding store_at
-store_later f word i addr value plain = reached_later ForStore f word addr _ _ (store_at f word i value) plain (λ pa. (tt, λ v. tt))
+store_later f word i addr value = reached_later ForStore f word addr _ _ (store_at f word i value) (record { root = tt; second = tt }) (λ pa. (tt, λ v. tt))
 
 jumped_later : (f : Fixed) (word : ℕ) (rd : Option (ℕ × ℕ)) (target : ℕ) → Asks IsForLater (jumped f word rd target)
 jumped_later f word rd target = search (if_later, trap_later, tt)
@@ -149,30 +181,30 @@ sret_alone : (f : Fixed) (word : ℕ) (i : Instr) → unasked_csr f i ≡ 0 → 
 unfolding sret_row
 sret_alone f word i none = if_alone f i (is_withheld Tsr f) _ _ (record { is = inr (trap_later f word _ word, none) }) (record { is = inl (tt, λ v. tt) })
 
-pub rest_alone : (row : Row) (f : Fixed) (word : ℕ) (i : Instr) (a b : ℕ) → row_of i.op ≡ row → (has_address row ≡ true → is_translated (data_view f) ≡ false) → IsAlone f i (rest row f word i a b)
+pub rest_alone : (row : Row) (f : Fixed) (word : ℕ) (i : Instr) (a b : ℕ) → row_of i.op ≡ row → IsAlone f i (rest row f word i a b)
 unfolding upper_row upper_pc_row jump_row fence_row csr_immediate_row address_fence_row
-rest_alone (R opcode funct3 funct7) f word i a b is plain = record { is = inl tt }
-rest_alone (Shift opcode funct3 funct7) f word i a b is plain = record { is = inl tt }
-rest_alone (I opcode funct3) f word i a b is plain =
+rest_alone (R opcode funct3 funct7) f word i a b is = record { is = inl tt }
+rest_alone (Shift opcode funct3 funct7) f word i a b is = record { is = inl tt }
+rest_alone (I opcode funct3) f word i a b is =
     let none = none_unasked f i (I opcode funct3) is refl in
     elim (cases_Bool (eqb opcode 0x03)) [
-      | inl load ↦ let loads = load_later f word i ((a + i.imm) % 2 ^ 32) (plain (ap (λ (c : Bool). c || false) load)) in record { is = inr (search (if_later, loads, jumped_later, tt), none) }
+      | inl load ↦ let loads = load_later f word i ((a + i.imm) % 2 ^ 32) in record { is = inr (search (if_later, loads, jumped_later, tt), none) }
       | inr other ↦ rw other (record { is = inr (search (if_later, jumped_later, tt), none) })
     ]
-rest_alone (S opcode funct3) f word i a b is plain = record { is = inr (store_later f word i _ b (plain (store_address i.op opcode funct3 is)), none_unasked f i (S opcode funct3) is refl) }
-rest_alone (B opcode funct3) f word i a b is plain = record { is = inr (search (if_later, jumped_later, tt), none_unasked f i (B opcode funct3) is refl) }
-rest_alone (CsrRow opcode funct3) f word i a b is plain = access_alone f word i (csr_access f i) a (λ denied. none_unasked f i (CsrRow opcode funct3) is (denied_none f i (csr_access f i) denied))
-rest_alone (U opcode) f word i a b is plain = record { is = inr (search (if_later, tt), none_unasked f i (U opcode) is refl) }
-rest_alone (J opcode) f word i a b is plain = record { is = inr (search (if_later, jumped_later, tt), none_unasked f i (J opcode) is refl) }
-rest_alone (FenceSets opcode funct3) f word i a b is plain = record { is = inr (search (if_later, tt), none_unasked f i (FenceSets opcode funct3) is refl) }
-rest_alone (CsrImmediate opcode funct3) f word i a b is plain =
+rest_alone (S opcode funct3) f word i a b is = record { is = inr (store_later f word i _ b, none_unasked f i (S opcode funct3) is refl) }
+rest_alone (B opcode funct3) f word i a b is = record { is = inr (search (if_later, jumped_later, tt), none_unasked f i (B opcode funct3) is refl) }
+rest_alone (CsrRow opcode funct3) f word i a b is = access_alone f word i (csr_access f i) a (λ denied. none_unasked f i (CsrRow opcode funct3) is (denied_none f i (csr_access f i) denied))
+rest_alone (U opcode) f word i a b is = record { is = inr (search (if_later, tt), none_unasked f i (U opcode) is refl) }
+rest_alone (J opcode) f word i a b is = record { is = inr (search (if_later, jumped_later, tt), none_unasked f i (J opcode) is refl) }
+rest_alone (FenceSets opcode funct3) f word i a b is = record { is = inr (search (if_later, tt), none_unasked f i (FenceSets opcode funct3) is refl) }
+rest_alone (CsrImmediate opcode funct3) f word i a b is =
     if_alone f i (eqb opcode 0x73) _ _ (immediate_alone f word i (access_of f.mstatus i.csr f.privilege (writes_csr i.op i.imm)) (writes_csr i.op i.imm)
     (λ denied. none_unasked f i (CsrImmediate opcode funct3) is (denied_none f i (access_of f.mstatus i.csr f.privilege (writes_csr i.op i.imm)) denied))) (record { is = inl tt })
-rest_alone (AddressFence opcode funct3 funct7) f word i a b is plain = record { is = inr (search (if_later, trap_later, tt), none_unasked f i (AddressFence opcode funct3 funct7) is refl) }
-rest_alone (Whole bits) f word i a b is plain =
+rest_alone (AddressFence opcode funct3 funct7) f word i a b is = record { is = inr (search (if_later, trap_later, tt), none_unasked f i (AddressFence opcode funct3 funct7) is refl) }
+rest_alone (Whole bits) f word i a b is =
     let none = none_unasked f i (Whole bits) is refl in
     if_alone f i (eqb bits 0x0000_0073) _ _ (record { is = inr (trap_later f word _ 0, none) })
     (if_alone f i (eqb bits 0x0010_0073) _ _ (record { is = inr (trap_later f word _ f.pc, none) })
     (if_alone f i (eqb bits 0x3020_0073) _ _ (mret_alone f word i none)
     (if_alone f i (eqb bits 0x1020_0073) _ _ (sret_alone f word i none) (record { is = inl tt }))))
-rest_alone DefinedIllegal f word i a b is plain = record { is = inr (trap_later f word _ word, none_unasked f i DefinedIllegal is refl) }
+rest_alone DefinedIllegal f word i a b is = record { is = inr (trap_later f word _ word, none_unasked f i DefinedIllegal is refl) }

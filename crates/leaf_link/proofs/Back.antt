@@ -146,6 +146,18 @@ known_or_new : (o : Option ℕ) (v : ℕ) → (o ≡ Some (value_or o v)) ⊎ (o
 known_or_new (Some w) v = inl refl
 known_or_new None v = inr refl
 
+-- the value of rs1 is the one that is asked for
+first_source : (t : Turn) (walk : List Entry) (pa : ℕ) (leaf : List Atom) (op : Op) (x : Values) → IsFetched t walk pa → (g : Good t leaf x) → (rest : List Entry) → IsLater rest → g.log ≡ front_log t walk pa op x rest
+    → x slots.A ≡ value_in (chosen (asks_a t op x) (a_entry t x))
+first_source t walk pa leaf op x f g rest later l = g.is slots.A ∙ ap (λ (z : List Entry). value_in (labelled z FromRs1)) l ∙ ap (λ (o : Option Entry). value_in o) (a_label t walk pa op x rest f later)
+
+-- and so it is where its address is made of it
+pub told_source : (t : Turn) (walk : List Entry) (pa : ℕ) (leaf : List Atom) (op : Op) (x : Values) → IsFetched t walk pa → (g : Good t leaf x) → (rest : List Entry) → IsLater rest → g.log ≡ front_log t walk pa op x rest
+    → told_a t op x ≡ x slots.A
+told_source t walk pa leaf op x f g rest later l =
+    let is_a = first_source t walk pa leaf op x f g rest later l in
+    value_given (asks_a t op x) (t.known (Reg (x slots.Rs1))) (x slots.A) (tie_value (asks_a t op x) (a_entry t x) (x slots.A) is_a) (unused_value (asks_a t op x) (a_entry t x) (x slots.A) is_a)
+
 -- FROM WHAT IS GOOD TO WHAT FITS
 pub good_fits : (t : Turn) (walk : List Entry) (pa : ℕ) (leaf : List Atom) (op : Op) (ways : List Way) → IsFetched t walk pa → AreWords t.known → ((atom : Atom) → HasItem leaf atom → IsPlain atom) → IsWays t walk pa leaf op ways
     → (x : Values) → Good t leaf x → (instr_in x).op ≡ op → Fits (cases_of t walk pa leaf op ways) x
@@ -163,13 +175,13 @@ good_fits t walk pa leaf op ways f words plain owed x g op_is =
     let log : List Entry = front_log t walk pa op x rest in
     let l : g.log ≡ log = back.2 in
     let later : IsLater rest = is_later t op x (told_a t op x) (told_b t op x) tell rest g.change back.1 in
-    let is_a : x slots.A ≡ value_in (chosen (asks_a t op x) (a_entry t x)) = g.is slots.A ∙ ap (λ (z : List Entry). value_in (labelled z FromRs1)) l ∙ ap (λ (o : Option Entry). value_in o) (a_label t walk pa op x rest f later) in
+    let is_a : x slots.A ≡ value_in (chosen (asks_a t op x) (a_entry t x)) = first_source t walk pa leaf op x f g rest later l in
     let is_b : x slots.B ≡ value_in (chosen (asks_b op) (b_entry t x)) = g.is slots.B ∙ ap (λ (z : List Entry). value_in (labelled z FromRs2)) l ∙ ap (λ (o : Option Entry). value_in o) (b_label t walk pa op x rest f later) in
     let a0 : asks_a t op x ≡ true → (a_entry t x).value ≡ x slots.A = tie_value (asks_a t op x) (a_entry t x) (x slots.A) is_a in
     let a1 : asks_a t op x ≡ false → x slots.A ≡ 0 = unused_value (asks_a t op x) (a_entry t x) (x slots.A) is_a in
     let b0 : asks_b op ≡ true → (b_entry t x).value ≡ x slots.B = tie_value (asks_b op) (b_entry t x) (x slots.B) is_b in
     let b1 : asks_b op ≡ false → x slots.B ≡ 0 = unused_value (asks_b op) (b_entry t x) (x slots.B) is_b in
-    let ta : told_a t op x ≡ x slots.A = value_given (asks_a t op x) (k (Reg (x slots.Rs1))) (x slots.A) a0 a1 in
+    let ta : told_a t op x ≡ x slots.A = told_source t walk pa leaf op x f g rest later l in
     let tb : told_b t op x ≡ x slots.B = value_given (asks_b op) (k (Reg (x slots.Rs2))) (x slots.B) b0 b1 in
     let plays : answer_told tell (rest_of t op x (x slots.A) (x slots.B)) ≡ Does rest g.change =
     ap (λ (n : ℕ). answer_told tell (rest_of t op x n (x slots.B))) (sym ta) ∙ ap (λ (n : ℕ). answer_told tell (rest_of t op x (told_a t op x) n)) (sym tb) ∙ back.1 in

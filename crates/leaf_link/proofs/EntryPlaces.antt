@@ -1,10 +1,10 @@
 -- The values of the new places of a fetch, of a `do` and of a `fault` leaf.
-use Rattle.std.proofs.Common.{◌≡◌, ℕ, if◌then◌else◌, ◌%◌, Bool, true, false, eqb, List, [], ◌∷◌, ◌++◌, ◌⊎◌, Option, Some, None, refl, sym, ap, ◌∙◌, subst, inl, inr, arith}
+use Rattle.std.proofs.Common.{◌≡◌, ℕ, if◌then◌else◌, Bool, true, false, eqb, List, [], ◌∷◌, ◌++◌, ◌⊎◌, Some, None, refl, sym, ap, ◌∙◌, subst, inl, inr}
 use Rattle.std.proofs.lemmas.Bool.{cases_Bool, eq-eqb, eqb-true}
 use Rattle.rv_csr.specs.declared.cause.Cause.{Cause}
 use Rattle.rv_csr.specs.Causes.{number_of}
 use Rattle.rv_script.specs.declared.place.Place.{Place}
-use Rattle.rv_script.specs.declared.place.Place.TheVariants.{Reg, Csr, Word}
+use Rattle.rv_script.specs.declared.place.Place.TheVariants.{Word}
 use Rattle.rv_script.specs.Bytes.{word_address}
 use Rattle.rv_script.specs.Folds.{Answer.Does, Entry, Known, Teller, by_known}
 use Rattle.rv_script.specs.Labels.{Asks, label_of}
@@ -34,7 +34,7 @@ use Rattle.leaf_link.specs.FetchPlacing.{FaultPlacesHaveValues, FaultWordsAreTwo
 use Rattle.leaf_link.proofs.Failing.{fault_numbers, given_fault, reads}
 use Rattle.leaf_link.proofs.Fetching.{fetch_between, given_fetch}
 use Rattle.leaf_link.proofs.Front.{has_either, has_first, label_past}
-use Rattle.leaf_link.proofs.Placing.{asked_by, found_in, new_found}
+use Rattle.leaf_link.proofs.Placing.{address_in, address_of, asked_by, found_in, new_found, same_word, word_aligned}
 use Rattle.leaf_link.proofs.Reaching.{then_done}
 use Rattle.leaf_link.proofs.Unfailing.{translated_ends}
 
@@ -109,20 +109,6 @@ value_here x root (ToMemory addr size value) v h is apart = absurd h
 value_here x root (OfMemory _ addr size) v h is apart = absurd h
 value_here x root (OfCsr _ addr) v h is apart = absurd h
 
--- the address of what a label asks of memory
-abbrev address_in : Question → ℕ
-address_in (OfMemory label addr size) = addr
-address_in (OfRegister label n) = 0
-address_in (OfCsr label addr) = 0
-address_in (ToMemory addr size value) = addr
-
-abbrev address_of : Option Entry → ℕ
-address_of None = 0
-address_of (Some e) = address_in e.question
-
-same_word : {n m : ℕ} → Word n ≡ Word m → n ≡ m
-same_word {n} {m} h = ap (λ (q : Place). elim q [ Word a ↦ a | Reg r ↦ n | Csr c ↦ n ]) h
-
 -- a word that is asked for is that of the root entry, or that of the second one
 word_here : (root : ℕ) (q : Question) (second addr : ℕ) → IsOfFetch root q → (label_of q ≡ FetchSecond → second ≡ address_in q) → place_of q ≡ Word addr → (addr ≡ root) ⊎ (addr ≡ word_address second)
 word_here root (OfMemory FetchRoot a size) second addr h is at = inl (same_word (sym at) ∙ h)
@@ -132,9 +118,6 @@ word_here root (OfRegister l n) second addr h is at = absurd h
 word_here root (ToMemory a size value) second addr h is at = absurd h
 word_here root (OfMemory _ a size) second addr h is at = absurd h
 word_here root (OfCsr _ a) second addr h is at = absurd h
-
-word_aligned : (n : ℕ) → word_address n % 4 ≡ 0
-word_aligned n = omega arith
 
 apart_labels : FetchSecond ≡ FetchRoot → ⊥
 apart_labels h = absurd (cc h)

@@ -3,7 +3,7 @@ mod Links
 mod Formats
 mod Unrefused
 mod Truths
-mod Front
+pub mod Front
 mod Law
 mod Both
 mod Back
@@ -12,7 +12,7 @@ mod Operations
 mod Answering
 mod Whole
 mod Biases
-mod Reaching
+pub mod Reaching
 mod Accessing
 mod Loads
 mod Stores
@@ -47,10 +47,13 @@ mod BiasPossible
 mod Finding
 mod Existing
 mod FetchPossible
-mod Placing
+pub mod Placing
 mod Alone
 mod Located
 mod SatpKept
+mod DataWalks
+mod DataPlaces
+mod FourWords
 pub mod NewWords
 mod Unfailing
 mod OfOperations

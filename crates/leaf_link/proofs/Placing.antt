@@ -1,5 +1,5 @@
 -- The log of a candidate in parts, and the places that it starts.
-use Rattle.std.proofs.Common.{◌≡◌, ℕ, if◌then◌else◌, Bool, true, false, List, [], ◌∷◌, Option, Some, None, refl, sym, ap, ◌∙◌, subst, inl, inr}
+use Rattle.std.proofs.Common.{◌≡◌, ℕ, if◌then◌else◌, ◌%◌, arith, Bool, true, false, List, [], ◌∷◌, Option, Some, None, refl, sym, ap, ◌∙◌, subst, inl, inr}
 use Rattle.rv_isa.specs.declared.instruction.Instr.{Instr}
 use Rattle.rv_isa.specs.declared.table.Row.{Row}
 use Rattle.rv_isa.specs.declared.table.Row.TheVariants.{R, I, Shift, S, B, U, J, Csr as CsrRow, CsrImmediate, FenceSets, AddressFence, Fixed as Whole, DefinedIllegal}
@@ -8,16 +8,19 @@ use Rattle.rv_isa.specs.Fields.{reads_rs2}
 use Rattle.rv_isa.proofs.Codec.{encoded_read}
 use Rattle.rv_isa.proofs.Numbers.{small}
 use Rattle.rv_script.specs.declared.place.Place.{Place}
+use Rattle.rv_script.specs.declared.place.Place.TheVariants.{Reg, Csr, Word}
+use Rattle.rv_script.specs.Bytes.{word_address}
 use Rattle.rv_script.specs.Labels.{Asks}
 use Rattle.rv_script.specs.Lists.{HasItem}
 use Rattle.rv_script.specs.Logs.{by_answers, entry_place, found, or_given, same_place, started, value_or, where_unknown, answer_told}
-use Rattle.rv_script.specs.Script.{Question, told as told_of, Script, Script.Ask, Script.Outside, Script.Done}
+use Rattle.rv_script.specs.Script.{Question, Question.OfRegister, Question.OfCsr, Question.OfMemory, Question.ToMemory, told as told_of, Script, Script.Ask, Script.Outside, Script.Done}
 use Rattle.rv_script.specs.Folds.{Entry, Known, Teller, Answer.Does}
 use Rattle.rv_script.proofs.Plays.{first_asked, same_is, told}
 use Rattle.rv_hart.specs.Fixed.{Fixed}
 use Rattle.rv_hart.specs.Machine.{script}
 use Rattle.rv_hart.specs.Rests.{asks_rs1}
 use Rattle.tpl_ast.specs.declared.template.Atom.{Atom}
+use Rattle.fd_prob.specs.declared.slot.Slot.TheVariants as slots
 use Rattle.leaf_link.specs.Turns.{Turn}
 use Rattle.leaf_link.specs.Values.{Values, given_by, instr_in}
 use Rattle.leaf_link.specs.Candidates.{IsCandidate}
@@ -26,7 +29,8 @@ use Rattle.leaf_link.specs.Problems.{key_of}
 use Rattle.leaf_link.specs.Placing.{ValuesAreInstructions}
 use Rattle.leaf_link.proofs.Links.{Good, candidate_good, instr_assigned}
 use Rattle.leaf_link.proofs.Front.{front_back, front_log, rest_of, settled, told_a, told_b}
-use Rattle.leaf_link.proofs.Back.{good_reads}
+use Rattle.leaf_link.proofs.Law.{is_later}
+use Rattle.leaf_link.proofs.Back.{good_reads, told_source}
 
 -- ENTRIES
 pub asked_by : {A : Type 0} (P : Question → Type 0) (s : Script A) (t : Teller) (log : List Entry) (a : A) → Asks P s → answer_told t s ≡ Does log a → (e : Entry) → HasItem log e → P e.question
@@ -86,6 +90,24 @@ both_asked (AddressFence opcode funct3 funct7) f i h = absurd (cc)
 both_asked (Whole bits) f i h = absurd (cc)
 both_asked DefinedIllegal f i h = absurd (cc)
 
+-- WORDS
+-- the address of what a label asks of memory
+abbrev pub address_in : Question → ℕ
+address_in (OfMemory label addr size) = addr
+address_in (OfRegister label n) = 0
+address_in (OfCsr label addr) = 0
+address_in (ToMemory addr size value) = addr
+
+abbrev pub address_of : Option Entry → ℕ
+address_of None = 0
+address_of (Some e) = address_in e.question
+
+pub same_word : {n m : ℕ} → Word n ≡ Word m → n ≡ m
+same_word {n} {m} h = ap (λ (q : Place). elim q [ Word a ↦ a | Reg r ↦ n | Csr c ↦ n ]) h
+
+pub word_aligned : (n : ℕ) → word_address n % 4 ≡ 0
+word_aligned n = omega arith
+
 -- THE LOG OF A CANDIDATE, IN PARTS
 pub record InParts (t : Turn) (walk : List Entry) (pa : ℕ) (leaf : List Atom) (new : Known) (w : IsCandidate t leaf new) : Type 0 where
   pub tells : (e : Entry) → HasItem w.log e → by_answers t.known (given_by (key_of t leaf new w)) e.question ≡ Some e.value
@@ -93,6 +115,7 @@ pub record InParts (t : Turn) (walk : List Entry) (pa : ℕ) (leaf : List Atom) 
   pub rest : List Entry
   pub plays : answer_told (by_answers t.known (given_by (key_of t leaf new w))) (rest_of t w.instr.op (key_of t leaf new w) (told_a t w.instr.op (key_of t leaf new w)) (told_b t w.instr.op (key_of t leaf new w))) ≡ Does rest w.change
   pub log : w.log ≡ front_log t walk pa w.instr.op (key_of t leaf new w) rest
+  pub source : told_a t w.instr.op (key_of t leaf new w) ≡ key_of t leaf new w slots.A
 
 pub in_parts_of : (t : Turn) (walk : List Entry) (pa : ℕ) (leaf : List Atom) (new : Known) → IsFetched t walk pa → (w : IsCandidate t leaf new) → InParts t walk pa leaf new w
 unfolding candidate_good
@@ -107,6 +130,7 @@ in_parts_of t walk pa leaf new f w =
       rest = back.0;
       plays = back.1;
       log = back.2;
+      source = told_source t walk pa leaf w.instr.op x f g back.0 (is_later t w.instr.op x (told_a t w.instr.op x) (told_b t w.instr.op x) (by_answers t.known (given_by x)) back.0 w.change back.1) back.2;
     }
 
 pub unknown_value : (o : Option ℕ) (v : ℕ) → o ≡ None → value_or o v ≡ v

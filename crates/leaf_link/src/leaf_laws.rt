@@ -3,7 +3,7 @@ ghost use Rattle.leaf_link.specs.Agreements.{LeafAnswersAgree, LeafAnswersExist,
 ghost use Rattle.leaf_link.specs.AllWays.{LeafAnswersAreExact, LeafProblemsAreExact};
 ghost use Rattle.leaf_link.specs.Bounds.{SpaceIsBounded};
 ghost use Rattle.leaf_link.specs.Domains.{CandidatesAreInDomains, CandidatesAreWords, OldDomainsAreLet, OldValuesAreInDomains};
-ghost use Rattle.leaf_link.specs.Placing.{NewWordsAreTwo, PlacesHaveValues, StepsKeepSatp, ValuesAreInstructions};
+ghost use Rattle.leaf_link.specs.Placing.{NewWordsAreFour, PlacesHaveValues, StepsKeepSatp, ValuesAreInstructions};
 ghost use Rattle.leaf_link.specs.Firsts.{FirstsExist, FirstsHoldNothing, PivotsAreExact, SpaceIsExact, TurnAnswersAreExact};
 ghost use Rattle.leaf_link.specs.Problems.{AnswersAreExact, ProblemIsExact};
 ghost use Rattle.leaf_link.specs.Started.{OrderIsKept};
@@ -71,13 +71,12 @@ pub fn candidates_are_in_domains()
     ensures old_domains { OldDomainsAreLet }
 {}
 
-/// Does nothing. Its contract says that where a step makes no data access, or one that is not translated, the place alone
-/// tells which of the candidate's values a new place has, and that the step starts two words at most, the fetched one and
-/// one other; that these values are those of the candidate's instruction; and that no step writes satp but those of CSR
-/// instructions with its address.
+/// Does nothing. Its contract says that a place and a candidate's values tell which of these a new place has; that the step
+/// starts four words at most, the fetched one, two page table entries and the data word; that the values are those of the
+/// candidate's instruction; and that no step writes satp but those of CSR instructions with its address.
 pub fn values_are_by_places()
     ensures places { PlacesHaveValues }
     ensures instructions { ValuesAreInstructions }
     ensures control { StepsKeepSatp }
-    ensures words { NewWordsAreTwo }
+    ensures words { NewWordsAreFour }
 {}

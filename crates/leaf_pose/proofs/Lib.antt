@@ -2,8 +2,9 @@ pub mod Targets
 pub mod Shapes
 pub mod Steps
 pub mod Leading
-pub mod AnyRows
 pub mod Whole
+pub mod OneAddress
+pub mod AddressRows
 pub mod Adding
 pub mod Fetching
 pub mod Accesses

@@ -136,7 +136,7 @@ part_fits s leaf op way x h f =
     domain_parts slot = and_parts (base_domain (turn_of s) 0 leaf (shape_of op (way_at s op way)) slot (x slot)) ((way_at s op way).also slot (x slot)) (f.each slot)
 
 pub plain_ways : (s : Stand) (leaf : List Atom) (op : Op) → is_data (kind_of op) ≡ false → ways_at s leaf op ≡ stand_ways s op
-plain_ways s leaf op n = ap (λ (b : Bool). if b then data_ways s leaf op s.bytes else stand_ways s op) n
+plain_ways s leaf op n = ap (λ (b : Bool). if b then data_ways s leaf op s.accesses else stand_ways s op) n
 
 pub way_shaped : (s : Stand) (leaf : List Atom) (op : Op) (way : Way) (c : ACase) → is_data (kind_of op) ≡ false → IsPartOf s op way → is_posed_at s leaf (shape_at (shape_with op way.end)) ≡ true
     → FitsSame (c ∷ []) (case_at (turn_of s) 0 leaf op (way_at s op way) ∷ []) → IsShaped s leaf (shape_with op way.end) c

@@ -1,8 +1,9 @@
 -- The problem of a leaf, whole.
 use Rattle.std.proofs.Common.{◌≡◌, ℕ, zero, suc, ◌<◌, ◌^◌, Bool, true, false, ◌&&◌, ◌==◌, List, [], ◌∷◌, ◌++◌, Option, Some, None, refl, sym, ap, ◌∙◌, subst, inl, inr, arith, lit<, All, find, get_or, length}
-use Rattle.std.specs.Prelude.{not, IfSome, nat_eq, slice_index_or, ◌||◌}
+use Rattle.std.specs.Prelude.{not, IfSome, if◌then◌else◌, nat_eq, slice_index_or, ◌||◌}
 use Rattle.std.specs.Option.{is_some}
-use Rattle.data_bytes.specs.declared.memory.DataBytes.{DataBytes}
+use Rattle.data_goals.specs.declared.accesses.Accesses.{Accesses}
+use Rattle.data_goals.specs.Grounds.{HasAccesses}
 use Rattle.std.specs.List.{list_all}
 use Rattle.std.proofs.lemmas.Bool.{and_parts, cases_Bool}
 use Rattle.std.proofs.lemmas.Bool.Decides.{nat_tests}
@@ -38,16 +39,16 @@ use Rattle.leaf_pose.specs.declared.shaped.Shaped.{Shaped}
 use Rattle.leaf_stand.specs.declared.stand.Stand.{Stand}
 use Rattle.leaf_pose.specs.Firsts.{AddsFirsts, AreFirstCases}
 use Rattle.leaf_stand.specs.FirstCases.{IsFirstCase}
-use Rattle.leaf_stand.specs.FirstCases.{first_at}
+use Rattle.leaf_stand.specs.FirstCases.{first_at, first_entries, first_entry}
+use Rattle.leaf_stand.specs.Sets.{IsSetOf}
 use Rattle.leaf_stand.specs.Kinds.{kind_of}
 use Rattle.leaf_pose.specs.Posed.{Adds, AreShaped, IsAllowedCase}
-use Rattle.leaf_stand.specs.Posed.{FitsSame, all_cases, allows, are_posable, has_bytes, is_data, is_posable, is_read_as, reads_as}
+use Rattle.leaf_stand.specs.Posed.{FitsSame, all_cases, allows, are_posable, has_accesses, is_data, is_posable, is_read_as, reads_as}
 use Rattle.leaf_pose.specs.Problems.{ArePivots, PosesLeaf}
 use Rattle.leaf_stand.specs.Stands.{IsDataOf, IsStandOf, turn_of}
-use Rattle.leaf_pose.proofs.AnyRows.{any_rows}
 use Rattle.leaf_pose.proofs.Leading.{FindsFirst, first_found, none_found}
 use Rattle.leaf_stand.proofs.Lists.{each_domain}
-use Rattle.leaf_stand.proofs.Rows.{built_address}
+use Rattle.leaf_stand.proofs.Rows.{built_address, data_address}
 use Rattle.leaf_pose.proofs.Shapes.{nothing}
 use Rattle.leaf_stand.proofs.Single.{both_same, domain_in_case}
 use Rattle.leaf_stand.proofs.Fits.{none_yet}
@@ -77,42 +78,45 @@ first_field : (s : Stand) (t : Turn) (walk : List Entry) (pa : ℕ) → IsStandO
 first_field s t walk pa h leaf op slot u v n =
     both_same _ _ _ _ (ap (λ (o : Option ℕ). in_first_word o op slot v) h.word) (all_same s t walk pa h leaf u v n)
 
-or_nothing : (b inside : Bool) (v : ℕ) → b ≡ false → or_no b inside v ≡ nat_eq v 0
-or_nothing b inside v h = ap (λ (c : Bool). or_no c inside v) h
+zero_alone : (b inside : Bool) (v : ℕ) → b ≡ false → or_no b inside v ≡ nat_eq v 0
+zero_alone b inside v h = ap (λ (c : Bool). or_no c inside v) h
 
-no_walk : (t : Turn) (op : Op) → has_address (row_of op) ≡ false → has_walk t op ≡ false
-no_walk t op h = ap (λ (b : Bool). b && is_translated (data_view t.fixed)) h
+pass_walk : (t : Turn) (op : Op) → has_address (row_of op) ≡ true → has_walk t op ≡ is_translated (data_view t.fixed)
+pass_walk t op h = ap (λ (b : Bool). b && is_translated (data_view t.fixed)) h
 
-walkless : (s : Stand) (t : Turn) (walk : List Entry) (pa : ℕ) → IsStandOf s t walk pa → (leaf : List Atom) (op : Op) → is_posable s leaf op ≡ true → allows s leaf op ≡ true → has_walk t op ≡ false
-walkless s t walk pa h leaf op p a = of_kind (is_data (kind_of op)) refl (posable_where s leaf op p a)
+-- the entries that a step of the operation may start are those that it is told
+entries_same : (s : Stand) (t : Turn) (walk : List Entry) (pa : ℕ) → IsStandOf s t walk pa → (leaf : List Atom) (op : Op) → is_posable s leaf op ≡ true → allows s leaf op ≡ true → (of : Accesses → List ℕ) (form : ℕ → Bool)
+    → ((a : Accesses) → HasAccesses t walk pa a → IsSetOf (λ v. or_no (is_translated (data_view t.fixed)) (form v) v) (of a)) → (v : ℕ) → v < 2 ^ 32 → or_no (has_walk t op) (form v) v ≡ first_entries s op of v
+entries_same s t walk pa h leaf op p allowed of form told v small = of_kind (is_data (kind_of op)) refl (posable_where s leaf op p allowed)
   where
-    and_no : (b c : Bool) → c ≡ false → (b && c) ≡ false
-    and_no true c e = e
-    and_no false c e = refl
+    of_told : (o : Option Accesses) → IfSome o (IsDataOf t walk pa) → is_some o ≡ true → or_no (is_translated (data_view t.fixed)) (form v) v ≡ first_entry of o v
+    of_told None is some = absurd (cc some)
+    of_told (Some a) is some = sym (told a is.has v small)
 
-    of_bytes : (o : Option DataBytes) → IfSome o (IsDataOf t walk pa) → is_some o ≡ true → has_walk t op ≡ false
-    of_bytes None is some = absurd (cc some)
-    of_bytes (Some bytes) is some = and_no (has_address (row_of op)) (is_translated (data_view t.fixed)) is.has.plain
+    of_kind : (b : Bool) → is_data (kind_of op) ≡ b → (not (is_data (kind_of op)) || has_accesses s) ≡ true → or_no (has_walk t op) (form v) v ≡ first_entries s op of v
+    of_kind true n k =
+        let address : has_address (row_of op) ≡ true = data_address op n in
+        ap (λ (b : Bool). or_no b (form v) v) (pass_walk t op address) ∙ of_told s.accesses h.accesses (subst (λ (d : Bool). (not d || has_accesses s) ≡ true) n k)
+        ∙ ap (λ (b : Bool). if b then first_entry of s.accesses v else nat_eq v 0) (sym address)
+    of_kind false n k =
+        let none : has_address (row_of op) ≡ false = built_address op n in
+        zero_alone (has_walk t op) (form v) v (ap (λ (b : Bool). b && is_translated (data_view t.fixed)) none) ∙ ap (λ (b : Bool). if b then first_entry of s.accesses v else nat_eq v 0) (sym none)
 
-    of_kind : (b : Bool) → is_data (kind_of op) ≡ b → (not (is_data (kind_of op)) || has_bytes s) ≡ true → has_walk t op ≡ false
-    of_kind true n k = of_bytes s.bytes h.bytes (subst (λ (d : Bool). (not d || has_bytes s) ≡ true) n k)
-    of_kind false n k = no_walk t op (built_address op n)
-
-first_same : (s : Stand) (t : Turn) (walk : List Entry) (pa : ℕ) → IsStandOf s t walk pa → (leaf : List Atom) (op : Op) → has_walk t op ≡ false → (slot : Slot) (v : ℕ) → first_domain t pa leaf op slot v ≡ first_at (turn_of s) leaf op slot v
-first_same s t walk pa h leaf op n slots.Op v = first_field s t walk pa h leaf op slots.Op vars.Op v refl
-first_same s t walk pa h leaf op n slots.Rs1 v = first_field s t walk pa h leaf op slots.Rs1 vars.Rs1 v refl
-first_same s t walk pa h leaf op n slots.Rs2 v = first_field s t walk pa h leaf op slots.Rs2 vars.Rs2 v refl
-first_same s t walk pa h leaf op n slots.Imm v = first_field s t walk pa h leaf op slots.Imm vars.Imm v refl
-first_same s t walk pa h leaf op n slots.Rd v = first_field s t walk pa h leaf op slots.Rd vars.Rd v refl
-first_same s t walk pa h leaf op n slots.Csr v = first_field s t walk pa h leaf op slots.Csr vars.Csr v refl
-first_same s t walk pa h leaf op n slots.Ea v = both_same _ _ _ _ refl (all_same s t walk pa h leaf vars.Ea v refl)
-first_same s t walk pa h leaf op n slots.A v = both_same _ _ _ _ refl (all_same s t walk pa h leaf vars.A v refl)
-first_same s t walk pa h leaf op n slots.B v = both_same _ _ _ _ refl (all_same s t walk pa h leaf vars.B v refl)
-first_same s t walk pa h leaf op n slots.FirstPte v = or_nothing (has_walk t op) (is_first_form t v) v n
-first_same s t walk pa h leaf op n slots.SecondPte v = or_nothing (has_walk t op) (is_second_form t v) v n
-first_same s t walk pa h leaf op n slots.DataWord v = refl
-first_same s t walk pa h leaf op n slots.OldCsr v = refl
-first_same s t walk pa h leaf op n slots.Vector v = ap (λ (l : List ℕ). is_in l v) h.vectors
+first_same : (s : Stand) (t : Turn) (walk : List Entry) (pa : ℕ) → IsStandOf s t walk pa → (leaf : List Atom) (op : Op) → is_posable s leaf op ≡ true → allows s leaf op ≡ true → (slot : Slot) (v : ℕ) → v < 2 ^ 32 → first_domain t pa leaf op slot v ≡ first_at s leaf op slot v
+first_same s t walk pa h leaf op p a slots.Op v small = first_field s t walk pa h leaf op slots.Op vars.Op v refl
+first_same s t walk pa h leaf op p a slots.Rs1 v small = first_field s t walk pa h leaf op slots.Rs1 vars.Rs1 v refl
+first_same s t walk pa h leaf op p a slots.Rs2 v small = first_field s t walk pa h leaf op slots.Rs2 vars.Rs2 v refl
+first_same s t walk pa h leaf op p a slots.Imm v small = first_field s t walk pa h leaf op slots.Imm vars.Imm v refl
+first_same s t walk pa h leaf op p a slots.Rd v small = first_field s t walk pa h leaf op slots.Rd vars.Rd v refl
+first_same s t walk pa h leaf op p a slots.Csr v small = first_field s t walk pa h leaf op slots.Csr vars.Csr v refl
+first_same s t walk pa h leaf op p a slots.Ea v small = both_same _ _ _ _ refl (all_same s t walk pa h leaf vars.Ea v refl)
+first_same s t walk pa h leaf op p a slots.A v small = both_same _ _ _ _ refl (all_same s t walk pa h leaf vars.A v refl)
+first_same s t walk pa h leaf op p a slots.B v small = both_same _ _ _ _ refl (all_same s t walk pa h leaf vars.B v refl)
+first_same s t walk pa h leaf op p a slots.FirstPte v small = entries_same s t walk pa h leaf op p a (λ r. r.firsts) (is_first_form t) (λ r has. has.firsts) v small
+first_same s t walk pa h leaf op p a slots.SecondPte v small = entries_same s t walk pa h leaf op p a (λ r. r.seconds) (is_second_form t) (λ r has. has.seconds) v small
+first_same s t walk pa h leaf op p a slots.DataWord v small = refl
+first_same s t walk pa h leaf op p a slots.OldCsr v small = refl
+first_same s t walk pa h leaf op p a slots.Vector v small = ap (λ (l : List ℕ). is_in l v) h.vectors
 
 -- an operation that is allowed is so at every turn
 eq_self : (n : ℕ) → nat_eq n n ≡ true
@@ -135,20 +139,20 @@ unfolding op_number
 number_small ops.Lui = lit< tt
 number_small _ = lit< tt
 
-is_first : (s : Stand) (t : Turn) (walk : List Entry) (pa : ℕ) → IsStandOf s t walk pa → (leaf : List Atom) (op : Op) (c : ACase) → has_walk t op ≡ false → IsFirstCase s leaf op c → IsFirst t pa leaf op c
-is_first s t walk pa h leaf op c n first = record {
+is_first : (s : Stand) (t : Turn) (walk : List Entry) (pa : ℕ) → IsStandOf s t walk pa → (leaf : List Atom) (op : Op) (c : ACase) → is_posable s leaf op ≡ true → allows s leaf op ≡ true → IsFirstCase s leaf op c → IsFirst t pa leaf op c
+is_first s t walk pa h leaf op c p a first = record {
   allowed = let d = of_slot slots.Op in d.same (op_number op) (number_small op);
   domains = λ allowed slot pos. of_slot slot;
 }
   where
     of_slot : (slot : Slot) → IsDomain (domain_of c slot) (first_domain t pa leaf op slot)
     of_slot slot =
-        let d = each_domain (λ r set. IsDomain set (first_at (turn_of s) leaf op r)) c.doms first.domains slot in
+        let d = each_domain (λ r set. IsDomain set (first_at s leaf op r)) c.doms first.domains slot in
         let e : domain_of c slot ≡ slice_index_or c.doms (slot_number slot) [] = domain_in_case c slot in
         record {
           members = d.members;
           is_set = e ∙ d.is_set;
-          same = λ v small. ap (λ (l : List ℕ). is_in l v) e ∙ d.same v small ∙ sym (first_same s t walk pa h leaf op n slot v);
+          same = λ v small. ap (λ (l : List ℕ). is_in l v) e ∙ d.same v small ∙ sym (first_same s t walk pa h leaf op p a slot v small);
         }
 
 -- every operation is in the list
@@ -175,7 +179,7 @@ firsts_found s t walk pa h leaf cs firsts rest p e are all op = elim (cases_Bool
   | inl a ↦
       let f : FindsFirst s leaf op cs = subst (λ (l : List ACase). FindsFirst s leaf op l) (sym e) (first_found s leaf OPS op firsts rest are (every_op op) a) in
       let posable : is_posable s leaf op ≡ true = test_in (is_posable s leaf) OPS op (every_op op) p in
-      subst (λ (o : Option ACase). IsFirstOf t pa leaf op o) (sym f.found) (is_first s t walk pa h leaf op f.case_is (walkless s t walk pa h leaf op posable a) f.first)
+      subst (λ (o : Option ACase). IsFirstOf t pa leaf op o) (sym f.found) (is_first s t walk pa h leaf op f.case_is posable a f.first)
   | inr n ↦ subst (λ (o : Option ACase). IsFirstOf t pa leaf op o) (sym (none_found s leaf op cs all n)) (allowed_same s t walk pa h leaf op ∙ n)
 ]
   where
@@ -188,7 +192,7 @@ firsts_found s t walk pa h leaf cs firsts rest p e are all op = elim (cases_Bool
 
 pub whole_problem : AreGoals → (s : Stand) (leaf : List Atom) (draws pivots : List ℕ) (start firsts end : Shaped) → are_posable s leaf ≡ true → start.cases ≡ [] → ArePivots draws pivots → AddsFirsts s leaf OPS start firsts → Adds s leaf firsts end (all_cases s leaf OPS)
     → PosesLeaf s leaf draws (record { cases = end.cases; pivots = pivots; pairs = s.pairs; fetch = false })
-whole_problem laws s leaf draws pivots start firsts end p n d h k t walk pa loads stores is rows =
+whole_problem laws s leaf draws pivots start firsts end p n d h k t walk pa loads stores is fetched rows =
     let same : FitsSame end.cases (all_cases s leaf OPS) = k.fits [] (h.adds.fits [] (subst (λ (l : List ACase). FitsSame l []) (sym n) none_yet)) in
     let here : end.cases ≡ h.firsts ++ k.rest = start_gone start.cases h.firsts k.rest end.cases n (k.behind ∙ ap (λ (l : List ACase). l ++ k.rest) h.is) in
     record {
@@ -197,7 +201,7 @@ whole_problem laws s leaf draws pivots start firsts end p n d h k t walk pa load
       pairs = sym is.pairs;
       draws_are = d;
       firsts = firsts_found s t walk pa is leaf end.cases h.firsts k.rest p here h.are (k.allowed (h.adds.allowed (nothing (IsAllowedCase s leaf) start.cases n)));
-      cases = record { same = any_rows s t walk pa is leaf loads stores rows OPS end.cases p (every_turn laws s t walk pa is leaf OPS end.cases p same) };
+      cases = record { same = every_turn laws s t walk pa leaf loads stores (record { stand = is; fetched = fetched; rows = rows }) OPS end.cases p same };
     }
 
 pub shaped_lengths : (s : Stand) (leaf : List Atom) (shapes : List Shape) (cs : List ACase) → AreShaped s leaf shapes cs → length shapes ≡ length cs

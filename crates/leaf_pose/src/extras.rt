@@ -1,14 +1,16 @@
 // What a bias adds to the problem of a leaf.
 
-ghost use Rattle.std.specs.Prelude.{◌≡◌, true, List, length, IfOk, OnOk};
-ghost use Rattle.leaf_pose.specs.Extras.{AddsAddress, AddsBias, AreBiasRelations, stays_at, stays_of};
+ghost use Rattle.std.specs.Prelude.{◌≡◌, ◌∷◌, [], true, List, length, IfOk, IfSome, OnOk};
+ghost use Rattle.dom_set.specs.Elements.{is_in};
+ghost use Rattle.leaf_pose.specs.Extras.{AddsAddress, AddsBias, AddsRows, AreAddressRows, AreBiasRelations, stays_at, stays_of};
 ghost use Rattle.tpl_ast.specs.declared.template.Atom.{Atom as AnAtom};
 ghost use Rattle.leaf_pose.specs.Posed.{AreShaped};
 ghost use Rattle.leaf_stand.specs.Relations.{are_between};
 
 use crate::problem::Posed;
 use crate::relations::push_target;
-use data_goals::accesses_are_goals;
+use data_goals::{DataEnd, DataWay, accesses_are_goals};
+use data_ways::reaching;
 use dom_set::{OutOfMemory, Set};
 use fd_prob::{Extra, Items, Quad, Rel};
 use leaf_link::{biases_in_cases, ways_are_built};
@@ -39,8 +41,67 @@ fn staying(
     Ok(stay)
 }
 
-/// What the atoms say of the physical address of a data access, as a row of virtual ones: these are the same where no data
-/// access is translated.
+/// Appends the row of a way: of its addresses those that lead where a data access is wanted, with its new entries.
+fn push_row(
+    alloc: Global,
+    rows: &mut Items<Quad>,
+    way: &DataWay,
+    wanted: &Set,
+) -> Result<(), OutOfMemory>
+    ensures { OnOk result (AddsRows (is_in wanted.now) (way.now ∷ []) rows.old rows.new) }
+{
+    let DataEnd::At { base, mask } = way.end else {
+        return Ok(());
+    };
+    let there = reaching(alloc, base, mask, wanted)?;
+    let ea = way.ea.and(alloc, &there)?;
+    if ea.is_empty() {
+        return Ok(());
+    }
+    let root = way.first.copy(alloc)?;
+    let leaf = way.second.copy(alloc)?;
+    let word = Set::all(alloc)?;
+    rows.push(Quad {
+        ea,
+        root,
+        leaf,
+        word,
+    })?;
+    Ok(())
+}
+
+/// Appends the rows of ways.
+fn push_rows(
+    alloc: Global,
+    rows: &mut Items<Quad>,
+    ways: &[DataWay],
+    wanted: &Set,
+) -> Result<(), OutOfMemory>
+    ensures { OnOk result (AddsRows (is_in wanted.now) ways.now rows.old rows.new) }
+{
+    for way in ways {
+        push_row(alloc, rows, way, wanted)?;
+    }
+    Ok(())
+}
+
+/// The rows of the addresses that lead where the atoms let the physical address be. Only where it is told what loads and
+/// stores may do, steps make a data access.
+fn address_rows(alloc: Global, stand: &Stand, bias: &[Atom]) -> Result<Items<Quad>, OutOfMemory>
+    ensures { IfOk result (λ rows. IfSome stand.now.accesses (AreAddressRows stand.now bias.now rows)) }
+{
+    let mut rows = Items::new(alloc);
+    let Some(accesses) = &stand.accesses else {
+        return Ok(rows);
+    };
+    let all = Set::all(alloc)?;
+    let wanted = stand.passing(alloc, all, bias, Var::Pa)?;
+    push_rows(alloc, &mut rows, &accesses.loads, &wanted)?;
+    push_rows(alloc, &mut rows, &accesses.stores, &wanted)?;
+    Ok(rows)
+}
+
+/// What the atoms say of the physical address of a data access.
 fn push_address(
     alloc: Global,
     stand: &Stand,
@@ -52,18 +113,7 @@ fn push_address(
     if !speak_of(bias, Var::Pa) {
         return Ok(());
     }
-    let all = Set::all(alloc)?;
-    let ea = stand.passing(alloc, all, bias, Var::Pa)?;
-    let root = Set::all(alloc)?;
-    let leaf = Set::all(alloc)?;
-    let word = Set::all(alloc)?;
-    let mut rows = Items::new(alloc);
-    rows.push(Quad {
-        ea,
-        root,
-        leaf,
-        word,
-    })?;
+    let rows = address_rows(alloc, stand, bias)?;
     rels.push(Rel::Rows(rows))?;
     Ok(())
 }

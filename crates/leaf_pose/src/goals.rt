@@ -1,24 +1,25 @@
 // The cases of loads and stores.
 
-ghost use Rattle.std.specs.Prelude.{◌≡◌, ℕ, ◌∷◌, ◌++◌, [], ◌&&◌, Bool, Some, true, length, IfOk, OnOk};
-ghost use Rattle.dom_set.specs.Elements.{is_in};
+ghost use Rattle.std.specs.Prelude.{◌≡◌, ℕ, ◌∷◌, [], ◌&&◌, Bool, true, length, IfOk, OnOk};
 ghost use Rattle.rv_isa.specs.Numbers.{op_number};
+ghost use Rattle.tpl_ast.specs.declared.template.Var.{Var as AVar};
+ghost use Rattle.fd_prob.specs.declared.slot.Slot.{Slot as ASlot};
 ghost use Rattle.fd_prob.specs.declared.slot.TheConstants.{SLOTS};
 ghost use Rattle.fd_prob.specs.Fitting.{IsCase};
-ghost use Rattle.data_goals.specs.Goals.{IsCut, goal_way, wanted_test};
-ghost use Rattle.leaf_link.specs.Cases.{all_judged, case_at, domain};
+ghost use Rattle.data_goals.specs.declared.accesses.Accesses.{Accesses as AnAccesses};
+ghost use Rattle.data_goals.specs.Goals.{AreTargets, IsCut, goal_way, goals_by, ways_by, ways_for, ways_through};
+ghost use Rattle.leaf_link.specs.Cases.{all_judged, all_tests, case_at, domain};
 ghost use Rattle.leaf_stand.specs.Kinds.{kind_of};
 ghost use Rattle.leaf_stand.specs.Posed.{FitsSame, allows, is_data, stand_cases, ways_at};
 ghost use Rattle.leaf_stand.specs.Relations.{are_between};
 ghost use Rattle.leaf_stand.specs.Sets.{AreDomains, IsSetOf};
 ghost use Rattle.leaf_stand.specs.Stands.{shape_at, turn_of};
-ghost use Rattle.leaf_pose.specs.Goals.{goal_case, goal_rels, goal_shape};
+ghost use Rattle.leaf_pose.specs.Goals.{AreGoalsOf, IsAimed, IsGoalOf, entered_at, goal_rels, goal_shape};
 ghost use Rattle.leaf_pose.specs.Posed.{Adds};
 
 use crate::relations::push_sources;
 use crate::shaped::Shaped;
-use data_bytes::DataBytes;
-use data_goals::{Goal, goal_cut};
+use data_goals::{Accesses, DataEnd, DataWay, Goal, Targets, goal_cut, misses, targets_of};
 use dom_set::{OutOfMemory, Set};
 use fd_prob::{Case, Items, Rel, SLOTS, Slot};
 use leaf_stand::{End, Shape, Stand, push_atoms};
@@ -27,10 +28,10 @@ use std::alloc::Global;
 use tpl_ast::{Atom, Var};
 
 /// How a step of a load or store ends that goes there.
-fn shape_of(op: Op, goal: Goal) -> Shape
-    ensures { result ≡ goal_shape op goal }
+fn shape_of(op: Op, end: DataEnd, goal: Goal) -> Shape
+    ensures { result ≡ goal_shape op end goal }
 {
-    match goal.cause(op) {
+    match goal.cause(op, end) {
         Some(cause) => Shape {
             op,
             end: End::Traps(cause),
@@ -54,21 +55,19 @@ fn left_by(alloc: Global, set: Set, cut: Option<Set>) -> Result<Set, OutOfMemory
     }
 }
 
-/// Of the addresses of a step with a data access those that the atoms let be the physical address; all words of other
-/// variables.
-fn wanted(
+/// The domain of a variable of a stand's step, where a data access may start page table entries and its word.
+fn open_domain(
     alloc: Global,
     stand: &Stand,
     leaf: &[Atom],
-    reaches: bool,
+    shape: Shape,
     slot: Slot,
-    set: Set,
 ) -> Result<Set, OutOfMemory>
-    ensures { IfOk result (IsSetOf (λ v. is_in set v && wanted_test (turn_of stand.now) leaf.now reaches slot v)) }
+    ensures { IfOk result (IsSetOf (entered_at (turn_of stand.now) leaf.now shape slot)) }
 {
-    match (slot, reaches) {
-        (Slot::Ea, true) => stand.passing(alloc, set, leaf, Var::Pa),
-        _ => Ok(set),
+    match slot {
+        Slot::FirstPte | Slot::SecondPte | Slot::DataWord => Ok(Set::all(alloc)?),
+        _ => Ok(stand.open_domain(alloc, leaf, shape, slot)?),
     }
 }
 
@@ -76,37 +75,60 @@ fn wanted(
 fn goal_domain(
     alloc: Global,
     stand: &Stand,
-    bytes: &DataBytes,
     leaf: &[Atom],
     op: Op,
+    way: &DataWay,
     goal: Goal,
+    targets: &Targets,
     slot: Slot,
 ) -> Result<Set, OutOfMemory>
-    ensures { IfOk result (IsSetOf (domain (turn_of stand.now) 0 leaf.now op (goal_way (turn_of stand.now) bytes.now leaf.now op goal) slot)) }
+    ensures { IfOk result (λ set. (a : AnAccesses) → AreTargets a op (all_tests (turn_of stand.now) leaf.now AVar.Pa) targets.now → IsSetOf (domain (turn_of stand.now) 0 leaf.now op (goal_way (turn_of stand.now) a leaf.now op way.now goal) slot) set) }
 {
-    let shape = shape_of(op, goal);
-    let open = stand.open_domain(alloc, leaf, shape, slot)?;
-    let cut = goal_cut(alloc, bytes, op, goal, slot)?;
+    let shape = shape_of(op, way.end, goal);
+    let open = open_domain(alloc, stand, leaf, shape, slot)?;
+    let cut = goal_cut(alloc, op, way, goal, targets, slot)?;
     let left = left_by(alloc, open, cut)?;
-    let domain = wanted(alloc, stand, leaf, shape.reaches, slot, left)?;
-    Ok(domain)
+    Ok(left)
 }
 
-/// The domains of all variables, in their order.
+/// The domain of a variable, where that of the virtual address is known.
+fn domain_beside(
+    alloc: Global,
+    stand: &Stand,
+    leaf: &[Atom],
+    op: Op,
+    way: &DataWay,
+    goal: Goal,
+    targets: &Targets,
+    ea: &Set,
+    slot: Slot,
+) -> Result<Set, OutOfMemory>
+    ensures { IfOk result (λ set. (a : AnAccesses) → AreTargets a op (all_tests (turn_of stand.now) leaf.now AVar.Pa) targets.now → IsSetOf (domain (turn_of stand.now) 0 leaf.now op (goal_way (turn_of stand.now) a leaf.now op way.now goal) ASlot.Ea) ea.now → IsSetOf (domain (turn_of stand.now) 0 leaf.now op (goal_way (turn_of stand.now) a leaf.now op way.now goal) slot) set) }
+{
+    match slot {
+        Slot::Ea => Ok(ea.copy(alloc)?),
+        _ => Ok(goal_domain(alloc, stand, leaf, op, way, goal, targets, slot)?),
+    }
+}
+
+/// The domains of all variables, in their order, where that of the virtual address is known.
 fn goal_domains(
     alloc: Global,
     stand: &Stand,
-    bytes: &DataBytes,
     leaf: &[Atom],
     op: Op,
+    way: &DataWay,
     goal: Goal,
+    targets: &Targets,
+    ea: &Set,
 ) -> Result<Vec<Set>, OutOfMemory>
-    ensures each { IfOk result (λ doms. AreDomains (domain (turn_of stand.now) 0 leaf.now op (goal_way (turn_of stand.now) bytes.now leaf.now op goal)) SLOTS doms.items) }
+    ensures each { IfOk result (λ doms. (a : AnAccesses) → AreTargets a op (all_tests (turn_of stand.now) leaf.now AVar.Pa) targets.now → IsSetOf (domain (turn_of stand.now) 0 leaf.now op (goal_way (turn_of stand.now) a leaf.now op way.now goal) ASlot.Ea) ea.now → AreDomains (domain (turn_of stand.now) 0 leaf.now op (goal_way (turn_of stand.now) a leaf.now op way.now goal)) SLOTS doms.items) }
     ensures length { IfOk result (λ doms. length doms.items ≡ 14) }
 {
     let mut doms = Vec::new(alloc);
     for slot in SLOTS {
-        doms.push(goal_domain(alloc, stand, bytes, leaf, op, goal, slot)?)?;
+        let set = domain_beside(alloc, stand, leaf, op, way, goal, targets, ea, slot)?;
+        doms.push(set)?;
     }
     Ok(doms)
 }
@@ -116,36 +138,39 @@ fn goal_relations(
     alloc: Global,
     stand: &Stand,
     leaf: &[Atom],
-    op: Op,
-    goal: Goal,
+    shape: Shape,
 ) -> Result<Items<Rel>, OutOfMemory>
-    ensures { IfOk result (λ rels. rels ≡ goal_rels stand.now leaf.now op goal) }
+    ensures { IfOk result (λ rels. rels ≡ goal_rels stand.now leaf.now shape) }
 {
     let mut rels = Items::new(alloc);
-    push_sources(alloc, stand, &mut rels, shape_of(op, goal))?;
+    push_sources(alloc, stand, &mut rels, shape)?;
     push_atoms(&mut rels, leaf)?;
-    rels.push(Rel::Sum(Slot::A, Slot::Imm, Slot::Ea))?;
+    if shape.uses_address() {
+        rels.push(Rel::Sum(Slot::A, Slot::Imm, Slot::Ea))?;
+    }
     Ok(rels)
 }
 
-/// The case of a goal.
+/// The case of a goal of a way, where the addresses that fit it are known.
 fn case_of(
     alloc: Global,
     stand: &Stand,
-    bytes: &DataBytes,
     leaf: &[Atom],
     op: Op,
+    way: &DataWay,
     goal: Goal,
+    targets: &Targets,
+    ea: &Set,
 ) -> Result<Case, OutOfMemory>
     requires kind { is_data (kind_of op) ≡ true }
-    requires judged { all_judged (shape_at (goal_shape op goal)) leaf.now ≡ true }
+    requires judged { all_judged (shape_at (goal_shape op way.now.end goal)) leaf.now ≡ true }
     requires between { are_between leaf.now ≡ true }
     ensures shape { IfOk result IsCase }
     ensures number { IfOk result (λ c. c.op ≡ op_number op) }
-    ensures fits { IfOk result (λ c. FitsSame (c ∷ []) (case_at (turn_of stand.now) 0 leaf.now op (goal_way (turn_of stand.now) bytes.now leaf.now op goal) ∷ [])) }
+    ensures fits { IfOk result (λ c. (a : AnAccesses) → AreTargets a op (all_tests (turn_of stand.now) leaf.now AVar.Pa) targets.now → IsSetOf (domain (turn_of stand.now) 0 leaf.now op (goal_way (turn_of stand.now) a leaf.now op way.now goal) ASlot.Ea) ea.now → FitsSame (c ∷ []) (case_at (turn_of stand.now) 0 leaf.now op (goal_way (turn_of stand.now) a leaf.now op way.now goal) ∷ [])) }
 {
-    let doms = goal_domains(alloc, stand, bytes, leaf, op, goal)?;
-    let rels = goal_relations(alloc, stand, leaf, op, goal)?;
+    let doms = goal_domains(alloc, stand, leaf, op, way, goal, targets, ea)?;
+    let rels = goal_relations(alloc, stand, leaf, shape_of(op, way.end, goal))?;
     Ok(Case {
         op: op.number(),
         doms: Items::from_vec(doms),
@@ -153,32 +178,100 @@ fn case_of(
     })
 }
 
-/// Appends the case of a goal, where it is posed.
+/// Appends the case of a goal of a way, where it is posed and some address fits it.
 fn push_goal(
     alloc: Global,
     stand: &Stand,
-    bytes: &DataBytes,
     shaped: &mut Shaped,
     leaf: &[Atom],
     op: Op,
+    way: &DataWay,
     goal: Goal,
+    targets: &Targets,
 ) -> Result<(), OutOfMemory>
     requires kind { is_data (kind_of op) ≡ true }
-    requires bytes { stand.now.bytes ≡ Some bytes.now }
     requires between { are_between leaf.now ≡ true }
     requires allowed { allows stand.now leaf.now op ≡ true }
-    ensures { OnOk result (Adds stand.now leaf.now shaped.old shaped.new (goal_case stand.now bytes.now leaf.now op goal)) }
+    ensures { OnOk result ((a : AnAccesses) → IsAimed stand.now leaf.now op a targets.now → IsGoalOf stand.now leaf.now op a way.now goal → Adds stand.now leaf.now shaped.old shaped.new (stand_cases stand.now leaf.now op (goal_way (turn_of stand.now) a leaf.now op way.now goal ∷ []))) }
 {
-    let shape = shape_of(op, goal);
+    let shape = shape_of(op, way.end, goal);
     if !stand.is_posed(leaf, shape) {
         return Ok(());
     }
-    let case = case_of(alloc, stand, bytes, leaf, op, goal)?;
+    let ea = goal_domain(alloc, stand, leaf, op, way, goal, targets, Slot::Ea)?;
+    if ea.is_empty() {
+        return Ok(());
+    }
+    let case = case_of(alloc, stand, leaf, op, way, goal, targets, &ea)?;
     shaped.push(case, shape)?;
     Ok(())
 }
 
-/// Appends the cases of a load or store, where it is told what may be done with the bytes of memory.
+/// Appends the cases of the goals of a way.
+fn push_way(
+    alloc: Global,
+    stand: &Stand,
+    shaped: &mut Shaped,
+    leaf: &[Atom],
+    op: Op,
+    way: &DataWay,
+    targets: &Targets,
+) -> Result<(), OutOfMemory>
+    requires kind { is_data (kind_of op) ≡ true }
+    requires between { are_between leaf.now ≡ true }
+    requires allowed { allows stand.now leaf.now op ≡ true }
+    ensures { OnOk result ((a : AnAccesses) → IsAimed stand.now leaf.now op a targets.now → AreGoalsOf stand.now leaf.now op a way.now → Adds stand.now leaf.now shaped.old shaped.new (stand_cases stand.now leaf.now op (ways_by (turn_of stand.now) a leaf.now op way.now (goals_by way.now.end)))) }
+{
+    match way.end {
+        DataEnd::Fails(_) => {
+            push_goal(alloc, stand, shaped, leaf, op, way, Goal::Fails, targets)?;
+        }
+        DataEnd::At { .. } => {
+            push_goal(alloc, stand, shaped, leaf, op, way, Goal::Known, targets)?;
+            push_goal(alloc, stand, shaped, leaf, op, way, Goal::Fresh, targets)?;
+        }
+    }
+    Ok(())
+}
+
+/// Appends the cases of the goals of ways.
+fn push_ways(
+    alloc: Global,
+    stand: &Stand,
+    shaped: &mut Shaped,
+    leaf: &[Atom],
+    op: Op,
+    ways: &[DataWay],
+    targets: &Targets,
+) -> Result<(), OutOfMemory>
+    requires kind { is_data (kind_of op) ≡ true }
+    requires between { are_between leaf.now ≡ true }
+    requires allowed { allows stand.now leaf.now op ≡ true }
+    ensures { OnOk result ((a : AnAccesses) → IsAimed stand.now leaf.now op a targets.now → ways.now ≡ ways_for a op → Adds stand.now leaf.now shaped.old shaped.new (stand_cases stand.now leaf.now op (ways_through (turn_of stand.now) a leaf.now op ways.now))) }
+{
+    for way in ways {
+        push_way(alloc, stand, shaped, leaf, op, way, targets)?;
+    }
+    Ok(())
+}
+
+/// The physical addresses to which a load or store of a leaf may go.
+fn aimed(
+    alloc: Global,
+    stand: &Stand,
+    accesses: &Accesses,
+    leaf: &[Atom],
+    op: Op,
+) -> Result<Targets, OutOfMemory>
+    ensures { IfOk result (AreTargets accesses.now op (all_tests (turn_of stand.now) leaf.now AVar.Pa)) }
+{
+    let all = Set::all(alloc)?;
+    let wanted = stand.passing(alloc, all, leaf, Var::Pa)?;
+    let targets = targets_of(alloc, accesses, op, &wanted)?;
+    Ok(targets)
+}
+
+/// Appends the cases of a load or store, where it is told what they may do.
 pub fn push_data(
     alloc: Global,
     stand: &Stand,
@@ -191,12 +284,21 @@ pub fn push_data(
     requires allowed { allows stand.now leaf.now op ≡ true }
     ensures { OnOk result (Adds stand.now leaf.now shaped.old shaped.new (stand_cases stand.now leaf.now op (ways_at stand.now leaf.now op))) }
 {
-    let Some(bytes) = &stand.bytes else {
+    let Some(accesses) = &stand.accesses else {
         return Ok(());
     };
-    push_goal(alloc, stand, bytes, shaped, leaf, op, Goal::Misaligned)?;
-    push_goal(alloc, stand, bytes, shaped, leaf, op, Goal::Outside)?;
-    push_goal(alloc, stand, bytes, shaped, leaf, op, Goal::Known)?;
-    push_goal(alloc, stand, bytes, shaped, leaf, op, Goal::Fresh)?;
+    let targets = aimed(alloc, stand, accesses, leaf, op)?;
+    let missing = misses(alloc);
+    push_goal(
+        alloc,
+        stand,
+        shaped,
+        leaf,
+        op,
+        &missing,
+        Goal::Misaligned,
+        &targets,
+    )?;
+    push_ways(alloc, stand, shaped, leaf, op, accesses.ways(op), &targets)?;
     Ok(())
 }

@@ -1,8 +1,8 @@
 //! Leaves of templates posed as problems, from what is known where they stand: for each operation and each way in which
-//! its step may end, a case of domains and relations; of a CSR instruction one for each register and usage; of a load or
-//! store, which is posed where no data access is translated, one for each goal; of a fetch, translated or not, one for each
-//! of its ways. It stands on `leaf_csrs`, `leaf_stand`, `data_goals` and `fetch_ways`. It promises that the problem is the
-//! definition's at every turn that the stand tells, and what is added for a bias is the bias.
+//! its step may end, a case of domains and relations; of a CSR instruction one for each register and usage; of a load
+//! or store one for each goal of each way; of a fetch one for each of its ways. It stands on `leaf_csrs`, `leaf_stand`,
+//! `data_goals`, `data_ways` and `fetch_ways`. It promises that the problem is the definition's at every turn that the
+//! stand tells, and what is added for a bias is the bias.
 #![tactic(auto)]
 
 mod cases;

@@ -18,7 +18,7 @@ use Rattle.leaf_link.specs.Values.{Values}
 use Rattle.leaf_link.specs.Cases.{Case, Fits, FitsCase, Way as AWay, all_tests, case_at, case_if, domain, in_read, in_word, shape_of}
 use Rattle.leaf_link.specs.Answers.{values_in}
 use Rattle.leaf_stand.specs.declared.stand.Stand.{Stand}
-use Rattle.leaf_stand.specs.Posed.{FitsSame, allows, has_bytes, is_data, is_posable, is_posed_at, is_read_as, reads_as, stand_cases}
+use Rattle.leaf_stand.specs.Posed.{FitsSame, allows, has_accesses, is_data, is_posable, is_posed_at, is_read_as, reads_as, stand_cases}
 use Rattle.leaf_stand.specs.Kinds.{kind_of}
 use Rattle.leaf_stand.specs.Stands.{turn_of}
 
@@ -97,9 +97,9 @@ stand_allowed s leaf op (way ∷ ways) x f = elim (either_fits (is_posed_at s le
 pub not_allowed : (s : Stand) (leaf : List Atom) (op : Op) (ways : List AWay) → allows s leaf op ≡ false → FitsSame [] (stand_cases s leaf op ways)
 not_allowed s leaf op ways n x hx = (λ h. absurd (cc h), λ f. let y = stand_allowed s leaf op ways (values_in x) f in absurd (cc))
 
--- an operation that may be posed and is allowed is no load or store, unless the bytes are told
-pub posable_where : (s : Stand) (leaf : List Atom) (op : Op) → is_posable s leaf op ≡ true → allows s leaf op ≡ true → (not (is_data (kind_of op)) || has_bytes s) ≡ true
-posable_where s leaf op h a = of_bools (not (is_data (kind_of op)) || has_bytes s) (allows s leaf op) h a
+-- an operation that may be posed and is allowed is no load or store, unless it is told what they may do
+pub posable_where : (s : Stand) (leaf : List Atom) (op : Op) → is_posable s leaf op ≡ true → allows s leaf op ≡ true → (not (is_data (kind_of op)) || has_accesses s) ≡ true
+posable_where s leaf op h a = of_bools (not (is_data (kind_of op)) || has_accesses s) (allows s leaf op) h a
   where
     of_bools : (b d : Bool) → (b || not d) ≡ true → d ≡ true → b ≡ true
     of_bools true d p q = refl

@@ -1,13 +1,15 @@
 -- The cases of a stand are those of every turn that it tells.
-use Rattle.std.proofs.Common.{◌≡◌, ℕ, ◌⊎◌, Bool, true, false, ◌&&◌, ◌||◌, List, [], ◌∷◌, Option, Some, None, refl, sym, ap, ◌∙◌, subst, inl, inr, ◌^◌}
+use Rattle.std.proofs.Common.{◌≡◌, ℕ, ◌⊎◌, Bool, true, false, ◌&&◌, ◌||◌, List, [], ◌∷◌, ◌++◌, ◌==◌, Option, Some, None, refl, sym, ap, ◌∙◌, subst, inl, inr, ◌^◌}
 use Rattle.std.specs.Prelude.{not, if◌then◌else◌, length, nat_eq, nat_le, nat_lt, IfSome}
 use Rattle.std.specs.List.{list_all}
 use Rattle.std.proofs.lemmas.Bool.{and_from, and_parts}
+use Rattle.std.proofs.Math.Path.{fun_ext}
 use Rattle.std.specs.Option.{is_some, unwrap_or}
 use Rattle.dom_set.specs.Elements.{is_in}
 use Rattle.dom_set.proofs.Sets.{elements_same}
 use Rattle.rv_isa.specs.declared.operation.Op.{Op}
 use Rattle.rv_isa.specs.declared.operation.Op.TheVariants as ops
+use Rattle.rv_isa.specs.Fields.{reads_rs1}
 use Rattle.rv_isa.specs.Table.{row_of}
 use Rattle.rv_csr.specs.declared.cause.Cause.{Cause}
 use Rattle.rv_csr.specs.declared.cause.Cause.TheVariants as causes
@@ -42,9 +44,9 @@ use Rattle.fd_prob.specs.declared.problem.Case.{Case as ACase}
 use Rattle.fd_prob.specs.declared.slot.Slot.{Slot}
 use Rattle.fd_prob.specs.declared.slot.Slot.TheVariants as slots
 use Rattle.rv_isa.specs.Numbers.{op_number}
-use Rattle.leaf_link.specs.Turns.{Turn, holds_address, is_narrow, is_small, may_be_old, may_be_source}
-use Rattle.leaf_link.specs.Values.{Values, instr_in}
-use Rattle.leaf_link.specs.Cases.{Case, Fits, FitsCase, Shape as AShape, Way as AWay, all_relate, all_tests, atoms_hold, base_domain, case_at, case_if, cases_of, domain, in_word, is_held, is_posed, is_some_word, is_value_named, or_no, shape_of, sources_hold, target_at, tests, unless, uses, uses_address, uses_rs1, uses_rs2, value_at}
+use Rattle.leaf_link.specs.Turns.{Turn, holds_address, is_free_entry, is_narrow, is_small, may_be_old, may_be_source}
+use Rattle.leaf_link.specs.Values.{Values, has_address, instr_in}
+use Rattle.leaf_link.specs.Cases.{Case, Fits, FitsCase, Shape as AShape, Way as AWay, all_judged, all_relate, all_tests, atoms_hold, base_domain, case_at, case_if, cases_of, domain, fetch_entry, in_word, is_held, is_posed, is_some_word, is_value_named, may_fetch, or_no, shape_of, sources_hold, target_at, tests, unless, uses, uses_address, uses_rs1, uses_rs2, value_at}
 use Rattle.leaf_link.specs.Kinds.{always, branch_goes, far_is_target, forks, is_vector, near_is_target, retires, retires_when, traps, traps_when, vector_alone, vector_at}
 use Rattle.leaf_link.specs.Controls.{access_in, csr_ways, grants, is_denied, is_legal_write, is_old, is_old_value, is_read_old, operand_in, return_ways, writes_in}
 use Rattle.leaf_link.specs.Answers.{values_in}
@@ -52,18 +54,19 @@ use Rattle.leaf_link.specs.AllWays.{ways_of}
 use Rattle.leaf_link.specs.Problems.{cases_over}
 use Rattle.leaf_stand.specs.declared.stand.Stand.{Stand}
 use Rattle.leaf_stand.specs.Kinds.{kind_of}
-use Rattle.leaf_stand.specs.Posed.{FitsSame, all_cases, allows, data_ways, has_bytes, is_data, is_posable, is_posed_at, stand_cases, stand_ways, ways_at}
+use Rattle.leaf_stand.specs.Posed.{FitsSame, all_cases, allows, data_ways, has_accesses, is_data, is_posable, is_posed_at, stand_cases, stand_ways, ways_at}
+use Rattle.leaf_stand.specs.DataRows.{AreRowsOf, AreRowsOfPages}
 use Rattle.leaf_stand.specs.Stands.{IsDataOf, IsStandOf, turn_of}
-use Rattle.data_bytes.specs.declared.memory.DataBytes.{DataBytes}
+use Rattle.data_goals.specs.declared.accesses.Accesses.{Accesses}
 use Rattle.data_goals.specs.declared.goal.Goal.{Goal}
-use Rattle.data_goals.specs.declared.goal.Goal.TheVariants.{Fresh, Known, Misaligned, Outside}
-use Rattle.data_goals.specs.Goals.{cause_of, end_test, goal_test, goal_way, goal_ways, retires as goal_retires, wanted_test}
-use Rattle.data_goals.specs.Laws.{AreSmall, GoalsAreWays, WaysAreGoals}
-use Rattle.data_goals.specs.Rows.{rows_without}
+use Rattle.data_goals.specs.declared.goal.Goal.TheVariants.{Misaligned}
+use Rattle.data_ways.specs.declared.way.DataWay.{DataWay}
+use Rattle.data_goals.specs.Goals.{cause_of, end_test, goal_test, goal_way, goal_ways, goals_by, misses, ways_by, ways_for, ways_through}
+use Rattle.data_goals.specs.Grounds.{HasAccesses}
+use Rattle.data_goals.specs.Laws.{AreSmall, GoalsAreWays, IsDataStep, WaysAreGoals, has_code}
 use Rattle.rv_hart.specs.declared.record.Record.{Record}
 use Rattle.rv_script.specs.Lists.{HasItem}
-use Rattle.sv_walk.specs.declared.entry.Kind.TheVariants.{Load as ForLoad, Store as ForStore}
-use Rattle.leaf_link.specs.Ways.{FitsWay, HasWay}
+use Rattle.leaf_link.specs.Ways.{FitsWay, HasWay, IsFetched}
 use Rattle.leaf_stand.proofs.Rows.{data_address}
 use Rattle.leaf_stand.proofs.Single.{both_same, word_at}
 use Rattle.leaf_stand.proofs.Fits.{fits_either, fits_left, fits_right, in_word_reads, posable_where}
@@ -380,33 +383,39 @@ turn_ways_allowed s t walk pa h leaf op (way ∷ ways) x f = elim (head_or_later
 ]
 
 -- LOADS AND STORES
-pub goal_same : (s : Stand) (t : Turn) (walk : List Entry) (pa : ℕ) → IsStandOf s t walk pa → t.others ≡ [] → (bytes : DataBytes) (leaf : List Atom) (op : Op) (goal : Goal) → IsSameWay (goal_way (turn_of s) bytes leaf op goal) (goal_way t bytes leaf op goal)
-goal_same s t walk pa h alone bytes leaf op goal = record {
+pub goal_same : (s : Stand) (t : Turn) (walk : List Entry) (pa : ℕ) → IsStandOf s t walk pa → t.others ≡ [] → (a : Accesses) (leaf : List Atom) (op : Op) (way : DataWay) (goal : Goal) → IsSameWay (goal_way (turn_of s) a leaf op way goal) (goal_way t a leaf op way goal)
+goal_same s t walk pa h alone a leaf op way goal = record {
   outcome = refl;
   reaches = refl;
-  also = λ slot v. both_same _ _ _ _ (end_same (cause_of op goal) slot v) (ap (λ (b : Bool). goal_test bytes op goal slot v && b) (wanted_same (goal_retires (cause_of op goal)) slot v));
+  also = λ slot v. both_same _ _ _ _ (end_same (cause_of op way.end goal) slot v) (ap (λ (wanted : ℕ → Bool). goal_test a op way wanted goal slot v) wanted_same);
   holds = λ x. refl;
 }
   where
-    vector_alone_same : (cause : Cause) (slot : Slot) (v : ℕ) → vector_alone (turn_of s) cause slot v ≡ vector_alone t cause slot v
-    vector_alone_same cause slots.Vector v = vector_same s t walk pa h cause v
-    vector_alone_same cause slots.Op v = refl
-    vector_alone_same cause _ v = refl
-
     end_same : (o : Option Cause) (slot : Slot) (v : ℕ) → end_test (turn_of s) o slot v ≡ end_test t o slot v
-    end_same None slots.Op v = refl
-    end_same None _ v = refl
-    end_same (Some cause) slot v = vector_alone_same cause slot v
+    end_same (Some cause) slots.Vector v = vector_same s t walk pa h cause v
+    end_same None slots.Vector v = refl
+    end_same o slots.OldCsr v = refl
+    end_same o _ v = refl
 
-    wanted_same : (reaches : Bool) (slot : Slot) (v : ℕ) → wanted_test (turn_of s) leaf reaches slot v ≡ wanted_test t leaf reaches slot v
-    wanted_same true slots.Ea v = sym (all_same_alone s t walk pa h alone leaf vars.Pa v)
-    wanted_same true slots.Op v = refl
-    wanted_same true _ v = refl
-    wanted_same false slots.Op v = refl
-    wanted_same false _ v = refl
+    wanted_same : all_tests (turn_of s) leaf vars.Pa ≡ all_tests t leaf vars.Pa
+    wanted_same = fun_ext (λ v. sym (all_same_alone s t walk pa h alone leaf vars.Pa v))
 
-goals_same : (s : Stand) (t : Turn) (walk : List Entry) (pa : ℕ) → IsStandOf s t walk pa → t.others ≡ [] → (bytes : DataBytes) (leaf : List Atom) (op : Op) → AreSameWays (goal_ways (turn_of s) bytes leaf op) (goal_ways t bytes leaf op)
-goals_same s t walk pa h alone bytes leaf op = (goal_same s t walk pa h alone bytes leaf op Misaligned, (goal_same s t walk pa h alone bytes leaf op Outside, (goal_same s t walk pa h alone bytes leaf op Known, (goal_same s t walk pa h alone bytes leaf op Fresh, record {}))))
+same_either : (ps qs rs us : List AWay) → AreSameWays ps qs → AreSameWays rs us → AreSameWays (ps ++ rs) (qs ++ us)
+same_either [] [] rs us f g = g
+same_either (p ∷ ps) (q ∷ qs) rs us f g = (f.0, same_either ps qs rs us f.1 g)
+same_either (p ∷ ps) [] rs us f g = absurd f
+same_either [] (q ∷ qs) rs us f g = absurd f
+
+goals_same : (s : Stand) (t : Turn) (walk : List Entry) (pa : ℕ) → IsStandOf s t walk pa → t.others ≡ [] → (a : Accesses) (leaf : List Atom) (op : Op) → AreSameWays (goal_ways (turn_of s) a leaf op) (goal_ways t a leaf op)
+goals_same s t walk pa h alone a leaf op = (goal_same s t walk pa h alone a leaf op misses Misaligned, through_same (ways_for a op))
+  where
+    by_same : (way : DataWay) (goals : List Goal) → AreSameWays (ways_by (turn_of s) a leaf op way goals) (ways_by t a leaf op way goals)
+    by_same way [] = record {}
+    by_same way (goal ∷ goals) = (goal_same s t walk pa h alone a leaf op way goal, by_same way goals)
+
+    through_same : (ways : List DataWay) → AreSameWays (ways_through (turn_of s) a leaf op ways) (ways_through t a leaf op ways)
+    through_same [] = record {}
+    through_same (way ∷ ways) = same_either _ _ _ _ (by_same way (goals_by way.end)) (through_same ways)
 
 -- the cases of ways are those of others that the same values fit, with the same end
 abbrev shape_made : Op → ℕ → Bool → AShape
@@ -473,78 +482,127 @@ pub record HasFittedWay (t : Turn) (walk : List Entry) (pa : ℕ) (leaf : List A
   pub posed : is_posed t walk pa leaf (shape_of op way) ≡ true
   pub fits : FitsCase (case_at t pa leaf op way) x
 
-pub way_moved : (t : Turn) (walk : List Entry) (pa : ℕ) (leaf : List Atom) (op : Op) (ps qs : List AWay) (x : Values) → ((outcome : ℕ) (reaches : Bool) → HasWay op ps x outcome reaches → HasWay op qs x outcome reaches)
-    → (way : AWay) → HasItem ps way → is_posed t walk pa leaf (shape_of op way) ≡ true → FitsCase (case_at t pa leaf op way) x → HasFittedWay t walk pa leaf op qs x (shape_of op way)
-way_moved t walk pa leaf op ps qs x move way item posed fits =
-    let m = move way.outcome way.reaches (record { way = way; is = item; fits = way_fitted t pa leaf op way x fits; outcome_is = refl; reaches_is = refl }) in
+pub way_moved : (t : Turn) (walk : List Entry) (pa : ℕ) (leaf : List Atom) (op : Op) (ps qs : List AWay) (x : Values) (way : AWay) → (HasWay op ps x way.outcome way.reaches → HasWay op qs x way.outcome way.reaches)
+    → HasItem ps way → is_posed t walk pa leaf (shape_of op way) ≡ true → FitsCase (case_at t pa leaf op way) x → HasFittedWay t walk pa leaf op qs x (shape_of op way)
+way_moved t walk pa leaf op ps qs x way move item posed fits =
+    let m = move (record { way = way; is = item; fits = way_fitted t pa leaf op way x fits; outcome_is = refl; reaches_is = refl }) in
     let e : shape_of op way ≡ shape_of op m.way = sym (ap (λ (n : ℕ). shape_made op n m.way.reaches) m.outcome_is ∙ ap (λ (r : Bool). shape_made op way.outcome r) m.reaches_is) in
     record { way = m.way; is = m.is; shape_is = sym e; posed = subst (λ (sh : AShape). is_posed t walk pa leaf sh ≡ true) e posed; fits = case_moved t pa leaf op way m.way x e fits m.fits }
 
-ways_moved : (t : Turn) (walk : List Entry) (pa : ℕ) (leaf : List Atom) (op : Op) (ps qs : List AWay) (x : Values) → ((outcome : ℕ) (reaches : Bool) → HasWay op ps x outcome reaches → HasWay op qs x outcome reaches)
+-- what is moved is posed and fits its case
+ways_moved : (t : Turn) (walk : List Entry) (pa : ℕ) (leaf : List Atom) (op : Op) (ps qs : List AWay) (x : Values)
+    → ((way : AWay) → is_posed t walk pa leaf (shape_of op way) ≡ true → FitsCase (case_at t pa leaf op way) x → HasWay op ps x way.outcome way.reaches → HasWay op qs x way.outcome way.reaches)
     → Fits (cases_of t walk pa leaf op ps) x → Fits (cases_of t walk pa leaf op qs) x
 ways_moved t walk pa leaf op ps qs x move f =
     let k = has_posed t walk pa leaf op ps x f in
-    let m = way_moved t walk pa leaf op ps qs x move k.way k.is k.posed k.fits in
+    let m = way_moved t walk pa leaf op ps qs x k.way (move k.way k.posed k.fits) k.is k.posed k.fits in
     fits_item t walk pa leaf op qs m.way x m.is m.posed m.fits
+
+-- WHERE A LOAD OR STORE IS POSED
+fetch_code : (t : Turn) (walk : List Entry) (pa : ℕ) (leaf : List Atom) (sh : AShape) → is_posed t walk pa leaf sh ≡ true → has_code t pa ≡ true
+fetch_code t walk pa leaf sh p =
+    let a = (and_parts (may_fetch t walk pa) (all_judged sh leaf && all_tests t leaf vars.Outcome sh.outcome) p).0 in
+    (and_parts (is_free_entry t (fetch_entry t pa 0)) (has_code t pa) (and_parts (list_all (is_free_entry t) walk) (is_free_entry t (fetch_entry t pa 0) && has_code t pa) a).1).1
+
+address_reads : (op : Op) → has_address (row_of op) ≡ true → reads_rs1 (row_of op) ≡ true
+address_reads ops.Lb h = refl
+address_reads ops.Lh h = refl
+address_reads ops.Lw h = refl
+address_reads ops.Lbu h = refl
+address_reads ops.Lhu h = refl
+address_reads ops.Sb h = refl
+address_reads ops.Sh h = refl
+address_reads ops.Sw h = refl
+address_reads _ h = absurd (cc h)
+
+not_refused : (b : Bool) → b ≡ false → not b ≡ true
+not_refused true e = absurd (cc e)
+not_refused false e = refl
+
+inside_where : (b inside : Bool) (v : ℕ) → or_no b inside v ≡ true → b ≡ true → inside ≡ true
+inside_where true inside v h e = h
+inside_where false inside v h e = absurd (cc e)
+
+-- an address that fits a case passes the leaf's tests, where the instruction is not refused
+pub address_tested : (t : Turn) (pa : ℕ) (leaf : List Atom) (op : Op) (way : AWay) (x : Values) → has_address (row_of op) ≡ true → FitsCase (case_at t pa leaf op way) x → (way.outcome == 2) ≡ false → all_tests t leaf vars.Ea (x slots.Ea) ≡ true
+address_tested t pa leaf op way x address f n =
+    let d = (and_parts (base_domain t pa leaf (shape_of op way) slots.Ea (x slots.Ea)) (way.also slots.Ea (x slots.Ea)) (f.each slots.Ea)).0 in
+    (and_parts (nat_lt (x slots.Ea) (2 ^ 32)) (all_tests t leaf vars.Ea (x slots.Ea))
+    (inside_where (uses_address (shape_of op way)) (nat_lt (x slots.Ea) (2 ^ 32) && all_tests t leaf vars.Ea (x slots.Ea)) (x slots.Ea) d (and_from _ _ address (and_from _ _ (address_reads op address) (not_refused (way.outcome == 2) n))))).1
+
+-- where a case of a load or store is posed and fits, it is a step over the rows
+pub data_step : (t : Turn) (walk : List Entry) (pa : ℕ) (leaf : List Atom) (a : Accesses) (loads stores : List EntryRow) → HasAccesses t walk pa a → IsFetched t walk pa → AreRowsOfPages t leaf loads stores a
+    → (op : Op) (x : Values) → AreSmall x → has_address (row_of op) ≡ true → (way : AWay) → is_posed t walk pa leaf (shape_of op way) ≡ true → FitsCase (case_at t pa leaf op way) x → IsDataStep t walk pa a loads stores op x way.outcome
+data_step t walk pa leaf a loads stores has fetched rows op x small address way posed fits = record {
+  accesses = has;
+  fetched = fetched;
+  code = fetch_code t walk pa leaf (shape_of op way) posed;
+  load_rows = rows.loads;
+  store_rows = rows.stores;
+  addressed = address;
+  small = small;
+  page = λ n. rows.pages (x slots.Ea) (small slots.Ea) (address_tested t pa leaf op way x address fits n);
+}
 
 -- OPERATIONS
 pub record AreGoals : Type 0 where
   pub there : GoalsAreWays
   pub back : WaysAreGoals
 
--- the ways of the definition, over the rows of addresses that are not translated
-abbrev pub turn_ways : Turn → List Entry → ℕ → List Atom → Op → List AWay
-turn_ways t walk pa leaf op = ways_of t walk pa leaf (rows_without t ForLoad) (rows_without t ForStore) op
+-- the turn's fetch is settled, and its rows are those of the stand's pages
+pub record IsPosedOver (s : Stand) (t : Turn) (walk : List Entry) (pa : ℕ) (leaf : List Atom) (loads stores : List EntryRow) : Type 0 where
+  pub stand : IsStandOf s t walk pa
+  pub fetched : IsFetched t walk pa
+  pub rows : AreRowsOf s t leaf loads stores
 
-bytes_there : AreGoals → (s : Stand) (t : Turn) (walk : List Entry) (pa : ℕ) → IsStandOf s t walk pa → (leaf : List Atom) (op : Op) (x : Values) → AreSmall x → is_data (kind_of op) ≡ true → (o : Option DataBytes) → IfSome o (IsDataOf t walk pa)
-    → Fits (stand_cases s leaf op (data_ways s leaf op o)) x → Fits (cases_of t walk pa leaf op (turn_ways t walk pa leaf op)) x
-bytes_there laws s t walk pa h leaf op x small n None is f = absurd f
-bytes_there laws s t walk pa h leaf op x small n (Some bytes) is f =
-    let g = ways_there s t walk pa h leaf op (goal_ways (turn_of s) bytes leaf op) (goal_ways t bytes leaf op) (goals_same s t walk pa h is.alone bytes leaf op) x f in
-    subst (λ (w : List Entry). Fits (cases_of t walk pa leaf op (turn_ways t w pa leaf op)) x) (sym is.untranslated)
-    (ways_moved t walk pa leaf op (goal_ways t bytes leaf op) (turn_ways t [] pa leaf op) x (λ outcome reaches. laws.there t pa bytes leaf op x outcome reaches is.has (data_address op n) small) g)
+module _ (laws : AreGoals) (s : Stand) (t : Turn) (walk : List Entry) (pa : ℕ) (leaf : List Atom) (loads stores : List EntryRow) (h : IsPosedOver s t walk pa leaf loads stores) where
+  data_there : (op : Op) (x : Values) → AreSmall x → is_data (kind_of op) ≡ true → (o : Option Accesses) → IfSome o (IsDataOf t walk pa) → IfSome o (AreRowsOfPages t leaf loads stores)
+      → Fits (stand_cases s leaf op (data_ways s leaf op o)) x → Fits (cases_of t walk pa leaf op (ways_of t walk pa leaf loads stores op)) x
+  data_there op x small n None is rows f = absurd f
+  data_there op x small n (Some a) is rows f =
+      let g = ways_there s t walk pa h.stand leaf op (goal_ways (turn_of s) a leaf op) (goal_ways t a leaf op) (goals_same s t walk pa h.stand is.alone a leaf op) x f in
+      ways_moved t walk pa leaf op (goal_ways t a leaf op) (ways_of t walk pa leaf loads stores op) x
+      (λ way posed fits. laws.there t walk pa a loads stores leaf op x way.outcome way.reaches (data_step t walk pa leaf a loads stores is.has h.fetched rows op x small (data_address op n) way posed fits)) g
 
-bytes_back : AreGoals → (s : Stand) (t : Turn) (walk : List Entry) (pa : ℕ) → IsStandOf s t walk pa → (leaf : List Atom) (op : Op) (x : Values) → AreSmall x → is_data (kind_of op) ≡ true → (o : Option DataBytes) → IfSome o (IsDataOf t walk pa)
-    → is_some o ≡ true → Fits (cases_of t walk pa leaf op (turn_ways t walk pa leaf op)) x → Fits (stand_cases s leaf op (data_ways s leaf op o)) x
-bytes_back laws s t walk pa h leaf op x small n None is some f = absurd (cc some)
-bytes_back laws s t walk pa h leaf op x small n (Some bytes) is some f =
-    let g : Fits (cases_of t walk pa leaf op (turn_ways t [] pa leaf op)) x = subst (λ (w : List Entry). Fits (cases_of t walk pa leaf op (turn_ways t w pa leaf op)) x) is.untranslated f in
-    ways_back s t walk pa h leaf op (goal_ways (turn_of s) bytes leaf op) (goal_ways t bytes leaf op) (goals_same s t walk pa h is.alone bytes leaf op) x
-    (ways_moved t walk pa leaf op (turn_ways t [] pa leaf op) (goal_ways t bytes leaf op) x (λ outcome reaches. laws.back t pa bytes leaf op x outcome reaches is.has (data_address op n) small) g)
+  data_back : (op : Op) (x : Values) → AreSmall x → is_data (kind_of op) ≡ true → (o : Option Accesses) → IfSome o (IsDataOf t walk pa) → IfSome o (AreRowsOfPages t leaf loads stores)
+      → is_some o ≡ true → Fits (cases_of t walk pa leaf op (ways_of t walk pa leaf loads stores op)) x → Fits (stand_cases s leaf op (data_ways s leaf op o)) x
+  data_back op x small n None is rows some f = absurd (cc some)
+  data_back op x small n (Some a) is rows some f =
+      ways_back s t walk pa h.stand leaf op (goal_ways (turn_of s) a leaf op) (goal_ways t a leaf op) (goals_same s t walk pa h.stand is.alone a leaf op) x
+      (ways_moved t walk pa leaf op (ways_of t walk pa leaf loads stores op) (goal_ways t a leaf op) x
+      (λ way posed fits. laws.back t walk pa a loads stores leaf op x way.outcome way.reaches (data_step t walk pa leaf a loads stores is.has h.fetched rows op x small (data_address op n) way posed fits)) f)
 
-operation_there : AreGoals → (s : Stand) (t : Turn) (walk : List Entry) (pa : ℕ) → IsStandOf s t walk pa → (leaf : List Atom) (op : Op) (x : Values) → AreSmall x → Fits (stand_cases s leaf op (ways_at s leaf op)) x → Fits (cases_of t walk pa leaf op (turn_ways t walk pa leaf op)) x
-operation_there laws s t walk pa h leaf op x small f = of_kind (is_data (kind_of op)) refl f
-  where
-    of_kind : (b : Bool) → is_data (kind_of op) ≡ b → Fits (stand_cases s leaf op (if b then data_ways s leaf op s.bytes else stand_ways s op)) x → Fits (cases_of t walk pa leaf op (turn_ways t walk pa leaf op)) x
-    of_kind true n g = bytes_there laws s t walk pa h leaf op x small n s.bytes h.bytes g
-    of_kind false n g = ways_there s t walk pa h leaf op (stand_ways s op) (turn_ways t walk pa leaf op) (ways_same s t walk pa h leaf (rows_without t ForLoad) (rows_without t ForStore) op n) x g
+  operation_there : (op : Op) (x : Values) → AreSmall x → Fits (stand_cases s leaf op (ways_at s leaf op)) x → Fits (cases_of t walk pa leaf op (ways_of t walk pa leaf loads stores op)) x
+  operation_there op x small f = of_kind (is_data (kind_of op)) refl f
+    where
+      of_kind : (b : Bool) → is_data (kind_of op) ≡ b → Fits (stand_cases s leaf op (if b then data_ways s leaf op s.accesses else stand_ways s op)) x → Fits (cases_of t walk pa leaf op (ways_of t walk pa leaf loads stores op)) x
+      of_kind true n g = data_there op x small n s.accesses h.stand.accesses h.rows g
+      of_kind false n g = ways_there s t walk pa h.stand leaf op (stand_ways s op) (ways_of t walk pa leaf loads stores op) (ways_same s t walk pa h.stand leaf loads stores op n) x g
 
-operation_back : AreGoals → (s : Stand) (t : Turn) (walk : List Entry) (pa : ℕ) → IsStandOf s t walk pa → (leaf : List Atom) (op : Op) (x : Values) → AreSmall x → is_posable s leaf op ≡ true → Fits (cases_of t walk pa leaf op (turn_ways t walk pa leaf op)) x
-    → Fits (stand_cases s leaf op (ways_at s leaf op)) x
-operation_back laws s t walk pa h leaf op x small p f = of_kind (is_data (kind_of op)) refl (posable_where s leaf op p (turn_ways_allowed s t walk pa h leaf op (turn_ways t walk pa leaf op) x f))
-  where
-    of_kind : (b : Bool) → is_data (kind_of op) ≡ b → (not (is_data (kind_of op)) || has_bytes s) ≡ true → Fits (stand_cases s leaf op (if b then data_ways s leaf op s.bytes else stand_ways s op)) x
-    of_kind true n k = bytes_back laws s t walk pa h leaf op x small n s.bytes h.bytes (subst (λ (b : Bool). (not b || has_bytes s) ≡ true) n k) f
-    of_kind false n k = ways_back s t walk pa h leaf op (stand_ways s op) (turn_ways t walk pa leaf op) (ways_same s t walk pa h leaf (rows_without t ForLoad) (rows_without t ForStore) op n) x f
+  operation_back : (op : Op) (x : Values) → AreSmall x → is_posable s leaf op ≡ true → Fits (cases_of t walk pa leaf op (ways_of t walk pa leaf loads stores op)) x → Fits (stand_cases s leaf op (ways_at s leaf op)) x
+  operation_back op x small p f = of_kind (is_data (kind_of op)) refl (posable_where s leaf op p (turn_ways_allowed s t walk pa h.stand leaf op (ways_of t walk pa leaf loads stores op) x f))
+    where
+      of_kind : (b : Bool) → is_data (kind_of op) ≡ b → (not (is_data (kind_of op)) || has_accesses s) ≡ true → Fits (stand_cases s leaf op (if b then data_ways s leaf op s.accesses else stand_ways s op)) x
+      of_kind true n k = data_back op x small n s.accesses h.stand.accesses h.rows (subst (λ (b : Bool). (not b || has_accesses s) ≡ true) n k) f
+      of_kind false n k = ways_back s t walk pa h.stand leaf op (stand_ways s op) (ways_of t walk pa leaf loads stores op) (ways_same s t walk pa h.stand leaf loads stores op n) x f
 
-all_there : AreGoals → (s : Stand) (t : Turn) (walk : List Entry) (pa : ℕ) → IsStandOf s t walk pa → (leaf : List Atom) (list : List Op) (x : Values) → AreSmall x → Fits (all_cases s leaf list) x → Fits (cases_over t walk pa leaf (turn_ways t walk pa leaf) list) x
-all_there laws s t walk pa h leaf [] x small f = f
-all_there laws s t walk pa h leaf (op ∷ list) x small f = elim (fits_either (stand_cases s leaf op (ways_at s leaf op)) (all_cases s leaf list) x f) [
-  | inl g ↦ fits_left (cases_of t walk pa leaf op (turn_ways t walk pa leaf op)) (cases_over t walk pa leaf (turn_ways t walk pa leaf) list) x (operation_there laws s t walk pa h leaf op x small g)
-  | inr g ↦ fits_right (cases_of t walk pa leaf op (turn_ways t walk pa leaf op)) (cases_over t walk pa leaf (turn_ways t walk pa leaf) list) x (all_there laws s t walk pa h leaf list x small g)
-]
+  all_there : (list : List Op) (x : Values) → AreSmall x → Fits (all_cases s leaf list) x → Fits (cases_over t walk pa leaf (ways_of t walk pa leaf loads stores) list) x
+  all_there [] x small f = f
+  all_there (op ∷ list) x small f = elim (fits_either (stand_cases s leaf op (ways_at s leaf op)) (all_cases s leaf list) x f) [
+    | inl g ↦ fits_left (cases_of t walk pa leaf op (ways_of t walk pa leaf loads stores op)) (cases_over t walk pa leaf (ways_of t walk pa leaf loads stores) list) x (operation_there op x small g)
+    | inr g ↦ fits_right (cases_of t walk pa leaf op (ways_of t walk pa leaf loads stores op)) (cases_over t walk pa leaf (ways_of t walk pa leaf loads stores) list) x (all_there list x small g)
+  ]
 
-all_back : AreGoals → (s : Stand) (t : Turn) (walk : List Entry) (pa : ℕ) → IsStandOf s t walk pa → (leaf : List Atom) (list : List Op) (x : Values) → AreSmall x → list_all (is_posable s leaf) list ≡ true → Fits (cases_over t walk pa leaf (turn_ways t walk pa leaf) list) x → Fits (all_cases s leaf list) x
-all_back laws s t walk pa h leaf [] x small p f = f
-all_back laws s t walk pa h leaf (op ∷ list) x small p f =
-    let b = and_parts (is_posable s leaf op) (list_all (is_posable s leaf) list) p in
-    elim (fits_either (cases_of t walk pa leaf op (turn_ways t walk pa leaf op)) (cases_over t walk pa leaf (turn_ways t walk pa leaf) list) x f) [
-      | inl g ↦ fits_left (stand_cases s leaf op (ways_at s leaf op)) (all_cases s leaf list) x (operation_back laws s t walk pa h leaf op x small b.0 g)
-      | inr g ↦ fits_right (stand_cases s leaf op (ways_at s leaf op)) (all_cases s leaf list) x (all_back laws s t walk pa h leaf list x small b.1 g)
-    ]
+  all_back : (list : List Op) (x : Values) → AreSmall x → list_all (is_posable s leaf) list ≡ true → Fits (cases_over t walk pa leaf (ways_of t walk pa leaf loads stores) list) x → Fits (all_cases s leaf list) x
+  all_back [] x small p f = f
+  all_back (op ∷ list) x small p f =
+      let b = and_parts (is_posable s leaf op) (list_all (is_posable s leaf) list) p in
+      elim (fits_either (cases_of t walk pa leaf op (ways_of t walk pa leaf loads stores op)) (cases_over t walk pa leaf (ways_of t walk pa leaf loads stores) list) x f) [
+        | inl g ↦ fits_left (stand_cases s leaf op (ways_at s leaf op)) (all_cases s leaf list) x (operation_back op x small b.0 g)
+        | inr g ↦ fits_right (stand_cases s leaf op (ways_at s leaf op)) (all_cases s leaf list) x (all_back list x small b.1 g)
+      ]
 
-pub every_turn : AreGoals → (s : Stand) (t : Turn) (walk : List Entry) (pa : ℕ) → IsStandOf s t walk pa → (leaf : List Atom) (list : List Op) (cs : List ACase) → list_all (is_posable s leaf) list ≡ true → FitsSame cs (all_cases s leaf list)
-    → FitsSame cs (cases_over t walk pa leaf (turn_ways t walk pa leaf) list)
-every_turn laws s t walk pa h leaf list cs p k x hx =
-    let small : AreSmall (values_in x) = λ slot. word_at x hx slot in
-    (λ y. all_there laws s t walk pa h leaf list (values_in x) small ((k x hx).0 y), λ f. (k x hx).1 (all_back laws s t walk pa h leaf list (values_in x) small p f))
+  pub every_turn : (list : List Op) (cs : List ACase) → list_all (is_posable s leaf) list ≡ true → FitsSame cs (all_cases s leaf list) → FitsSame cs (cases_over t walk pa leaf (ways_of t walk pa leaf loads stores) list)
+  every_turn list cs p k x hx =
+      let small : AreSmall (values_in x) = λ slot. word_at x hx slot in
+      (λ y. all_there list (values_in x) small ((k x hx).0 y), λ f. (k x hx).1 (all_back list (values_in x) small p f))

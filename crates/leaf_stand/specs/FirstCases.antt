@@ -1,34 +1,45 @@
 -- First cases: what counts for space and order.
-use Rattle.std.specs.Prelude.{◌≡◌, ℕ, Bool, nat_eq, List, [], ◌∷◌}
+use Rattle.std.specs.Prelude.{◌≡◌, ℕ, Bool, nat_eq, if◌then◌else◌, List, [], ◌∷◌, Option, Some, None}
 use Rattle.dom_set.specs.Elements.{is_in}
 use Rattle.rv_isa.specs.declared.operation.Op.{Op}
+use Rattle.rv_isa.specs.Table.{row_of}
 use Rattle.tpl_ast.specs.declared.template.Atom.{Atom}
 use Rattle.fd_prob.specs.declared.problem.Case.{Case as ACase}
 use Rattle.fd_prob.specs.declared.relation.Rel.TheVariants.{Rows}
 use Rattle.fd_prob.specs.declared.slot.Slot.{Slot}
 use Rattle.fd_prob.specs.declared.slot.Slot.TheVariants as slots
 use Rattle.fd_prob.specs.declared.slot.TheConstants.{SLOTS}
-use Rattle.leaf_link.specs.Turns.{Turn}
+use Rattle.data_goals.specs.declared.accesses.Accesses.{Accesses}
+use Rattle.leaf_link.specs.Values.{has_address}
 use Rattle.rv_isa.specs.Numbers.{op_number}
 use Rattle.leaf_link.specs.Firsts.{IsDomain, first_domain}
 use Rattle.leaf_stand.specs.declared.stand.Stand.{Stand}
 use Rattle.leaf_stand.specs.Sets.{AreEach}
 use Rattle.leaf_stand.specs.Stands.{turn_of}
 
--- the default domain of a variable, cut by the atoms on it, where no data access is translated
-abbrev pub first_at : Turn → List Atom → Op → Slot → ℕ → Bool
-first_at t leaf op slots.FirstPte v = nat_eq v 0
-first_at t leaf op slots.SecondPte v = nat_eq v 0
-first_at t leaf op s v = first_domain t 0 leaf op s v
+-- new page table entries, where they are told; 0 alone where they are not
+abbrev pub first_entry : (Accesses → List ℕ) → Option Accesses → ℕ → Bool
+first_entry of None v = nat_eq v 0
+first_entry of (Some accesses) v = is_in (of accesses) v
+
+-- an operation without a data access starts none
+abbrev pub first_entries : Stand → Op → (Accesses → List ℕ) → ℕ → Bool
+first_entries s op of v = if has_address (row_of op) then first_entry of s.accesses v else nat_eq v 0
+
+-- the default domain of a variable, cut by the atoms on it
+abbrev pub first_at : Stand → List Atom → Op → Slot → ℕ → Bool
+first_at s leaf op slots.FirstPte v = first_entries s op (λ a. a.firsts) v
+first_at s leaf op slots.SecondPte v = first_entries s op (λ a. a.seconds) v
+first_at s leaf op slot v = first_domain (turn_of s) 0 leaf op slot v
 
 -- the domains of a first case
-abbrev pub AreFirstDomains : Turn → List Atom → Op → List (List ℕ) → Type 0
-AreFirstDomains t leaf op doms = AreEach (λ s set. IsDomain set (first_at t leaf op s)) SLOTS doms
+abbrev pub AreFirstDomains : Stand → List Atom → Op → List (List ℕ) → Type 0
+AreFirstDomains s leaf op doms = AreEach (λ slot set. IsDomain set (first_at s leaf op slot)) SLOTS doms
 
 -- the first case of an operation
 pub record IsFirstCase (s : Stand) (leaf : List Atom) (op : Op) (c : ACase) : Type 0 where
   pub number : c.op ≡ op_number op
-  pub domains : AreFirstDomains (turn_of s) leaf op c.doms
+  pub domains : AreFirstDomains s leaf op c.doms
   pub rels : c.rels ≡ Rows [] ∷ []
 
 -- what the domain of a variable has to be in the first case

@@ -3,6 +3,7 @@ pub mod Stands
 pub mod Relations
 pub mod Kinds
 pub mod Posed
+pub mod DataRows
 pub mod Ways
 pub mod FirstCases
 pub mod Cuts

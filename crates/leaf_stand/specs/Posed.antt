@@ -2,7 +2,7 @@
 use Rattle.std.specs.Prelude.{◌≡◌, ℕ, ◌↔◌, if◌then◌else◌, Bool, true, false, ◌&&◌, ◌||◌, ◌==◌, not, List, [], ◌∷◌, ◌++◌, Option, Some, None}
 use Rattle.std.specs.List.{list_all, list_any}
 use Rattle.std.specs.Option.{is_some}
-use Rattle.data_bytes.specs.declared.memory.DataBytes.{DataBytes}
+use Rattle.data_goals.specs.declared.accesses.Accesses.{Accesses}
 use Rattle.data_goals.specs.Goals.{goal_ways}
 use Rattle.rv_isa.specs.declared.instruction.Instr.{Instr}
 use Rattle.rv_isa.specs.declared.operation.Op.{Op}
@@ -53,13 +53,13 @@ is_listed Csr = false
 is_listed Data = false
 is_listed kind = true
 
--- a load or store can be posed where it is told what may be done with the bytes of memory
-abbrev pub has_bytes : Stand → Bool
-has_bytes s = is_some s.bytes
+-- a load or store can be posed where it is told what they may do
+abbrev pub has_accesses : Stand → Bool
+has_accesses s = is_some s.accesses
 
 -- the operation can be posed, or is not allowed
 abbrev pub is_posable : Stand → List Atom → Op → Bool
-is_posable s leaf op = (not (is_data (kind_of op)) || has_bytes s) || not (allows s leaf op)
+is_posable s leaf op = (not (is_data (kind_of op)) || has_accesses s) || not (allows s leaf op)
 
 -- no operation is allowed but those that can be posed
 abbrev pub are_posable : Stand → List Atom → Bool
@@ -80,12 +80,12 @@ abbrev pub stand_ways : Stand → Op → List AWay
 stand_ways s op = ways_of (turn_of s) [] 0 [] [] [] op
 
 -- those of a load or store are its goals
-abbrev pub data_ways : Stand → List Atom → Op → Option DataBytes → List AWay
+abbrev pub data_ways : Stand → List Atom → Op → Option Accesses → List AWay
 data_ways s leaf op None = []
-data_ways s leaf op (Some bytes) = goal_ways (turn_of s) bytes leaf op
+data_ways s leaf op (Some accesses) = goal_ways (turn_of s) accesses leaf op
 
 abbrev pub ways_at : Stand → List Atom → Op → List AWay
-ways_at s leaf op = if is_data (kind_of op) then data_ways s leaf op s.bytes else stand_ways s op
+ways_at s leaf op = if is_data (kind_of op) then data_ways s leaf op s.accesses else stand_ways s op
 
 abbrev pub all_cases : Stand → List Atom → List Op → List Case
 all_cases s leaf [] = []

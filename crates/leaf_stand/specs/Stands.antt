@@ -14,8 +14,8 @@ use Rattle.rv_hart.specs.Privileged.{lazy_address}
 use Rattle.fd_prob.specs.declared.slot.Slot.{Slot}
 use Rattle.fd_prob.specs.declared.slot.Slot.TheVariants as slots
 use Rattle.tpl_ast.specs.declared.template.Atom.{Atom}
-use Rattle.data_bytes.specs.declared.memory.DataBytes.{DataBytes}
-use Rattle.data_goals.specs.Rows.{HasBytes}
+use Rattle.data_goals.specs.declared.accesses.Accesses.{Accesses}
+use Rattle.data_goals.specs.Grounds.{HasAccesses}
 use Rattle.leaf_link.specs.Turns.{Turn}
 use Rattle.leaf_link.specs.Cases.{Shape as AShape, base_domain, may_fetch}
 use Rattle.leaf_link.specs.Controls.{is_old}
@@ -51,7 +51,7 @@ known_of s (Reg n) = held (slice_get s.registers n)
 known_of s (Csr addr) = csr_held s.csrs (register_at addr)
 known_of s (Word addr) = s.word
 
--- a turn of which just this is known. Of memory, of races and of the pool a stand tells loads and stores by its bytes; all else that it leaves out is of no weight
+-- a turn of which just this is known. Of memory, of races, of the pool and of page tables a stand tells what loads and stores may do; all else that it leaves out is of no weight
 abbrev pub turn_of : Stand → Turn
 turn_of s = record {
   fixed = record { pc = s.pc; privilege = s.privilege; mstatus = s.csrs.mstatus; medeleg = s.csrs.medeleg; satp = s.csrs.satp; number = s.csrs.hart; ram = λ n. true };
@@ -67,11 +67,10 @@ turn_of s = record {
   sources = λ v. is_in s.sources.now v;
 }
 
--- the bytes are those of the turn; its fetch walked no entry, and no hart has a lower number
-pub record IsDataOf (t : Turn) (walk : List Entry) (pa : ℕ) (bytes : DataBytes) : Type 0 where
-  pub untranslated : walk ≡ []
+-- the accesses are those of the turn, and no hart has a lower number
+pub record IsDataOf (t : Turn) (walk : List Entry) (pa : ℕ) (accesses : Accesses) : Type 0 where
   pub alone : t.others ≡ []
-  pub has : HasBytes t pa bytes
+  pub has : HasAccesses t walk pa accesses
 
 -- the stand tells what a turn is: its pc, privilege, registers and CSRs, the word at the pc, the vectors, the names and the sources, and whether the fetch may be made
 pub record IsStandOf (s : Stand) (t : Turn) (walk : List Entry) (pa : ℕ) : Type 0 where
@@ -90,7 +89,7 @@ pub record IsStandOf (s : Stand) (t : Turn) (walk : List Entry) (pa : ℕ) : Typ
   pub satp : t.fixed.satp ≡ s.csrs.satp
   pub number : t.fixed.number ≡ s.csrs.hart
   pub sources : (v : ℕ) → v < 2 ^ 32 → t.sources v ≡ is_in s.sources.now v
-  pub bytes : IfSome s.bytes (IsDataOf t walk pa)
+  pub accesses : IfSome s.accesses (IsDataOf t walk pa)
 
 -- HOW A STEP ENDS
 abbrev pub outcome_at : End → ℕ

@@ -83,7 +83,7 @@ impl Stand<'_> {
             Atom::In(of, wanted) if same_var(*of, var) => meet(alloc, &set, wanted),
             Atom::NotIn(of, unwanted) if same_var(*of, var) => less(alloc, &set, unwanted),
             Atom::Is(of, name) if same_var(*of, var) => self.named(alloc, set, *name),
-            // A stand that tells the bytes of memory is one with no hart of a lower number.
+            // A stand that tells what loads and stores may do is one with no hart of a lower number.
             Atom::Shared if same_var(Var::Pa, var) => Ok(Set::new(alloc)),
             _ => Ok(set),
         }

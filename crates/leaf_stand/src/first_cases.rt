@@ -1,6 +1,6 @@
 // First cases of operations: what counts for the space of a problem and for the order of its assignments.
 
-ghost use Rattle.std.specs.Prelude.{◌≡◌, ℕ, ◌&&◌, nat_eq, true, false, length, IfOk};
+ghost use Rattle.std.specs.Prelude.{◌≡◌, ℕ, ◌&&◌, if◌then◌else◌, nat_eq, true, false, length, IfOk};
 ghost use Rattle.std.specs.List.{list_any};
 ghost use Rattle.dom_set.specs.Elements.{is_within};
 ghost use Rattle.rv_csr.specs.Table.{address_of};
@@ -8,7 +8,7 @@ ghost use Rattle.tpl_ast.specs.Leaves.{same_var};
 ghost use Rattle.leaf_link.specs.Cases.{all_tests, or_no};
 ghost use Rattle.leaf_link.specs.Firsts.{IsDomain, in_first_word, is_modelled};
 ghost use Rattle.fd_prob.specs.Fitting.{IsCase};
-ghost use Rattle.leaf_stand.specs.FirstCases.{AreFirstDomains, IsFirstCase, first_at};
+ghost use Rattle.leaf_stand.specs.FirstCases.{AreFirstDomains, IsFirstCase, first_at, first_entries};
 ghost use Rattle.leaf_stand.specs.Sets.{IsSetOf};
 ghost use Rattle.leaf_stand.specs.Stands.{turn_of};
 
@@ -95,6 +95,23 @@ impl Stand<'_> {
         self.passing(alloc, values, leaf, var)
     }
 
+    /// What a new page table entry may be, the second one or else the root entry; 0 alone where the operation makes no data
+    /// access.
+    fn first_entries(&self, alloc: Global, op: Op, second: bool) -> Result<Set, OutOfMemory>
+        ensures { IfOk result (IsSetOf (first_entries self.now op (λ a. if second then a.seconds else a.firsts))) }
+    {
+        match &self.accesses {
+            Some(accesses) if has_address(op) => {
+                if second {
+                    accesses.seconds.copy(alloc)
+                } else {
+                    accesses.firsts.copy(alloc)
+                }
+            }
+            _ => Spans::one(0).set(alloc),
+        }
+    }
+
     fn first_set(
         &self,
         alloc: Global,
@@ -102,7 +119,7 @@ impl Stand<'_> {
         op: Op,
         slot: Slot,
     ) -> Result<Set, OutOfMemory>
-        ensures { IfOk result (IsSetOf (first_at (turn_of self.now) leaf.now op slot)) }
+        ensures { IfOk result (IsSetOf (first_at self.now leaf.now op slot)) }
     {
         match slot {
             Slot::Op => self.first_field(alloc, leaf, op, slot, Var::Op),
@@ -114,8 +131,8 @@ impl Stand<'_> {
             Slot::Ea => self.first_words(alloc, leaf, has_address(op), Var::Ea),
             Slot::A => self.first_words(alloc, leaf, op.reads_rs1(), Var::A),
             Slot::B => self.first_words(alloc, leaf, op.reads_rs2(), Var::B),
-            Slot::FirstPte => Spans::one(0).set(alloc),
-            Slot::SecondPte => Spans::one(0).set(alloc),
+            Slot::FirstPte => self.first_entries(alloc, op, false),
+            Slot::SecondPte => self.first_entries(alloc, op, true),
             Slot::DataWord => self.any_if(alloc, has_address(op)),
             Slot::OldCsr => self.any_if(alloc, has_old(op)),
             Slot::Vector => self.vectors.copy(alloc),
@@ -130,7 +147,7 @@ impl Stand<'_> {
         op: Op,
         slot: Slot,
     ) -> Result<Set, OutOfMemory>
-        ensures { IfOk result (λ set. IsDomain set (first_at (turn_of self.now) leaf.now op slot)) }
+        ensures { IfOk result (λ set. IsDomain set (first_at self.now leaf.now op slot)) }
     {
         let set = self.first_set(alloc, leaf, op, slot)?;
         set.element_laws();
@@ -138,7 +155,7 @@ impl Stand<'_> {
     }
 
     fn first_domains(&self, alloc: Global, leaf: &[Atom], op: Op) -> Result<Vec<Set>, OutOfMemory>
-        ensures each { IfOk result (λ doms. AreFirstDomains (turn_of self.now) leaf.now op doms.items) }
+        ensures each { IfOk result (λ doms. AreFirstDomains self.now leaf.now op doms.items) }
         ensures length { IfOk result (λ doms. length doms.items ≡ 14) }
     {
         let mut doms = Vec::new(alloc);

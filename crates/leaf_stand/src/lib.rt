@@ -1,7 +1,7 @@
 //! What is known where a leaf of a template stands, and what that says of a step: which operations the atoms and a known
 //! word allow, the ways in which the step of each may end (those of CSR instructions and of loads and stores stand in
 //! `leaf_csrs` and `data_goals`), the domains of its variables, first cases, and what atoms and known registers say of
-//! values. Where loads or stores may be posed it owns what they may do with the bytes of memory. It stands on `leaf_link`,
+//! values. Where loads or stores may be posed it owns what they may do. It stands on `leaf_link`,
 //! `data_goals`, `fd_prob` and `dom_set`. It promises that each set has just the words that the definition lets through,
 //! and each answer is the definition's.
 #![tactic(auto)]

@@ -173,11 +173,11 @@ impl Stand<'_> {
     }
 
     /// Whether an operation can be posed, or is not allowed by the atoms and a known word: a load or store can where it is told
-    /// what may be done with the bytes of memory.
+    /// what loads and stores may do.
     fn is_posable(&self, leaf: &[Atom], op: Op) -> bool
         ensures { result ≡ is_posable self.now leaf.now op }
     {
-        !is_data(op) || self.bytes.is_some() || !self.allows(leaf, op)
+        !is_data(op) || self.accesses.is_some() || !self.allows(leaf, op)
     }
 
     fn each_is_posable(&self, leaf: &[Atom], ops: &[Op]) -> bool

@@ -1,6 +1,6 @@
 // What is known where a leaf is solved.
 
-use data_bytes::DataBytes;
+use data_goals::Accesses;
 use dom_set::Set;
 use rv_csr::{Csrs, Priv};
 
@@ -25,8 +25,8 @@ pub struct Stand<'t> {
     pub fetches: bool,
     /// How many pairs of page table entries the translation of a data access may start; 1 where there is none.
     pub pairs: u64,
-    /// What a load or store may do with the bytes of memory; nothing where that was not asked for.
-    pub bytes: Option<DataBytes>,
+    /// What loads and stores may do; nothing where that was not asked for.
+    pub accesses: Option<Accesses>,
     /// The values that the atoms leave to a source register.
     pub sources: &'t Set,
     /// The addresses that vectors may be started with.

@@ -2,15 +2,11 @@
 use Rattle.std.proofs.Common.{◌≡◌, ℕ, zero, suc, ◌+◌, ◌≤◌, ◌<◌, List, [], ◌∷◌, ◌++◌, length, drop, refl, sym, ap, ◌∙◌, arith}
 use Rattle.std.specs.Prelude.{All, slice_index_or}
 use Rattle.std.proofs.Math.Seq.{drop-cons}
-use Rattle.rv_script.specs.Folds.{Entry}
 use Rattle.tpl_ast.specs.declared.template.Atom.{Atom}
 use Rattle.fd_prob.specs.declared.problem.Extra.{Extra}
 use Rattle.fd_prob.specs.declared.problem.Problem.{Problem}
-use Rattle.leaf_link.specs.Turns.{Turn}
-use Rattle.leaf_link.specs.Extras.{ArePlain, IsExtraOf}
-use Rattle.leaf_link.specs.KindLaws.{IsPosed}
 use Rattle.leaf_stand.specs.declared.stand.Stand.{Stand}
-use Rattle.leaf_stand.specs.Stands.{IsStandOf}
+use Rattle.leaf_pose.specs.Extras.{AddsBias}
 use Rattle.leaf_turn.specs.Asking.{AreExtrasOf}
 
 pub item_at : {A : Type 0} (xs : List A) (i : ℕ) (x : A) → i < length xs → x ≡ slice_index_or xs i x → drop i xs ≡ x ∷ drop (i + 1) xs
@@ -31,9 +27,9 @@ all_more P (y ∷ xs) x all one zero d h = all zero d (omega arith)
 all_more P (y ∷ xs) x all one (suc k) d h = all_more P xs x (λ j e less. all (suc j) e (omega (arith, less))) one k d (omega (arith, h))
 
 pub one_more : (s : Stand) (leaf bias : List Atom) (rest : List (List Atom)) (p : Problem) (e : Extra) (more : List Extra)
-    → ((t : Turn) (walk : List Entry) (pa : ℕ) → IsStandOf s t walk pa → IsPosed t walk pa leaf → ArePlain bias → IsExtraOf t bias e p)
+    → AddsBias s leaf bias p e
     → AreExtrasOf s leaf rest p more → AreExtrasOf s leaf (bias ∷ rest) p (e ∷ more)
-one_more s leaf bias rest p e more one others t walk pa stands posed plain = (one t walk pa stands posed plain.0, others t walk pa stands posed plain.1)
+one_more s leaf bias rest p e more one others t walk pa loads stores stands posed rows plain = (one t walk pa loads stores stands posed rows plain.0, others t walk pa loads stores stands posed rows plain.1)
 
 pub associate : {A : Type 0} (xs : List A) (x : A) (ys : List A) → xs ++ x ∷ ys ≡ (xs ++ x ∷ []) ++ ys
 associate [] x ys = refl

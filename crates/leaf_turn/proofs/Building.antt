@@ -1,12 +1,11 @@
 -- What the atoms of a leaf let through and bar.
-use Rattle.std.proofs.Common.{◌≡◌, ℕ, Bool, true, false, not, ◌&&◌, ◌||◌, ◌++◌, if◌then◌else◌, List, [], ◌∷◌, refl, sym, ◌∙◌, subst, inl, inr}
+use Rattle.std.proofs.Common.{◌≡◌, ℕ, Bool, true, false, not, ◌&&◌, ◌||◌, ◌++◌, if◌then◌else◌, List, [], ◌∷◌, refl, sym, subst, inl, inr}
 use Rattle.std.specs.List.{list_all, list_any}
 use Rattle.std.proofs.lemmas.Bool.{and_from, and_parts, or_left, or_right}
 use Rattle.rv_script.specs.Lists.{HasItem}
 use Rattle.rv_isa.specs.declared.operation.Op.{Op}
 use Rattle.rv_isa.specs.declared.operation.TheConstants.{OPS}
 use Rattle.rv_isa.specs.Numbers.{op_number}
-use Rattle.rv_isa.specs.Table.{row_of}
 use Rattle.tpl_ast.specs.declared.template.Atom.{Atom}
 use Rattle.tpl_ast.specs.declared.template.Atom.TheVariants as atoms
 use Rattle.tpl_ast.specs.declared.template.Var.{Var}
@@ -15,16 +14,13 @@ use Rattle.tpl_ast.specs.declared.template.Wish.{Wish}
 use Rattle.tpl_admit.specs.Admitting.{fixes_outcome}
 use Rattle.leaf_link.specs.Turns.{Turn}
 use Rattle.leaf_link.specs.Cases.{all_tests, tests}
-use Rattle.leaf_link.specs.Values.{has_address, has_csr_operand}
 use Rattle.leaf_stand.specs.declared.stand.Stand.{Stand}
 use Rattle.leaf_stand.specs.Kinds.{kind_of}
-use Rattle.leaf_stand.specs.Posed.{allows, has_bytes, is_data, is_posable, reads_as}
+use Rattle.leaf_stand.specs.Posed.{allows, has_accesses, is_data, is_posable, reads_as}
 use Rattle.leaf_stand.specs.Stands.{turn_of}
-use Rattle.leaf_stand.proofs.Rows.{built_address}
 use Rattle.leaf_pose.proofs.Whole.{every_op}
-use Rattle.leaf_turn.specs.Built.{LeavesBarSatp, LeavesWithBytesArePosable, LeavesWithoutDataBarIt, all_let, bars_satp_by, lets, lets_data, may_be_data}
+use Rattle.leaf_turn.specs.Built.{LeavesWithAccessesArePosable, all_let, lets, lets_data, may_be_data}
 use Rattle.leaf_turn.specs.Wishes.{mandatory_of, retires, unbiased}
-use Rattle.leaf_turn.proofs.Each.{every}
 
 -- what passes an atom's test is let through
 its_test : (t : Turn) (atom : Atom) (u : Var) (n : ℕ) → tests t atom u n ≡ true → lets atom u n ≡ true
@@ -66,41 +62,14 @@ any_at test (x ∷ ops) op i h = elim i [
   | inr j ↦ or_right (test x) (list_any test ops) (any_at test ops op j h)
 ]
 
-one_posable : (ws : List Wish) (st : Stand) → (lets_data ws ≡ true → has_bytes st ≡ true) → (op : Op) → is_posable st (mandatory_of ws) op ≡ true
-one_posable ws st told op = posable (is_data (kind_of op)) (all_let ws vars.Op (op_number op)) (has_bytes st) (allows st (mandatory_of ws) op)
+one_posable : (ws : List Wish) (st : Stand) → (lets_data ws ≡ true → has_accesses st ≡ true) → (op : Op) → is_posable st (mandatory_of ws) op ≡ true
+one_posable ws st told op = posable (is_data (kind_of op)) (all_let ws vars.Op (op_number op)) (has_accesses st) (allows st (mandatory_of ws) op)
     (λ may. told (any_at (may_be_data ws) OPS op (every_op op) may))
     (λ allowed. let_through (turn_of st) ws vars.Op (op_number op) (and_parts (reads_as st.word op) (all_tests (turn_of st) (mandatory_of ws) vars.Op (op_number op)) allowed).1)
 
-all_posable : (ws : List Wish) (st : Stand) → (lets_data ws ≡ true → has_bytes st ≡ true) → (ops : List Op) → list_all (is_posable st (mandatory_of ws)) ops ≡ true
+all_posable : (ws : List Wish) (st : Stand) → (lets_data ws ≡ true → has_accesses st ≡ true) → (ops : List Op) → list_all (is_posable st (mandatory_of ws)) ops ≡ true
 all_posable ws st told [] = refl
 all_posable ws st told (op ∷ ops) = and_from _ _ (one_posable ws st told op) (all_posable ws st told ops)
 
-pub leaves_are_posable : LeavesWithBytesArePosable
+pub leaves_are_posable : LeavesWithAccessesArePosable
 leaves_are_posable ws st told = all_posable ws st told OPS
-
--- ---- where no load or store is let through
-
-not_both : (is through lets address tested : Bool) → lets ≡ false → ((is && through) ≡ true → lets ≡ true) → (is ≡ false → address ≡ false) → address ≡ true → (tested ≡ true → through ≡ true) → tested ≡ false
-not_both is through lets address false none any plain has met = refl
-not_both true true lets address true none any plain has met = absurd (cc (sym none ∙ any refl))
-not_both true false lets address true none any plain has met = absurd (cc (met refl))
-not_both false through lets address true none any plain has met = absurd (cc (sym (plain refl) ∙ has))
-
-pub no_data : LeavesWithoutDataBarIt
-no_data ws none t op address =
-    not_both (is_data (kind_of op)) (all_let ws vars.Op (op_number op)) (lets_data ws) (has_address (row_of op)) (all_tests t (mandatory_of ws) vars.Op (op_number op)) none
-    (λ both. any_at (may_be_data ws) OPS op (every_op op) both) (built_address op) address (let_through t ws vars.Op (op_number op))
-
--- ---- and they bar accesses to satp
-
-barred : (operand satp through tested : Bool) → (not (operand && satp) || not through) ≡ true → operand ≡ true → through ≡ true → (tested ≡ true → satp ≡ true) → tested ≡ false
-barred operand satp through false h is met k = refl
-barred false satp through true h is met k = absurd (cc is)
-barred true satp false true h is met k = absurd (cc met)
-barred true false true true h is met k = absurd (cc (k refl))
-barred true true true true h is met k = absurd (cc h)
-
-pub leaves_bar_satp : LeavesBarSatp
-leaves_bar_satp ws h t op is through =
-    barred (has_csr_operand (row_of op)) (all_let ws vars.Csr 0x180) (all_let ws vars.Op (op_number op)) (all_tests t (mandatory_of ws) vars.Csr 0x180)
-    (every (bars_satp_by ws) OPS h op (every_op op)) is (let_through t ws vars.Op (op_number op) through) (let_through t ws vars.Csr 0x180)

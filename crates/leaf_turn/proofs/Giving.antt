@@ -1,24 +1,13 @@
 -- Places of an answer that are given one by one.
-use Rattle.std.proofs.Common.{◌≡◌, ℕ, ◌+◌, zero, suc, Bool, true, Option, None, slice_index_or, slice_set, ◌-◌, ◌<◌, ◌≤◌, ◌⊎◌, List, [], ◌∷◌, ◌++◌, length, length-set, Some, refl, sym, ap, ◌∙◌, subst, inl, inr, arith}
+use Rattle.std.proofs.Common.{◌≡◌, ℕ, ◌+◌, zero, suc, Option, None, slice_index_or, ◌-◌, ◌<◌, ◌≤◌, ◌⊎◌, List, [], ◌∷◌, ◌++◌, length, length-set, Some, refl, sym, ap, ◌∙◌, subst, inl, inr, arith}
 use Rattle.std.proofs.Math.Path.{fun_ext}
-use Rattle.std.proofs.lemmas.Bool.{cases_eq}
 use Rattle.rv_script.specs.declared.access.Access.{Access}
 use Rattle.rv_script.specs.declared.place.Place.{Place}
 use Rattle.rv_script.specs.declared.place.Place.TheVariants.{Reg, Csr, Word}
 use Rattle.rv_script.specs.Folds.{Answer, Answer.Does, Answer.Missing as Lacks, Answer.Nowhere, Entry, Known}
 use Rattle.rv_script.specs.Logs.{enlarged}
 use Rattle.rv_hart.specs.declared.record.Change.{Change}
-use Rattle.rv_hart.specs.declared.record.Control.{Control}
-use Rattle.rv_hart.specs.declared.record.Control.TheVariants.{Stay, Write, Trap, Mret, Sret}
-use Rattle.rv_hart.specs.Changes.{csrs_after}
-use Rattle.rv_csr.specs.declared.privilege.Priv.{Priv}
-use Rattle.rv_csr.specs.declared.privilege.Priv.TheVariants.{U, S, M}
-use Rattle.rv_csr.specs.declared.table.Register.{Register}
-use Rattle.rv_csr.specs.declared.table.Register.TheVariants.{Sstatus, Satp, Mstatus, Medeleg, Mhartid, Lazy}
-use Rattle.rv_csr.specs.State.{CsrValues, with_first, with_value}
-use Rattle.rv_csr.specs.Table.{register_at}
-use Rattle.rv_csr.specs.Traps.{takes_trap, trapped_to}
-use Rattle.part_machine.specs.Whole.{Bare, Whole, bare_after, no_hart, with_csr, with_register, fixed_in, hart_of, next_of, record_in, stepped}
+use Rattle.part_machine.specs.Whole.{Whole, bare_after, fixed_in, hart_of, next_of, record_in, stepped}
 use Rattle.rv_hart.specs.Fixed.{Fixed}
 use Rattle.rv_hart.specs.Whole.{record_of}
 use Rattle.rv_hart.specs.declared.record.Record.{Record}
@@ -28,12 +17,11 @@ use Rattle.part_state.specs.Probing.{IsProbe}
 use Rattle.part_state.specs.declared.probe.Probe.{Probe}
 use Rattle.part_state.specs.declared.probe.Probe.TheVariants.{Clash, Missing, Outside, Ready}
 use Rattle.leaf_link.specs.Values.{Values}
-use Rattle.leaf_link.specs.Placing.{KeepsSatp, IsNotSatp}
 use Rattle.turn_laws.specs.Ahead.{AreAmong, IsUnderway, LogsAreShort, OneMoreIsGiven, PlacesAreNext, unknown_in}
 use Rattle.turn_laws.specs.Laws.{PlayedStepsAreNext, FixedPartsStay, GivenPlacesAreKnown, GivenTestsAreTests, IsTaken, OthersStay}
 use Rattle.turn_laws.specs.Given.{CanGive, all_given, given_to, known_at, turn_at}
 use Rattle.leaf_turn.specs.declared.taking.Fetch.{Fetch}
-use Rattle.leaf_turn.specs.Answers.{AreAsked, AreGiven, IsPlayable, IsStill, IsTakenBy, new_at, started_with}
+use Rattle.leaf_turn.specs.Answers.{AreAsked, AreGiven, IsPlayable, IsStill, IsTakenBy, new_at, started_with, walk_of}
 use Rattle.leaf_link.specs.Candidates.{accesses_in, registers_from}
 
 -- some of the places are given, and so many at most are left
@@ -43,7 +31,7 @@ pub record AreGoing (k : ℕ) (x : Values) (left : ℕ) (old now : Whole) : Type
   pub among : AreAmong places (new_at k old x)
   pub asked : AreAsked k (new_at k old x) places old
   pub is : now ≡ all_given k places old
-  pub few : (keeps : Bool) (fetch : Fetch) (f : IsPlayable keeps k old fetch x) → unknown_in (enlarged (known_at k old) (given_to places)) f.log ≤ left
+  pub few : (fetch : Fetch) (f : IsPlayable k old fetch x) → unknown_in (enlarged (known_at k old) (given_to places)) f.log ≤ left
 
 pub begun : (k : ℕ) (x : Values) (w : Whole) → LogsAreShort → AreGoing k x 10 w w
 begun k x w short = record {
@@ -52,7 +40,7 @@ begun k x w short = record {
   among = λ place v h. absurd (cc);
   asked = tt;
   is = refl;
-  few = λ keeps fetch f. short (turn_at f.setting f.feet k w) (new_at k w x) (enlarged (known_at k w) (given_to [])) f.log f.change f.played;
+  few = λ fetch f. short (turn_at f.setting f.feet k w) (new_at k w x) (enlarged (known_at k w) (given_to [])) f.log f.change f.played;
 }
 
 -- one place more, which is what the step lacks behind those before it
@@ -63,13 +51,13 @@ asked_more k new (e ∷ es) place v w asked lacks is = (asked.0, asked.1, asked_
 -- where the next step lacks a place, the place can start with the answer's value, and then one less is left
 pub record IsGoingOn (k : ℕ) (fetch : Fetch) (x : Values) (left : ℕ) (old now : Whole) (place : Place) : Type 0 where
   pub some : 0 < left
-  pub can : CanStart k place (started_with x fetch place) now
-  pub going : AreGoing k x (left - 1) old (place_given k place (started_with x fetch place) now)
+  pub can : CanStart k place (started_with (walk_of k old x) x fetch place) now
+  pub going : AreGoing k x (left - 1) old (place_given k place (started_with (walk_of k old x) x fetch place) now)
 
-pub going_on : (keeps : Bool) (k : ℕ) (fetch : Fetch) (x : Values) (left : ℕ) (old now : Whole) (place : Place) → PlacesAreNext → OneMoreIsGiven → IsTest old → k < length old.harts → IsPlayable keeps k old fetch x
+pub going_on : (k : ℕ) (fetch : Fetch) (x : Values) (left : ℕ) (old now : Whole) (place : Place) → PlacesAreNext → OneMoreIsGiven → IsTest old → k < length old.harts → IsPlayable k old fetch x
     → AreGoing k x left old now → next_of k now ≡ Lacks place → IsGoingOn k fetch x left old now place
-going_on keeps k fetch x left old now place next appended test l f g lacks =
-    let value : ℕ = started_with x fetch place in
+going_on k fetch x left old now place next appended test l f g lacks =
+    let value : ℕ = started_with (walk_of k old x) x fetch place in
     let new : Known = new_at k old x in
     let first : next_of k (all_given k g.places old) ≡ Lacks place = ap (λ (w : Whole). next_of k w) (sym g.is) ∙ lacks in
     let u = next f.setting f.feet k old new g.places f.log f.change test l f.aligned f.vectors g.can g.among f.played in
@@ -78,7 +66,7 @@ going_on keeps k fetch x left old now place next appended test l f g lacks =
     let new_is : new place ≡ Some value = n.new_is ∙ ap (λ (v : ℕ). Some v) is in
     let more = u.among place value first new_is in
     let fewer = u.fewer place value first new_is in
-    let few = g.few keeps fetch f in
+    let few = g.few fetch f in
     let can : CanStart k place value (all_given k g.places old) = subst (λ (v : ℕ). CanStart k place v (all_given k g.places old)) is n.can in
     record {
       some = omega (arith, fewer, few);
@@ -89,17 +77,17 @@ going_on keeps k fetch x left old now place next appended test l f g lacks =
         among = more.0;
         asked = asked_more k new g.places place value old g.asked first new_is;
         is = ap (λ (w : Whole). place_given k place value w) g.is ∙ sym (appended k g.places place value old);
-        few = λ other how h.
+        few = λ how h.
             let one = (next h.setting h.feet k old new g.places h.log h.change test l h.aligned h.vectors g.can g.among h.played).fewer place value first new_is in
-            let all = g.few other how h in
+            let all = g.few how h in
             omega (arith, one, all);
       };
     }
 
 -- where it lacks none, all are given
-pub all_are_given : (keeps : Bool) (k : ℕ) (fetch : Fetch) (x : Values) (left : ℕ) (old now : Whole) → PlacesAreNext → IsTest old → k < length old.harts → IsPlayable keeps k old fetch x
+pub all_are_given : (k : ℕ) (fetch : Fetch) (x : Values) (left : ℕ) (old now : Whole) → PlacesAreNext → IsTest old → k < length old.harts → IsPlayable k old fetch x
     → AreGoing k x left old now → ((place : Place) → next_of k now ≡ Lacks place → ⊥) → AreGiven k x old now
-all_are_given keeps k fetch x left old now next test l f g none = go (next_of k (all_given k g.places old)) refl
+all_are_given k fetch x left old now next test l f g none = go (next_of k (all_given k g.places old)) refl
   where
     same : next_of k now ≡ next_of k (all_given k g.places old)
     same = ap (λ (w : Whole). next_of k w) g.is
@@ -113,16 +101,16 @@ all_are_given keeps k fetch x left old now next test l f g none = go (next_of k 
     go Nowhere e = absurd (under.somewhere e)
 
 -- THE STEP
-pub ready : (keeps : Bool) (k : ℕ) (fetch : Fetch) (x : Values) (old now : Whole) → PlayedStepsAreNext → IsTest old → k < length old.harts → (f : IsPlayable keeps k old fetch x) → AreGiven k x old now → IsTaken k f.log f.change now
-ready keeps k fetch x old now steps test l f g =
+pub ready : (k : ℕ) (fetch : Fetch) (x : Values) (old now : Whole) → PlayedStepsAreNext → IsTest old → k < length old.harts → (f : IsPlayable k old fetch x) → AreGiven k x old now → IsTaken k f.log f.change now
+ready k fetch x old now steps test l f g =
     subst (λ (w : Whole). IsTaken k f.log f.change w) (sym g.is) (steps f.setting f.feet k old (new_at k old x) g.places f.log f.change test l f.footprint g.can g.listed f.played)
 
-pub taken_by : (keeps : Bool) (k : ℕ) (fetch : Fetch) (x : Values) (r : Record) (old now new : Whole) → PlayedStepsAreNext → FixedPartsStay → IsTest old → k < length old.harts → IsPlayable keeps k old fetch x → AreGiven k x old now
+pub taken_by : (k : ℕ) (fetch : Fetch) (x : Values) (r : Record) (old now new : Whole) → PlayedStepsAreNext → FixedPartsStay → IsTest old → k < length old.harts → IsPlayable k old fetch x → AreGiven k x old now
     → ((xs : List Access) (c : Change) → next_of k now ≡ Does xs c → new ≡ stepped k xs c now)
     → ((xs : List Access) (c : Change) → next_of k now ≡ Does xs c → r ≡ record_in (hart_of k now) now.memory xs c)
     → IsTakenBy k x r old new
-taken_by keeps k fetch x r old now new steps fixed test l f g goes records =
-    let t = ready keeps k fetch x old now steps test l f g in
+taken_by k fetch x r old now new steps fixed test l f g goes records =
+    let t = ready k fetch x old now steps test l f g in
     let same : fixed_in (hart_of k now) now.memory ≡ fixed_in (hart_of k old) old.memory =
     ap (λ (w : Whole). fixed_in (hart_of k w) w.memory) g.is ∙ fixed k g.places old test l g.can in
     record {
@@ -166,67 +154,11 @@ ram_stays k (e ∷ es) w = ram_stays k es (place_given k e.0 e.1 w) ∙ one e.0
     one (Csr addr) = refl
     one (Word addr) = refl
 
-set_satp : (hs : List Bare) (k : ℕ) (h d : Bare) → h.csrs.satp ≡ (slice_index_or hs k d).csrs.satp → (j : ℕ) → (slice_index_or (slice_set hs k h) j d).csrs.satp ≡ (slice_index_or hs j d).csrs.satp
-set_satp [] k h d same j = refl
-set_satp (g ∷ hs) zero h d same zero = same
-set_satp (g ∷ hs) zero h d same (suc j) = refl
-set_satp (g ∷ hs) (suc k) h d same zero = refl
-set_satp (g ∷ hs) (suc k) h d same (suc j) = set_satp hs k h d same j
-
-set_elsewhere : (hs : List Bare) (k : ℕ) (h d : Bare) (j : ℕ) → (j ≡ k → ⊥) → (slice_index_or (slice_set hs k h) j d).csrs.satp ≡ (slice_index_or hs j d).csrs.satp
-set_elsewhere [] k h d j other = refl
-set_elsewhere (g ∷ hs) zero h d zero other = absurd (other refl)
-set_elsewhere (g ∷ hs) zero h d (suc j) other = refl
-set_elsewhere (g ∷ hs) (suc k) h d zero other = refl
-set_elsewhere (g ∷ hs) (suc k) h d (suc j) other = set_elsewhere hs k h d j (λ e. other (ap suc e))
-
-first_satp : (o : Option Register) (v : ℕ) (csrs : CsrValues) → (with_first o v csrs).satp ≡ csrs.satp
-first_satp None v csrs = refl
-first_satp (Some Sstatus) v csrs = refl
-first_satp (Some Satp) v csrs = refl
-first_satp (Some Mstatus) v csrs = refl
-first_satp (Some Medeleg) v csrs = refl
-first_satp (Some Mhartid) v csrs = refl
-first_satp (Some (Lazy register)) v csrs = refl
-
-given_satp : (k : ℕ) (place : Place) (v : ℕ) (w : Whole) (j : ℕ) → (hart_of j (place_given k place v w)).csrs.satp ≡ (hart_of j w).csrs.satp
-given_satp k (Reg n) v w j = set_satp w.harts k (with_register n v (hart_of k w)) no_hart refl j
-given_satp k (Csr addr) v w j = set_satp w.harts k (with_csr addr v (hart_of k w)) no_hart (first_satp (register_at addr) v (hart_of k w).csrs) j
-given_satp k (Word addr) v w j = refl
-
-pub all_satp : (k : ℕ) (es : List (Place × ℕ)) (w : Whole) (j : ℕ) → (hart_of j (all_given k es w)).csrs.satp ≡ (hart_of j w).csrs.satp
-all_satp k [] w j = refl
-all_satp k (e ∷ es) w j = all_satp k es (place_given k e.0 e.1 w) j ∙ given_satp k e.0 e.1 w j
-
-trap_satp : (to : Priv) (csrs : CsrValues) (from : Priv) (cause pc value : ℕ) → (trapped_to to csrs from cause pc value).satp ≡ csrs.satp
-trap_satp U csrs from cause pc value = refl
-trap_satp S csrs from cause pc value = refl
-trap_satp M csrs from cause pc value = refl
-
-write_satp : (register : Register) (value : ℕ) (csrs : CsrValues) → IsNotSatp register → (with_value register value csrs).satp ≡ csrs.satp
-write_satp Sstatus value csrs h = refl
-write_satp Satp value csrs h = absurd h
-write_satp Mstatus value csrs h = refl
-write_satp Medeleg value csrs h = refl
-write_satp Mhartid value csrs h = refl
-write_satp (Lazy register) value csrs h = refl
-
-control_satp : (from : Priv) (pc : ℕ) (control : Control) (csrs : CsrValues) → KeepsSatp control → (csrs_after from pc control csrs).satp ≡ csrs.satp
-control_satp from pc Stay csrs h = refl
-control_satp from pc (Write register value) csrs h = write_satp register value csrs h
-control_satp from pc (Trap cause value) csrs h = trap_satp (takes_trap csrs.medeleg from cause) csrs from cause pc value
-control_satp from pc Mret csrs h = refl
-control_satp from pc Sret csrs h = refl
-
 pub same_change : (a b : List Entry) (c d : Change) → (let r : Answer Entry Change = Does a c in r) ≡ Does b d → c ≡ d
 same_change a b c d e = cc e
 
--- the step of an answer writes no satp, where that is asked
-keeps_satp : (keeps : Bool) (k : ℕ) (fetch : Fetch) (x : Values) (r : Record) (old new : Whole) → IsPlayable keeps k old fetch x → (t : IsTakenBy k x r old new) → keeps ≡ true → KeepsSatp t.change.control
-keeps_satp keeps k fetch x r old new f t asked = subst (λ (c : Change). KeepsSatp c.control) (same_change f.log t.log f.change t.change (sym f.played.plays ∙ t.plays)) (f.control asked)
-
-pub still : (keeps : Bool) (k : ℕ) (fetch : Fetch) (x : Values) (r : Record) (old new : Whole) → OthersStay → IsPlayable keeps k old fetch x → IsTakenBy k x r old new → IsStill keeps k old new
-still keeps k fetch x r old new others f t =
+pub still : (k : ℕ) (x : Values) (r : Record) (old new : Whole) → OthersStay → IsTakenBy k x r old new → IsStill old new
+still k x r old new others t =
     let places = t.places.places in
     let b = others k places old in
     let given : Whole = all_given k places old in
@@ -237,15 +169,6 @@ still keeps k fetch x r old new others f t =
       choices = ap (λ (w : Whole). w.choices) is ∙ b.choices;
       dropped = ap (λ (w : Whole). w.dropped) is ∙ b.dropped;
       harts = ap (λ (w : Whole). length w.harts) is ∙ length-set given.harts k (bare_after t.change (hart_of k given)) ∙ b.harts;
-      satp = λ j where_own.
-          ap (λ (w : Whole). (hart_of j w).csrs.satp) is
-          ∙ elim (cases_eq j k) [
-            | inl own ↦
-                set_satp given.harts k (bare_after t.change (hart_of k given)) no_hart
-                (control_satp (hart_of k given).privilege (hart_of k given).pc t.change.control (hart_of k given).csrs (keeps_satp keeps k fetch x r old new f t (where_own own))) j
-            | inr other ↦ set_elsewhere given.harts k (bare_after t.change (hart_of k given)) no_hart j other
-          ]
-          ∙ all_satp k places old j;
     }
 
 -- ---- the registers before the step

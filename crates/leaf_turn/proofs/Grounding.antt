@@ -1,9 +1,8 @@
 -- Names of a template in a test, and what a stand tells of a turn.
-use Rattle.std.proofs.Common.{◌≡◌, ℕ, zero, suc, if◌then◌else◌, ◌≤◌, ◌<◌, ◌/◌, ◌%◌, Bool, true, false, not, ◌&&◌, ◌||◌, eqb, leb, List, [], ◌∷◌, length, Option, None, refl, sym, ap, ◌∙◌, inl, inr, arith}
+use Rattle.std.proofs.Common.{◌≡◌, ℕ, zero, suc, if◌then◌else◌, ◌≤◌, ◌<◌, ◌/◌, ◌%◌, Bool, true, false, not, ◌&&◌, ◌||◌, eqb, List, [], ◌∷◌, length, Option, Some, None, refl, sym, ap, ◌∙◌, inl, inr, arith}
 use Rattle.std.specs.Prelude.{IfSome, slice_get, slice_index_or}
 use Rattle.std.specs.List.{list_all, list_any}
 use Rattle.std.proofs.lemmas.Bool.{and_from, cases_lt}
-use Rattle.sv_walk.specs.Translation.{is_translated}
 use Rattle.std.proofs.lemmas.List.{get_or_past}
 use Rattle.std.proofs.lemmas.Option.{slice_get_past}
 use Rattle.tpl_ast.specs.declared.template.Atom.{Atom}
@@ -24,19 +23,20 @@ use Rattle.rv_csr.specs.State.{CsrValues, lazy_value_at}
 use Rattle.rv_csr.specs.Table.{register_at}
 use Rattle.foot_map.specs.declared.touch.Touch.{Touch}
 use Rattle.foot_map.specs.Races.{IsFootprint, breaks}
-use Rattle.rv_hart.specs.Machine.{data_view, fetch_view}
 use Rattle.tpl_admit.specs.Races.{footprints_of}
 use Rattle.part_machine.specs.Whole.{Bare, hart_of, records_of}
 use Rattle.part_state.specs.Meaning.{IsTest}
 use Rattle.leaf_link.specs.Firsts.{data_pairs}
 use Rattle.leaf_link.specs.Turns.{Turn, in_frames, is_free_entry}
 use Rattle.leaf_link.specs.Cases.{all_tests, is_some_word, is_value_named, tests}
+use Rattle.tpl_admit.specs.Truth.{is_shared}
 use Rattle.leaf_stand.specs.declared.stand.Stand.{Stand}
-use Rattle.leaf_stand.specs.Stands.{IsStandOf, csr_held, held}
+use Rattle.data_goals.specs.declared.accesses.Accesses.{Accesses}
+use Rattle.leaf_stand.specs.Stands.{IsDataOf, IsStandOf, csr_held, held}
 use Rattle.turn_laws.specs.Given.{Setting, turn_at}
+use Rattle.leaf_turn.specs.Data.{IsDataAt}
 use Rattle.leaf_turn.specs.Entering.{Leads}
-use Rattle.leaf_turn.specs.Grounds.{AreNamesOf, HasSourceSet, IsDataAt, IsSettingOf, IsUntranslated, declared_set, is_free_fetch}
-use Rattle.leaf_turn.proofs.Bytes.{data_of_stand}
+use Rattle.leaf_turn.specs.Grounds.{AreNamesOf, HasSourceSet, IsSettingOf, declared_set, is_free_fetch}
 use Rattle.leaf_turn.proofs.Freedom.{same_freedom}
 
 pub all_names : (t : Template) (w : Whole) (names : List Name) (count : ℕ) → length w.names ≡ length t.names → length names ≡ count → length t.names ≤ count
@@ -71,11 +71,7 @@ pub record IsMadeOf (t : Template) (k : ℕ) (w : Whole) (own : List Touch) (pa 
   pub vectors : s.vectors.now ≡ t.vectors
   pub names : AreNamesOf t w s.names.now
   pub footprint : IsFootprint own (footprints_of (λ j. records_of j w))
-  pub bytes : IfSome s.bytes (IsDataAt t k w pa)
-
-and_false : (b c : Bool) → c ≡ false → (b && c) ≡ false
-and_false true c h = h
-and_false false c h = refl
+  pub accesses : IfSome s.accesses (IsDataAt t k w pa)
 
 all_free : (t : Turn) (log : List Entry) → ((e : Entry) → HasItem log e → is_free_entry t e ≡ true) → list_all (is_free_entry t) log ≡ true
 all_free t [] h = refl
@@ -84,6 +80,16 @@ all_free t (e ∷ log) h = and_from _ _ (h e (inl refl)) (all_free t log (λ f i
 behind_true : (a b : Bool) → a ≡ true → (a && b) ≡ b
 behind_true true b h = refl
 behind_true false b h = absurd (cc h)
+
+-- no hart is before the first
+pub first_is_alone : (s : Setting) (feet : List Touch) (k : ℕ) (w : Whole) → k ≡ 0 → (turn_at s feet k w).others ≡ []
+first_is_alone s feet k w first = ap (λ (n : ℕ). (turn_at s feet n w).others) first
+
+-- what the loads and stores of the first hart may do is so at each of its turns
+pub data_of_stand : (o : Option Accesses) (t : Template) (s : Setting) (feet : List Touch) (k : ℕ) (w : Whole) (walk : List Entry) (pa : ℕ)
+    → IsSettingOf t s → IsFootprint feet (footprints_of (λ j. records_of j w)) → Leads k w walk pa → IfSome o (IsDataAt t k w pa) → IfSome o (IsDataOf (turn_at s feet k w) walk pa)
+data_of_stand None t s feet k w walk pa setting f leads has = has
+data_of_stand (Some a) t s feet k w walk pa setting f leads has = record { alone = first_is_alone s feet k w has.first; has = has.has s feet walk setting f leads }
 
 pub stand_tells : (t : Template) (k : ℕ) (w : Whole) (own : List Touch) (st : Stand) (pa : ℕ) (s : Setting) (feet : List Touch) (walk : List Entry) → IsTest w → k < length w.harts → Leads k w walk pa
     → IsMadeOf t k w own pa st → IsSettingOf t s → HasSourceSet s st.sources.now → IsFootprint feet (footprints_of (λ j. records_of j w)) → IsStandOf st (turn_at s feet k w) walk pa
@@ -114,7 +120,7 @@ stand_tells t k w own st pa s feet walk test l leads m setting sources footprint
       satp = ap (λ (b : Bare). b.csrs.satp) is;
       number = ap (λ (b : Bare). b.csrs.hart) is;
       sources = sources;
-      bytes = data_of_stand st.bytes t s feet k w walk pa setting.pool footprint leads m.bytes;
+      accesses = data_of_stand st.accesses t s feet k w walk pa setting footprint leads m.accesses;
     }
   where
     free_at : ℕ → Bool
@@ -122,14 +128,6 @@ stand_tells t k w own st pa s feet walk test l leads m setting sources footprint
 
     csr_at : (csrs : CsrValues) (addr : ℕ) → lazy_value_at csrs addr ≡ csr_held csrs (register_at addr)
     csr_at csrs addr = refl
-
--- ---- the fetch
-
-pub fetch_untranslated : (k : ℕ) (w : Whole) (s : Setting) (feet : List Touch) → IsUntranslated k w → is_translated (fetch_view (turn_at s feet k w).fixed) ≡ false
-fetch_untranslated k w s feet plain = and_false _ _ (ap (λ (n : ℕ). leb 0x8000_0000 n) plain)
-
-pub data_untranslated : (k : ℕ) (w : Whole) (s : Setting) (feet : List Touch) → IsUntranslated k w → is_translated (data_view (turn_at s feet k w).fixed) ≡ false
-data_untranslated k w s feet plain = and_false _ _ (ap (λ (n : ℕ). leb 0x8000_0000 n) plain)
 
 -- ---- a template's setting
 
@@ -163,21 +161,21 @@ tests_apart sources s feet k w (atom ∷ leaf) u v =
     one atoms.NotTaken = refl
     one atoms.Shared = refl
 
--- ---- what passes atoms on a source rests on names alone
+-- ---- what passes atoms on a variable that no races are told of rests on names alone
 
-pub tests_alike : (t u : Turn) → ((n : ℕ) → t.names n ≡ u.names n) → ((n : ℕ) → t.sets n ≡ u.sets n) → (leaf : List Atom) (v : ℕ) → all_tests t leaf vars.A v ≡ all_tests u leaf vars.A v
-tests_alike t u names sets [] v = refl
-tests_alike t u names sets (atom ∷ leaf) v =
-    ap (λ (b : Bool). b && all_tests t leaf vars.A v) (one atom) ∙ ap (λ (b : Bool). tests u atom vars.A v && b) (tests_alike t u names sets leaf v)
+pub tests_alike : (t u : Turn) → ((n : ℕ) → t.names n ≡ u.names n) → ((n : ℕ) → t.sets n ≡ u.sets n) → (leaf : List Atom) (of : Var) (v : ℕ) → same_var vars.Pa of ≡ false → all_tests t leaf of v ≡ all_tests u leaf of v
+tests_alike t u names sets [] of v alone = refl
+tests_alike t u names sets (atom ∷ leaf) of v alone =
+    ap (λ (b : Bool). b && all_tests t leaf of v) (one atom) ∙ ap (λ (b : Bool). tests u atom of v && b) (tests_alike t u names sets leaf of v alone)
   where
-    one : (a : Atom) → tests t a vars.A v ≡ tests u a vars.A v
+    one : (a : Atom) → tests t a of v ≡ tests u a of v
     one (atoms.In x set) = refl
     one (atoms.NotIn x set) = refl
     one (atoms.Is x name) =
-        ap (λ (o : Option ℕ). if same_var x vars.A then is_value_named o (t.sets name) v else true) (names name)
-        ∙ ap (λ (l : List ℕ). if same_var x vars.A then is_value_named (u.names name) l v else true) (sets name)
+        ap (λ (o : Option ℕ). if same_var x of then is_value_named o (t.sets name) v else true) (names name)
+        ∙ ap (λ (l : List ℕ). if same_var x of then is_value_named (u.names name) l v else true) (sets name)
     one (atoms.Same x y) = refl
     one (atoms.Differ x y) = refl
     one atoms.Taken = refl
     one atoms.NotTaken = refl
-    one atoms.Shared = refl
+    one atoms.Shared = ap (λ (b : Bool). if b then is_shared t.others (Some v) else true) alone ∙ sym (ap (λ (b : Bool). if b then is_shared u.others (Some v) else true) alone)

@@ -1,6 +1,7 @@
 -- All that is known of a hart of a test and of memory is words.
-use Rattle.std.proofs.Common.{◌≡◌, ℕ, ◌/◌, ◌^◌, ◌<◌, length, Option, Some, None, slice_index_or, subst, inl, inr, arith}
-use Rattle.std.proofs.lemmas.Bool.{cases_lt}
+use Rattle.std.proofs.Common.{◌≡◌, ℕ, suc, ◌+◌, ◌*◌, ◌/◌, ◌^◌, ◌<◌, ◌⊎◌, Bool, true, false, ◌||◌, List, ◌∷◌, drop, length, Option, Some, None, slice_index_or, refl, sym, ap, ◌∙◌, subst, inl, inr, arith}
+use Rattle.std.proofs.Math.Seq.{drop-cons}
+use Rattle.std.proofs.lemmas.Bool.{and_parts, cases_lt, ltb-true}
 use Rattle.std.proofs.lemmas.Nat.{and_le_l}
 use Rattle.std.proofs.lemmas.List.{get_or_past}
 use Rattle.rv_csr.specs.declared.access.CsrAccess.{CsrAccess}
@@ -10,6 +11,7 @@ use Rattle.rv_csr.specs.declared.table.Register.{Register}
 use Rattle.rv_csr.specs.declared.table.Register.TheVariants.{Sstatus, Satp, Mstatus, Medeleg, Mhartid, Lazy}
 use Rattle.rv_csr.specs.State.{CsrValues, lazy_value, lazy_value_at, value_of}
 use Rattle.rv_csr.specs.Table.{register_at, sstatus_mask}
+use Rattle.rv_mem.specs.Ram.{in_ram, in_region}
 use Rattle.rv_mem.specs.Seen.{known_word}
 use Rattle.rv_script.specs.declared.place.Place.TheVariants.{Reg, Csr, Word}
 use Rattle.tpl_admit.specs.Races.{footprints_of}
@@ -67,3 +69,21 @@ known_words w k begun test l registers lazies (Reg n) v h = elim (cases_lt n 32)
 ]
 known_words w k begun test l registers lazies (Csr addr) v h = csr_words (hart_of k w).csrs lazies addr v h
 known_words w k begun test l registers lazies (Word addr) v h = memory_words w begun test (addr / 4) v h
+
+-- REGIONS OF RAM
+either : (a b : Bool) → (a || b) ≡ true → (a ≡ true) ⊎ (b ≡ true)
+either true b h = inl refl
+either false b h = inr h
+
+-- the words of a region that ends below 2 ^ 32 are near
+pub next_region : (regions : List (ℕ × ℕ)) (i : ℕ) (d : ℕ × ℕ) (end n : ℕ) → i < length regions → end ≡ (slice_index_or regions i d).1 → end < 2 ^ 32 → (in_ram (drop (i + 1) regions) n ≡ true → n < 2 ^ 30) → in_ram (drop i regions) n ≡ true → n < 2 ^ 30
+next_region regions i d end n less is small later h =
+    let next : suc i ≡ i + 1 = omega arith in
+    let rest : drop i regions ≡ slice_index_or regions i d ∷ drop (i + 1) regions = drop-cons regions i d less ∙ ap (λ (m : ℕ). slice_index_or regions i d ∷ drop m regions) next in
+    let k : in_ram (slice_index_or regions i d ∷ drop (i + 1) regions) n ≡ true = sym (ap (λ (l : List (ℕ × ℕ)). in_ram l n) rest) ∙ h in
+    elim (either (in_region (slice_index_or regions i d) n) (in_ram (drop (i + 1) regions) n) k) [
+      | inl here ↦
+          let bound : (n * 4) < (slice_index_or regions i d).1 = ltb-true _ _ (and_parts _ _ here).1 in
+          omega (arith, bound, is, small)
+      | inr there ↦ later there
+    ]

@@ -1,4 +1,3 @@
-pub mod Untranslated
 pub mod Freedom
 pub mod Giving
 pub mod Once
@@ -14,7 +13,7 @@ pub mod Plainness
 pub mod Wholly
 pub mod Building
 pub mod Playing
-pub mod Bytes
-pub mod Posing
+pub mod Data
+pub mod Rows
 pub mod Fetches
 pub mod Settled

@@ -42,9 +42,9 @@ one_list k new (e ∷ es) (f ∷ fs) w xs ys c d a b done other =
     λ i. head i ∷ rest i
 
 pub one_taking : PlayedStepsAreNext → TakingsAreOne
-one_taking steps keeps k fetch x r s old new other test l f t u =
-    let first = ready keeps k fetch x old t.given steps test l f t.places in
-    let second = ready keeps k fetch x old u.given steps test l f u.places in
+one_taking steps k fetch x r s old new other test l f t u =
+    let first = ready k fetch x old t.given steps test l f t.places in
+    let second = ready k fetch x old u.given steps test l f u.places in
     let lists : t.places.places ≡ u.places.places = one_list k (new_at k old x) t.places.places u.places.places old _ _ _ _ t.places.asked u.places.asked
     (ap (λ (w : Whole). next_of k w) (sym t.places.is) ∙ first.next) (ap (λ (w : Whole). next_of k w) (sym u.places.is) ∙ second.next) in
     let given : t.given ≡ u.given = t.places.is ∙ ap (λ (es : List (Place × ℕ)). all_given k es old) lists ∙ sym u.places.is in

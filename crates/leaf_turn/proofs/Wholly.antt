@@ -1,7 +1,9 @@
 -- The answer of a leaf on a test, from that of its stand.
-use Rattle.std.proofs.Common.{◌≡◌, ℕ, ◌<◌, ◌^◌, Bool, true, false, ◌+◌, ◌⊎◌, List, [], ◌∷◌, ◌++◌, refl, sym, ap, ◌∙◌, subst, inl, inr}
+use Rattle.std.proofs.Common.{◌≡◌, ℕ, ◌<◌, ◌^◌, ◌+◌, ◌⊎◌, List, [], ◌∷◌, ◌++◌, refl, sym, ap, ◌∙◌, subst, inl, inr}
 use Rattle.std.specs.List.{AllByRecursion}
-use Rattle.std.proofs.lemmas.Bool.{cases_Bool}
+use Rattle.std.specs.Prelude.{IfSome}
+use Rattle.dom_set.specs.Elements.{is_in}
+use Rattle.leaf_link.specs.Reaching.{HasPages}
 use Rattle.rv_csr.specs.declared.access.CsrAccess.{CsrAccess}
 use Rattle.rv_script.specs.Folds.{Entry}
 use Rattle.rv_script.specs.Lists.{HasItem}
@@ -19,9 +21,8 @@ use Rattle.leaf_link.specs.Answers.{values_in}
 use Rattle.leaf_link.specs.Firsts.{IsTurnAnswer}
 use Rattle.turn_laws.specs.Ahead.{AreVectors}
 use Rattle.leaf_turn.specs.Answers.{IsFound}
-use Rattle.leaf_turn.specs.Built.{LeavesWithoutDataBarIt, lets_data}
 use Rattle.leaf_turn.specs.Entering.{Leads}
-use Rattle.leaf_turn.specs.Finding.{AnswersAreFound, BarSatp, HasPlainData}
+use Rattle.leaf_turn.specs.Finding.{AnswersAreFound}
 use Rattle.part_machine.specs.Whole.{Whole, fixed_in, hart_of, records_of}
 use Rattle.leaf_link.specs.Turns.{Turn}
 use Rattle.leaf_link.specs.Values.{fixed_value}
@@ -31,15 +32,13 @@ use Rattle.leaf_link.specs.KindLaws.{IsPosed}
 use Rattle.leaf_stand.specs.declared.stand.Stand.{Stand}
 use Rattle.leaf_stand.specs.Stands.{IsStandOf}
 use Rattle.turn_laws.specs.Given.{Setting, known_at, turn_at}
-use Rattle.leaf_turn.specs.Grounds.{IsUntranslated}
 use Rattle.leaf_turn.specs.Wishes.{biases_of, mandatory_of}
-use Rattle.leaf_turn.proofs.Grounding.{data_untranslated}
 use Rattle.leaf_turn.proofs.Plainness.{each_plain, plain_biases, plain_mandatory}
 
 -- what an answer over a stand says of every turn that it tells
 abbrev pub AnswersStand : Stand → List Atom → List (List Atom) → List ℕ → ℕ → LeafAnswer → Type 0
 AnswersStand st leaf biases draws nodes answer =
-    (t : Turn) (walk : List Entry) (pa : ℕ) → IsStandOf st t walk pa → IsPosed t walk pa leaf → AllPlain biases → IsTurnLeafAnswer t pa leaf biases draws nodes answer
+    (t : Turn) (walk : List Entry) (pa : ℕ) → IsStandOf st t walk pa → IsPosed t walk pa leaf → IfSome st.accesses (λ a. HasPages t leaf (is_in a.pages)) → AllPlain biases → IsTurnLeafAnswer t pa leaf biases draws nodes answer
 
 -- what the answer of a leaf rests on
 pub posed_at : (k : ℕ) (w : Whole) (s : Setting) (feet : List Touch) (walk : List Entry) (pa : ℕ) (leaf : List Atom)
@@ -53,15 +52,15 @@ posed_at k w s feet walk pa leaf leads fixed words plain = record {
 }
 
 pub answered : (st : Stand) (k : ℕ) (w : Whole) (s : Setting) (feet : List Touch) (walk : List Entry) (pa : ℕ) (ws : List Wish) (leaf : List Atom) (biases : List (List Atom)) (draws : List ℕ) (nodes : ℕ) (answer : LeafAnswer)
-    → leaf ≡ mandatory_of ws → biases ≡ biases_of ws → AllByRecursion IsPlain (atoms_of ws) → Leads k w walk pa → IsStandOf st (turn_at s feet k w) walk pa
+    → leaf ≡ mandatory_of ws → biases ≡ biases_of ws → AllByRecursion IsPlain (atoms_of ws) → Leads k w walk pa → IsStandOf st (turn_at s feet k w) walk pa → IfSome st.accesses (λ a. HasPages (turn_at s feet k w) leaf (is_in a.pages))
     → ((access : CsrAccess) → fixed_value (fixed_in (hart_of k w) w.memory) access < 2 ^ 32) → AreWords (known_at k w)
     → AnswersStand st leaf biases draws nodes answer → IsTurnLeafAnswer (turn_at s feet k w) pa (mandatory_of ws) (biases_of ws) draws nodes answer
-answered st k w s feet walk pa ws leaf biases draws nodes answer same others plain leads stands fixed words answers =
+answered st k w s feet walk pa ws leaf biases draws nodes answer same others plain leads stands pages fixed words answers =
     let turn : Turn = turn_at s feet k w in
     let plain_leaf : AllByRecursion IsPlain leaf = subst (AllByRecursion IsPlain) (sym same) (plain_mandatory ws plain) in
     let plain_rest : AllPlain biases = subst AllPlain (sym others) (plain_biases ws plain) in
     let posed : IsPosed turn walk pa leaf = posed_at k w s feet walk pa leaf leads fixed words (each_plain leaf plain_leaf) in
-    let is : IsTurnLeafAnswer turn pa leaf biases draws nodes answer = answers turn walk pa stands posed plain_rest in
+    let is : IsTurnLeafAnswer turn pa leaf biases draws nodes answer = answers turn walk pa stands posed pages plain_rest in
     subst (λ (l : List Atom). IsTurnLeafAnswer turn pa l (biases_of ws) draws nodes answer) same
     (subst (λ (bs : List (List Atom)). IsTurnLeafAnswer turn pa leaf bs draws nodes answer) others is)
 
@@ -103,25 +102,14 @@ judged_more t pa draws nodes position (bias ∷ biases) before after plain (answ
     go answers.NoneFits rest later = let m = later (kept_with answers.NoneFits position bias before) rest in record { more = m.more; is = m.is; plain = m.plain }
     go answers.Spent rest later = let m = later (kept_with answers.Spent position bias before) rest in record { more = m.more; is = m.is; plain = m.plain }
 
--- the atoms of a leaf that have to hold let no data access through, or those of the hart are not translated
-pub plain_data : (k : ℕ) (w : Whole) (s : Setting) (feet : List Touch) (ws : List Wish) → LeavesWithoutDataBarIt → (lets_data ws ≡ true → (k ≡ 0) × IsUntranslated k w) → HasPlainData (turn_at s feet k w) (mandatory_of ws)
-plain_data k w s feet ws bar still op address through = elim (cases_Bool (lets_data ws)) [
-  | inl lets ↦ data_untranslated k w s feet (still lets).1
-  | inr none ↦ absurd (true_false (sym through ∙ bar ws none (turn_at s feet k w) op address))
-]
-  where
-    true_false : true ≡ false → ⊥
-    true_false h = absurd (cc h)
-
-pub found_by : (keeps : Bool) (k : ℕ) (w : Whole) (s : Setting) (feet : List Touch) (walk : List Entry) (pa : ℕ) (ws : List Wish) (draws : List ℕ) (nodes : ℕ) (answer : LeafAnswer) (x : Assignment)
+pub found_by : (k : ℕ) (w : Whole) (s : Setting) (feet : List Touch) (walk : List Entry) (pa : ℕ) (ws : List Wish) (draws : List ℕ) (nodes : ℕ) (answer : LeafAnswer) (x : Assignment)
     → AnswersAreFound → AllByRecursion IsPlain (atoms_of ws) → AreVectors s.vectors → IsFootprint feet (footprints_of (λ j. records_of j w)) → IsPosed (turn_at s feet k w) walk pa (mandatory_of ws)
-    → HasPlainData (turn_at s feet k w) (mandatory_of ws) → (keeps ≡ true → BarSatp (turn_at s feet k w) (mandatory_of ws))
-    → IsTurnLeafAnswer (turn_at s feet k w) pa (mandatory_of ws) (biases_of ws) draws nodes answer → answer.solved ≡ answers.Found x → IsFound keeps k w pa (values_in x)
-found_by keeps k w s feet walk pa ws draws nodes answer x law plain vectors footprint posed reach bars (atoms, judged, is) found =
+    → IsTurnLeafAnswer (turn_at s feet k w) pa (mandatory_of ws) (biases_of ws) draws nodes answer → answer.solved ≡ answers.Found x → IsFound k w pa (values_in x)
+found_by k w s feet walk pa ws draws nodes answer x law plain vectors footprint posed (atoms, judged, is) found =
     let turn : Turn = turn_at s feet k w in
     let leaf : List Atom = mandatory_of ws in
     let m = judged_more turn pa draws nodes 0 (biases_of ws) (record { atoms = leaf; dropped = [] }) (record { atoms = atoms; dropped = answer.dropped }) (plain_biases ws plain) judged in
     let one : IsTurnAnswer turn pa (leaf ++ m.more) draws nodes (answers.Found x) =
     subst (λ (l : List Atom). IsTurnAnswer turn pa l draws nodes (answers.Found x)) m.is (subst (λ (o : Solved). IsTurnAnswer turn pa atoms draws nodes o) found is) in
-    law keeps k w s feet walk pa leaf m.more draws nodes x vectors footprint reach bars
+    law k w s feet walk pa leaf m.more draws nodes x vectors footprint
     (record { fetched = posed.fetched; words = posed.words; fixed = posed.fixed; plain = both_plain leaf m.more (each_plain leaf (plain_mandatory ws plain)) m.plain }) one

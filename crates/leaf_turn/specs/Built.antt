@@ -1,24 +1,19 @@
--- What the atoms of a leaf let through: loads and stores, and accesses to satp.
-use Rattle.std.specs.Prelude.{◌≡◌, ℕ, Bool, true, false, not, ◌&&◌, ◌||◌, if◌then◌else◌, List, [], ◌∷◌}
-use Rattle.std.specs.List.{list_all, list_any}
+-- What the atoms of a leaf let through.
+use Rattle.std.specs.Prelude.{◌≡◌, ℕ, Bool, true, not, ◌&&◌, ◌||◌, if◌then◌else◌, List, [], ◌∷◌}
+use Rattle.std.specs.List.{list_any}
 use Rattle.dom_set.specs.Elements.{is_in}
 use Rattle.rv_isa.specs.declared.operation.Op.{Op}
 use Rattle.rv_isa.specs.declared.operation.TheConstants.{OPS}
 use Rattle.rv_isa.specs.Numbers.{op_number}
-use Rattle.rv_isa.specs.Table.{row_of}
 use Rattle.tpl_ast.specs.declared.template.Atom.{Atom}
 use Rattle.tpl_ast.specs.declared.template.Atom.TheVariants as atoms
 use Rattle.tpl_ast.specs.declared.template.Var.{Var}
 use Rattle.tpl_ast.specs.declared.template.Var.TheVariants as vars
 use Rattle.tpl_ast.specs.declared.template.Wish.{Wish}
 use Rattle.tpl_ast.specs.Leaves.{same_var}
-use Rattle.leaf_link.specs.Cases.{all_tests}
-use Rattle.leaf_link.specs.Turns.{Turn}
-use Rattle.leaf_link.specs.Values.{has_address, has_csr_operand}
 use Rattle.leaf_stand.specs.declared.stand.Stand.{Stand}
 use Rattle.leaf_stand.specs.Kinds.{kind_of}
-use Rattle.leaf_stand.specs.Posed.{are_posable, has_bytes, is_data}
-use Rattle.leaf_turn.specs.Finding.{BarSatp}
+use Rattle.leaf_stand.specs.Posed.{are_posable, has_accesses, is_data}
 use Rattle.leaf_turn.specs.Wishes.{mandatory_of}
 
 -- an atom lets a variable have this value; only sets are looked at
@@ -37,10 +32,6 @@ abbrev pub all_let : List Wish → Var → ℕ → Bool
 all_let [] u n = true
 all_let (w ∷ ws) u n = (w.prefer || lets w.atom u n) && all_let ws u n
 
--- the operation is that of a CSR instruction, whose CSR may be satp
-abbrev pub may_be_satp : List Wish → Op → Bool
-may_be_satp ws op = has_csr_operand (row_of op) && all_let ws vars.Csr 0x180
-
 -- the operation is a load or store, and let through
 abbrev pub may_be_data : List Wish → Op → Bool
 may_be_data ws op = is_data (kind_of op) && all_let ws vars.Op (op_number op)
@@ -48,22 +39,6 @@ may_be_data ws op = is_data (kind_of op) && all_let ws vars.Op (op_number op)
 abbrev pub lets_data : List Wish → Bool
 lets_data ws = list_any (may_be_data ws) OPS
 
--- the operation can't access satp, or is barred
-abbrev pub bars_satp_by : List Wish → Op → Bool
-bars_satp_by ws op = not (may_be_satp ws op) || not (all_let ws vars.Op (op_number op))
-
--- so it is with each operation
-abbrev pub bars_satp : List Wish → Bool
-bars_satp ws = list_all (bars_satp_by ws) OPS
-
--- what a leaf asks for can be posed wherever a hart stands, where the bytes of memory are told if a load or store is let through
-abbrev pub LeavesWithBytesArePosable : Type 0
-LeavesWithBytesArePosable = (ws : List Wish) (st : Stand) → (lets_data ws ≡ true → has_bytes st ≡ true) → are_posable st (mandatory_of ws) ≡ true
-
--- where none is, its atoms bar each operation that makes a data access
-abbrev pub LeavesWithoutDataBarIt : Type 0
-LeavesWithoutDataBarIt = (ws : List Wish) → lets_data ws ≡ false → (t : Turn) (op : Op) → has_address (row_of op) ≡ true → all_tests t (mandatory_of ws) vars.Op (op_number op) ≡ false
-
--- and they bar accesses to satp
-abbrev pub LeavesBarSatp : Type 0
-LeavesBarSatp = (ws : List Wish) → bars_satp ws ≡ true → (t : Turn) → BarSatp t (mandatory_of ws)
+-- what a leaf asks for can be posed wherever a hart stands, where it is told what loads and stores may do if one is let through
+abbrev pub LeavesWithAccessesArePosable : Type 0
+LeavesWithAccessesArePosable = (ws : List Wish) (st : Stand) → (lets_data ws ≡ true → has_accesses st ≡ true) → are_posable st (mandatory_of ws) ≡ true

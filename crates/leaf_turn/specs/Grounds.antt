@@ -1,4 +1,4 @@
--- What a template lets steps start, and harts whose addresses are not translated.
+-- What a template lets steps start.
 use Rattle.std.specs.Prelude.{◌≡◌, ℕ, ◌^◌, ◌<◌, ◌≤◌, length, Bool, not, ◌&&◌, nat_eq, List, [], Option, Some, None, slice_get, slice_index_or}
 use Rattle.std.specs.List.{list_any}
 use Rattle.dom_set.specs.Elements.{is_in}
@@ -6,17 +6,14 @@ use Rattle.rv_csr.specs.State.{CsrValues}
 use Rattle.rv_script.specs.declared.access.Role.TheVariants.{Fetch}
 use Rattle.rv_script.specs.Bytes.{covers}
 use Rattle.foot_map.specs.declared.touch.Touch.{Touch}
-use Rattle.foot_map.specs.Races.{IsFootprint, breaks}
+use Rattle.foot_map.specs.Races.{breaks}
 use Rattle.tpl_ast.specs.declared.template.NameDecl.{NameDecl}
 use Rattle.tpl_ast.specs.declared.template.Template.{Template}
 use Rattle.tpl_ast.specs.Limits.{most_flags, most_pool, most_tables}
-use Rattle.part_machine.specs.Whole.{Whole, hart_of, records_of}
+use Rattle.part_machine.specs.Whole.{Whole}
 use Rattle.leaf_stand.specs.declared.stand.Name.{Name}
 use Rattle.leaf_stand.specs.Stands.{set_named, value_named}
-use Rattle.data_bytes.specs.declared.memory.DataBytes.{DataBytes}
-use Rattle.data_goals.specs.Rows.{HasBytes}
-use Rattle.tpl_admit.specs.Races.{footprints_of}
-use Rattle.turn_laws.specs.Given.{Setting, turn_at}
+use Rattle.turn_laws.specs.Given.{Setting}
 
 -- the set of a declared name
 abbrev pub declared_set : Option NameDecl → List ℕ
@@ -42,10 +39,6 @@ pub record HasFewForms (t : Template) : Type 0 where
   pub pool : length t.pool ≤ most_pool
   pub flags : length t.flags ≤ most_flags
 
--- satp is 0, so that no address of the hart is translated
-abbrev pub IsUntranslated : ℕ → Whole → Type 0
-IsUntranslated k w = (hart_of k w).csrs.satp ≡ 0
-
 -- a fetch of a hart from an address races with none of the touches
 abbrev pub is_free_fetch : List Touch → ℕ → ℕ → Bool
 is_free_fetch touches hart addr = not (list_any (λ touch. covers (record { role = Fetch; addr = addr; size = 4; value = 0 }) touch.byte && breaks (nat_eq touch.hart hart) touch.role Fetch) touches)
@@ -60,9 +53,3 @@ pub record AreFixedWords (csrs : CsrValues) : Type 0 where
 -- an untouched source may have just the words of the set
 abbrev pub HasSourceSet : Setting → List ℕ → Type 0
 HasSourceSet s set = (v : ℕ) → v < 2 ^ 32 → s.sources v ≡ is_in set v
-
--- what loads and stores of the first hart, which are not translated, may do with the bytes of memory; its fetch is from an address
-pub record IsDataAt (t : Template) (k : ℕ) (w : Whole) (pa : ℕ) (bytes : DataBytes) : Type 0 where
-  pub first : k ≡ 0
-  pub untranslated : IsUntranslated k w
-  pub has : (s : Setting) (feet : List Touch) → s.pool ≡ t.pool → IsFootprint feet (footprints_of (λ j. records_of j w)) → HasBytes (turn_at s feet k w) pa bytes

@@ -1,7 +1,7 @@
 pub mod Grounds
 pub mod Answers
 pub mod Entering
-pub mod Untranslated
+pub mod Data
 pub mod Wishes
 pub mod Asking
 pub mod Finding

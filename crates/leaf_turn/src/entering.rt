@@ -44,7 +44,7 @@ use tpl_ast::Template;
 use turn_laws::{entries_are_next, given_places_are_known, places_are_next};
 
 /// What the translation of a hart's fetches goes by.
-fn fetch_view(part: &Part, hart: u8) -> View
+pub fn fetch_view(part: &Part, hart: u8) -> View
     requires { hart < length part.now.now.harts }
     ensures { result ≡ view_at hart (here part.now) }
 {
@@ -72,14 +72,14 @@ pub fn data_view(part: &Part, hart: u8) -> View
 }
 
 /// Whether addresses are translated (Privileged, 4.1.11).
-fn is_translated(view: View) -> bool
+pub fn is_translated(view: View) -> bool
     ensures { result ≡ is_translated view }
 {
     !matches!(view.privilege, Priv::M) && view.satp >= 0x8000_0000
 }
 
 /// The physical address of the root entry of an address (Privileged, 4.3.2).
-fn root_address(view: View, addr: u32) -> u64
+pub fn root_address(view: View, addr: u32) -> u64
     ensures { result ≡ root_address view addr }
 {
     u64::from(view.satp % 0x40_0000) * 0x1000 + u64::from(addr / 0x40_0000) * 4
@@ -94,7 +94,7 @@ pub fn root_of(part: &Part, hart: u8) -> u64
 }
 
 /// What a template lets new page table entries be.
-fn forms_of(alloc: Global, t: &Template) -> Result<Forms, OutOfMemory>
+pub fn forms_of(alloc: Global, t: &Template) -> Result<Forms, OutOfMemory>
     ensures { IfOk result (AreFormsOf t.now) }
 {
     let tables = Vec::from_slice(alloc, t.tables.as_slice())?;

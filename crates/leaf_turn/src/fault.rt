@@ -45,7 +45,7 @@ pub fn fault_answer(
     requires few { HasFewForms t.now }
     requires vectors { AreVectors t.now.vectors }
     ensures answer { IfOk result (λ answer. (s : Setting) (feet : List ATouch) → IsSettingOf t.now s → IsFootprint feet (footprints_of (λ k. records_of k (here part.now))) → IsFaultAnswer (turn_at s feet hart (here part.now)) (is_in causes.now) draws.now nodes answer) }
-    ensures playable { IfOk result (λ answer. (keeps : Bool) (x : AnAssignment) → answer ≡ Found x → IsPlayable keeps hart (here part.now) (Fails (root_at hart (here part.now))) (values_in x)) }
+    ensures playable { IfOk result (λ answer. (x : AnAssignment) → answer ≡ Found x → IsPlayable hart (here part.now) (Fails (root_at hart (here part.now))) (values_in x)) }
 {
     fetch_answers_are_exact();
     answers_are_playable();

@@ -1,8 +1,10 @@
 // What is known of a hart of a test is words.
-ghost use Rattle.std.specs.Prelude.{◌≡◌, ◌<◌, ◌%◌, ◌^◌, ℕ, Some, None, length, slice_index_or};
+ghost use Rattle.std.specs.Prelude.{◌≡◌, ◌<◌, ◌%◌, ◌^◌, ℕ, true, Some, None, length, slice_index_or};
 ghost use Rattle.rv_csr.specs.declared.access.CsrAccess.{CsrAccess as AnAccess};
 ghost use Rattle.rv_csr.specs.declared.table.LazyRegister.{LazyRegister as ALazy};
 ghost use Rattle.rv_csr.specs.State.{lazy_value};
+ghost use Rattle.rv_mem.specs.Ram.{in_ram};
+ghost use Rattle.rv_mem.specs.Seen.{known_word};
 ghost use Rattle.part_machine.specs.Whole.{fixed_in, hart_of};
 ghost use Rattle.part_state.specs.State.{here};
 ghost use Rattle.leaf_link.specs.Values.{fixed_value};
@@ -14,6 +16,7 @@ use part_laws::partial_test_laws;
 use part_state::Part;
 use rv_csr::{Csrs, LazyRegister};
 use rv_hart::Hart;
+use rv_mem::Ram;
 
 /// Reads each register. Its contract says that the known ones have words.
 fn registers_are_words(hart: &Hart)
@@ -64,4 +67,27 @@ pub fn known_is_words(part: &Part, hart: u8)
     registers_are_words(state);
     lazies_are_words(&state.csrs);
     fixed_are_words(&state.csrs);
+}
+
+/// Where a region of RAM ends.
+fn end_of(region: (u32, u32)) -> u32
+    ensures { result ≡ region.1 }
+{
+    region.1
+}
+
+/// Looks at each region of RAM. Its contract says that their words have addresses below 2^32.
+fn ram_is_near(ram: &Ram)
+    ensures { (n : ℕ) → in_ram ram.now n ≡ true → n < 2 ^ 30 }
+{
+    for region in ram.as_slice() {
+        let _end = end_of(*region);
+    }
+}
+
+/// Changes nothing. Its contract says that each known word of memory has an address below 2^32.
+pub fn known_is_near(part: &Part)
+    ensures { (n v : ℕ) → known_word ((here part.now).memory n) ≡ Some v → n < 2 ^ 30 }
+{
+    ram_is_near(part.ram());
 }

@@ -1,31 +1,15 @@
 // Laws of turns.
 ghost use Rattle.leaf_turn.specs.Answers.{TakingsAreOne};
 ghost use Rattle.leaf_turn.specs.Finding.{AnswersAreFound, FaultsArePlayable, FetchesAreEnterable, FoundArePlayable};
-ghost use Rattle.leaf_turn.specs.Untranslated.{LeafAnswersWithoutRows};
 
-use leaf_link::{
-    biases_are_kept, candidates_are_in_domains, data_rows_exist, entries_are_by_places,
-    values_are_by_places,
-};
+use leaf_link::{entries_are_by_places, values_are_by_places};
 use turn_laws::{entries_are_next, played_steps_are_next, steps_are_played};
 
-/// Does nothing. Its contract says that a leaf's answer over the rows of addresses that are not translated, or over any where
-/// data accesses are and nothing that is posed makes one, is the answer of its turn.
-pub fn rows_are_there()
-    ensures { LeafAnswersWithoutRows }
-{
-    biases_are_kept();
-    data_rows_exist();
-}
-
 /// Does nothing. Its contract says that what is found for a leaf, with the biases that are kept, is the values of a
-/// candidate that can be taken; and that it does not access satp where the leaf's atoms bar that.
+/// candidate that can be taken.
 pub fn answers_are_found()
     ensures { AnswersAreFound }
-{
-    candidates_are_in_domains();
-    data_rows_exist();
-}
+{}
 
 /// Does nothing. Its contract says that the values of what is found for a leaf, and for a `fault` leaf, are those of a step
 /// that its hart can make; and that those of what is found for a fetch are of page table entries that can be given.

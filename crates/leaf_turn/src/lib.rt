@@ -1,9 +1,8 @@
 //! A leaf's turn on a test in the making: the answer of its fetch, with the page table entries that it starts; what is
 //! known where its hart then stands, the answer of the leaf, and the step of an answer, with the places that it starts.
-//! Loads and stores are taken in the first hart where its addresses are not translated, and then it tells what may be
-//! done with the bytes of memory. It stands on `fetch_ways`, `leaf_pose`, `data_bytes`, `turn_laws`, `part_state` and
-//! `fd_solve`. It promises that an answer is that of the leaf's turn over candidates, and that the step is that of the
-//! answer.
+//! Loads and stores are taken in the first hart, of which it tells what they may do. It stands on `fetch_ways`,
+//! `data_bytes`, `data_ways`, `leaf_pose`, `turn_laws`, `part_state` and `fd_solve`. It promises that an answer is that
+//! of the leaf's turn over candidates, and that the step is that of the answer.
 #![tactic(auto)]
 
 mod answer;
@@ -19,12 +18,12 @@ mod taking;
 mod wishes;
 
 pub use answer::{answer_of, leaf_answer};
-pub use built::{bars_satp, leaves_with_bytes_are_posable, lets_data};
+pub use built::{leaves_with_accesses_are_posable, lets_data};
 pub use entering::{Entered, enter_fetch, root_of};
 pub use error::OutOfMemory;
 pub use fault::fault_answer;
 pub use known::known_is_words;
-pub use laws::{answers_are_found, answers_are_playable, rows_are_there, takings_are_one};
+pub use laws::{answers_are_found, answers_are_playable, takings_are_one};
 pub use stand::{names_of, sources_of, stand_of};
 pub use taking::{Fetch, Step, take};
 pub use wishes::{biases_of, mandatory_of};

@@ -13,11 +13,12 @@ ghost use Rattle.dom_set.specs.Elements.{is_in};
 ghost use Rattle.leaf_link.specs.Cases.{all_tests, is_some_word};
 ghost use Rattle.leaf_stand.specs.Stands.{IsStandOf};
 ghost use Rattle.turn_laws.specs.Given.{Setting, turn_at};
+ghost use Rattle.leaf_turn.specs.Data.{IsDataAt};
 ghost use Rattle.leaf_turn.specs.Entering.{Leads, TellsTraps};
-ghost use Rattle.leaf_turn.specs.Grounds.{AreNamesOf, HasSourceSet, IsDataAt, IsSettingOf, is_free_fetch};
+ghost use Rattle.leaf_turn.specs.Grounds.{AreNamesOf, HasSourceSet, IsSettingOf, is_free_fetch};
 
 use crate::OutOfMemory;
-use data_bytes::DataBytes;
+use data_goals::Accesses;
 use dom_set::Set;
 use foot_map::FootMap;
 use leaf_pose::{Name, Stand};
@@ -111,7 +112,7 @@ pub fn bare_stand<'t>(
         word: None,
         fetches: false,
         pairs: 1,
-        bytes: None,
+        accesses: None,
         sources: none,
         vectors: &t.vectors,
         names,
@@ -119,8 +120,7 @@ pub fn bare_stand<'t>(
 }
 
 /// What is known where a hart stands whose pc leads to a physical address, the words that an untouched source may be
-/// started with, how many pairs of page table entries a load or store may start, and what those of the first hart may do
-/// with the bytes of memory where they are not translated.
+/// started with, how many pairs of page table entries a load or store may start, and what those of the first hart may do.
 pub fn stand_of<'t>(
     part: &Part,
     hart: u8,
@@ -129,15 +129,15 @@ pub fn stand_of<'t>(
     t: &'t Template,
     names: &'t [Name<'t>],
     sources: &'t Set,
-    bytes: Option<DataBytes>,
+    accesses: Option<Accesses>,
 ) -> Stand<'t>
     requires hart { hart < length part.now.now.harts }
     requires aligned { pa % 4 ≡ 0 }
     requires pairs { (s : Setting) (feet : List ATouch) → IsSettingOf t.now s → data_pairs (turn_at s feet hart (here part.now)) ≡ pairs }
     requires names { AreNamesOf t.now (here part.now) names.now }
-    requires bytes { IfSome bytes (IsDataAt t.now hart (here part.now) pa) }
+    requires accesses { IfSome accesses (IsDataAt t.now hart (here part.now) pa) }
     ensures stand { (s : Setting) (feet : List ATouch) (walk : List AnEntry) → Leads hart (here part.now) walk pa → IsSettingOf t.now s → HasSourceSet s sources.now → IsFootprint feet (footprints_of (λ k. records_of k (here part.now))) → IsStandOf result (turn_at s feet hart (here part.now)) walk pa }
-    ensures told { result.bytes ≡ bytes }
+    ensures told { result.accesses ≡ accesses }
     // there are such footprints
     ensures feet { (feet : List ATouch) × IsFootprint feet (footprints_of (λ k. records_of k (here part.now))) }
 {
@@ -152,7 +152,7 @@ pub fn stand_of<'t>(
         word,
         fetches: may_fetch(part.feet(), hart, pa, word, t.pool.as_slice()),
         pairs,
-        bytes,
+        accesses,
         sources,
         vectors: &t.vectors,
         names,

@@ -1,23 +1,28 @@
 // The step of an answer.
-ghost use Rattle.std.specs.Prelude.{◌≡◌, ◌<◌, Bool, length, OnOk, OnErr, IfOk};
+ghost use Rattle.std.specs.Prelude.{◌≡◌, ◌%◌, ◌^◌, ◌<◌, ℕ, length, OnOk, OnErr, IfOk};
 ghost use Rattle.rv_script.specs.declared.place.Place.{Place as APlace};
 ghost use Rattle.rv_hart.specs.Clauses.{IsFitRecord};
 ghost use Rattle.part_state.specs.State.{here};
 ghost use Rattle.leaf_link.specs.Answers.{values_in};
-ghost use Rattle.leaf_link.specs.Placing.{IsInstruction, place_value};
+ghost use Rattle.leaf_link.specs.Placing.{IsInstruction};
 ghost use Rattle.leaf_link.specs.Values.{instr_in};
-ghost use Rattle.rv_script.specs.Logs.{enlarged};
+ghost use Rattle.rv_script.specs.Logs.{enlarged, value_or};
+ghost use Rattle.fd_prob.specs.declared.slot.Slot.TheVariants.{FirstPte as First};
 ghost use Rattle.leaf_link.specs.Candidates.{registers_from};
 ghost use Rattle.turn_laws.specs.Given.{known_at};
-ghost use Rattle.leaf_turn.specs.Answers.{AreGiven, AreKept, IsPlayable, IsStill, IsTakenBy, new_at, started_with};
+ghost use Rattle.leaf_turn.specs.Answers.{AreGiven, AreKept, IsPlayable, IsStill, IsTakenBy, is_at, new_at, second_of, started_with, value_started, walk_of, word_value};
 ghost use Rattle.leaf_link.specs.FetchPlacing.{entry_value};
 
 use crate::OutOfMemory;
+use crate::entering::{data_view, is_translated, root_address};
+use crate::known::known_is_near;
 use fd_prob::{Assignment, Slot};
 use part_state::{Part, Probe};
 use rv_hart::Record;
 use rv_isa::{Instr, OPS, codec_laws, encode};
+use rv_mem::{Seen, Words};
 use rv_script::Place;
+use sv_walk::{is_invalid, is_pointer};
 use turn_laws::{given_places_are_known, places_are_next, played_steps_are_next};
 
 /// The instruction of an answer.
@@ -44,19 +49,97 @@ pub enum Fetch {
     Fails(u64),
 }
 
-/// The value with which an answer starts a place, where the word at `pa` is fetched: the fetched word or the data word, the
-/// value of a source register, or the vector of a trap. A step that reads a CSR takes no trap, so where the vector is 0 the
-/// value of a CSR is the old one.
-fn place_value(x: &Assignment, pa: u32, place: Place) -> u32
+/// Where the page table entries of a data access stand.
+#[derive(Clone, Copy)]
+struct DataWalk {
+    /// The physical address of the root entry.
+    root: u64,
+    /// The physical address of the second one, where the root entry is a pointer.
+    second: Option<u64>,
+}
+
+/// Where the second entry of an address stands, if an entry is a pointer (Privileged, 4.3.2).
+fn second_of(ea: u32, entry: u32) -> Option<u64>
+    ensures { result ≡ second_of ea entry }
+{
+    if is_invalid(entry) || !is_pointer(entry) {
+        return None;
+    }
+    Some(u64::from(entry >> 10) * 4096 + u64::from((ea >> 12) % 1024) * 4)
+}
+
+/// What the root entry at a physical address holds: it is known, or an answer's new one.
+fn root_entry(part: &Part, root: u64, x: &Assignment) -> u32
+    requires aligned { root % 4 ≡ 0 }
+    requires near { root < 2 ^ 34 }
+    ensures { (k : ℕ) → result ≡ value_or (known_at k (here part.now) (APlace.Word root)) (values_in x.now First) }
+{
+    known_is_near(part);
+    let Ok(addr) = u32::try_from(root) else {
+        return x.value(Slot::FirstPte);
+    };
+    match part.memory().word(addr) {
+        Seen::Known(word) => word,
+        Seen::Untouched | Seen::Vacant => x.value(Slot::FirstPte),
+    }
+}
+
+/// Where the page table entries stand that the data access of an answer reads, if its address is translated.
+fn walk_of(part: &Part, hart: u8, x: &Assignment) -> Option<DataWalk>
+    requires { hart < length part.now.now.harts }
+    ensures { result ≡ walk_of hart (here part.now) (values_in x.now) }
+{
+    let view = data_view(part, hart);
+    if !is_translated(view) {
+        return None;
+    }
+    let ea = x.value(Slot::Ea);
+    let root = root_address(view, ea);
+    let second = second_of(ea, root_entry(part, root, x));
+    Some(DataWalk { root, second })
+}
+
+/// Whether an entry stands at an address.
+fn is_at(at: Option<u64>, addr: u32) -> bool
+    ensures { result ≡ is_at at addr }
+{
+    match at {
+        None => false,
+        Some(at) => u64::from(addr) == at,
+    }
+}
+
+/// The value with which an answer starts a word of its data access: a page table entry or the data word.
+fn word_value(x: &Assignment, walk: Option<DataWalk>, addr: u32) -> u32
+    ensures { result ≡ word_value walk (values_in x.now) addr }
+{
+    match walk {
+        None => x.value(Slot::DataWord),
+        Some(walk) => {
+            if u64::from(addr) == walk.root {
+                x.value(Slot::FirstPte)
+            } else if is_at(walk.second, addr) {
+                x.value(Slot::SecondPte)
+            } else {
+                x.value(Slot::DataWord)
+            }
+        }
+    }
+}
+
+/// The value with which an answer starts a place, where the word at `pa` is fetched: the fetched word or one of the data
+/// access, the value of a source register, or the vector of a trap. A step that reads a CSR takes no trap, so where the
+/// vector is 0 the value of a CSR is the old one.
+fn value_started(x: &Assignment, walk: Option<DataWalk>, pa: u32, place: Place) -> u32
     requires { IsInstruction (values_in x.now) }
-    ensures { result ≡ place_value (values_in x.now) pa place }
+    ensures { result ≡ value_started walk (values_in x.now) pa place }
 {
     match place {
         Place::Word(addr) => {
             if addr == pa {
                 encode(&instruction(x))
             } else {
-                x.value(Slot::DataWord)
+                word_value(x, walk, addr)
             }
         }
         Place::Reg(n) => {
@@ -94,12 +177,12 @@ fn entry_value(x: &Assignment, root: u64, place: Place) -> u32
 }
 
 /// The value with which an answer starts a place.
-fn started_with(x: &Assignment, fetch: Fetch, place: Place) -> u32
+fn started_with(x: &Assignment, walk: Option<DataWalk>, fetch: Fetch, place: Place) -> u32
     requires { IsInstruction (values_in x.now) }
-    ensures { result ≡ started_with (values_in x.now) fetch place }
+    ensures { result ≡ started_with walk (values_in x.now) fetch place }
 {
     match fetch {
-        Fetch::From(pa) => place_value(x, pa, place),
+        Fetch::From(pa) => value_started(x, walk, pa, place),
         Fetch::Fails(root) => entry_value(x, root, place),
     }
 }
@@ -107,19 +190,20 @@ fn started_with(x: &Assignment, fetch: Fetch, place: Place) -> u32
 /// Gives the hart what an answer starts, place by place, as its next step asks for it.
 fn give(part: &mut Part, hart: u8, fetch: Fetch, x: &Assignment) -> Result<(), OutOfMemory>
     requires hart { hart < length part.old.now.harts }
-    requires playable { (keeps : Bool) × IsPlayable keeps hart (here part.old) fetch (values_in x.now) }
+    requires playable { IsPlayable hart (here part.old) fetch (values_in x.now) }
     ensures given { OnOk result (AreGiven hart (values_in x.now) (here part.old) (here part.new)) }
     ensures kept { AreKept part.old part.new }
 {
     places_are_next();
     given_places_are_known();
     part.is_test();
+    let walk = walk_of(part, hart, x);
     // A step asks ten questions at most.
     let mut left = 10u8;
     loop {
         match part.probe(hart) {
             Probe::Missing(place) => {
-                part.start_place(hart, place, started_with(x, fetch, place))?;
+                part.start_place(hart, place, started_with(x, walk, fetch, place))?;
                 left -= 1;
             }
             Probe::Ready(_) | Probe::Outside | Probe::Clash(_) => return Ok(()),
@@ -142,11 +226,11 @@ fn give_and_step(
     x: &Assignment,
 ) -> Result<Step, OutOfMemory>
     requires hart { hart < length part.old.now.harts }
-    requires playable { (keeps : Bool) × IsPlayable keeps hart (here part.old) fetch (values_in x.now) }
+    requires playable { IsPlayable hart (here part.old) fetch (values_in x.now) }
     ensures taken { IfOk result (λ s. IsTakenBy hart (values_in x.now) s.record (here part.old) (here part.new)) }
     ensures before { IfOk result (λ s. s.before ≡ registers_from (enlarged (known_at hart (here part.old)) (new_at hart (here part.old) (values_in x.now))) 0 32) }
     ensures fit { IfOk result (λ s. IsFitRecord s.record) }
-    ensures still { OnOk result ((keeps : Bool) → IsPlayable keeps hart (here part.old) fetch (values_in x.now) → IsStill keeps hart (here part.old) (here part.new)) }
+    ensures still { OnOk result (IsStill (here part.old) (here part.new)) }
     ensures kept { AreKept part.old part.new }
 {
     played_steps_are_next();
@@ -161,11 +245,11 @@ fn give_and_step(
 /// Starts the places of an answer and takes its step. A refusal changes nothing.
 pub fn take(part: &mut Part, hart: u8, fetch: Fetch, x: &Assignment) -> Result<Step, OutOfMemory>
     requires hart { hart < length part.old.now.harts }
-    requires playable { (keeps : Bool) × IsPlayable keeps hart (here part.old) fetch (values_in x.now) }
+    requires playable { IsPlayable hart (here part.old) fetch (values_in x.now) }
     ensures taken { IfOk result (λ s. IsTakenBy hart (values_in x.now) s.record (here part.old) (here part.new)) }
     ensures before { IfOk result (λ s. s.before ≡ registers_from (enlarged (known_at hart (here part.old)) (new_at hart (here part.old) (values_in x.now))) 0 32) }
     ensures fit { IfOk result (λ s. IsFitRecord s.record) }
-    ensures still { OnOk result ((keeps : Bool) → IsPlayable keeps hart (here part.old) fetch (values_in x.now) → IsStill keeps hart (here part.old) (here part.new)) }
+    ensures still { OnOk result (IsStill (here part.old) (here part.new)) }
     ensures kept { OnOk result (AreKept part.old part.new) }
     ensures refused { OnErr result (part.new ≡ part.old) }
 {

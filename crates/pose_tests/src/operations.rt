@@ -1,7 +1,7 @@
 // Leaves that any operation of those that are built may meet.
 
 use crate::reading::{one, two_frames};
-use data_bytes::DataBytes;
+use data_goals::Accesses;
 use dom_set::Set;
 use fd_solve::{Solved, solve};
 use leaf_pose::{Stand, are_between, problem_of};
@@ -12,8 +12,8 @@ use std::process::Abort;
 use std::test::Fail;
 use tpl_ast::{Atom, Var};
 
-/// A hart in M of which nothing but x0 is known, and the bytes of memory where they are told.
-pub fn stand_with(vectors: &Set, bytes: Option<DataBytes>) -> Stand<'_> {
+/// A hart in M of which nothing but x0 is known, and what loads and stores may do where that is told.
+pub fn stand_with(vectors: &Set, accesses: Option<Accesses>) -> Stand<'_> {
     let mut registers = [None; 32];
     registers[0] = Some(0);
     Stand {
@@ -24,14 +24,14 @@ pub fn stand_with(vectors: &Set, bytes: Option<DataBytes>) -> Stand<'_> {
         word: None,
         fetches: true,
         pairs: 1,
-        bytes,
+        accesses,
         sources: vectors,
         vectors,
         names: &[],
     }
 }
 
-/// Whether some instruction of an operation can be started. Without the bytes of memory, loads and stores can't be posed.
+/// Whether some instruction of an operation can be started. Where it isn't told what they may do, loads and stores can't be posed.
 fn fits(rt: &impl Abort, alloc: Global, stand: &Stand, op: Op) -> Result<bool, Fail> {
     let mut leaf = Vec::new(alloc);
     leaf.push(Atom::In(Var::Op, one(alloc, u32::from(op as u8))?))?;
@@ -44,9 +44,9 @@ fn fits(rt: &impl Abort, alloc: Global, stand: &Stand, op: Op) -> Result<bool, F
 }
 
 /// How many operations can be started.
-fn how_many_fit(rt: &impl Abort, alloc: Global, bytes: Option<DataBytes>) -> Result<u64, Fail> {
+fn how_many_fit(rt: &impl Abort, alloc: Global, accesses: Option<Accesses>) -> Result<u64, Fail> {
     let vectors = one(alloc, 0x8000_0200)?;
-    let stand = stand_with(&vectors, bytes);
+    let stand = stand_with(&vectors, accesses);
     let mut count = 0u64;
     for op in OPS {
         if fits(rt, alloc, &stand, op)? {
@@ -61,8 +61,8 @@ fn operations_that_fit(rt: HostRuntime) -> Result<(), Fail> {
     let alloc = rt.alloc();
     // all but 8 loads and stores
     assert_eq!(&rt; how_many_fit(&rt, alloc, None)?, 50);
-    let bytes = two_frames(alloc)?;
-    assert_eq!(&rt; how_many_fit(&rt, alloc, Some(bytes))?, 58);
+    let accesses = two_frames(alloc)?;
+    assert_eq!(&rt; how_many_fit(&rt, alloc, Some(accesses))?, 58);
     Ok(())
 }
 
@@ -89,14 +89,15 @@ fn cases_of_a_bare_leaf(rt: HostRuntime) -> Result<(), Fail> {
 fn cases_of_loads_and_stores(rt: HostRuntime) -> Result<(), Fail> {
     let alloc = rt.alloc();
     let vectors = one(alloc, 0x8000_0200)?;
-    let bytes = two_frames(alloc)?;
-    let stand = stand_with(&vectors, Some(bytes));
+    let accesses = two_frames(alloc)?;
+    let stand = stand_with(&vectors, Some(accesses));
     let mut leaf = Vec::new(alloc);
     leaf.push(Atom::In(Var::Op, Set::from_ranges(alloc, &[(10, 17)], 1)?))?;
     assert!(&rt; are_between(&leaf));
     assert!(&rt; stand.are_posable(&leaf));
     let posed = problem_of(alloc, &stand, &leaf, &[0; 16])?;
-    // of each of 8 operations a first case, and one for each of its goals
-    assert_eq!(&rt; posed.problem.cases.len(), 8 + 8 * 4);
+    // of each of 8 operations a first case, and one for each of its goals that has an address: no byte is misaligned, and no
+    // known one may be stored
+    assert_eq!(&rt; posed.problem.cases.len(), 8 + 8 * 4 - 3 - 3);
     Ok(())
 }

@@ -1,8 +1,10 @@
 // What stands in the rows of worked leaves. A row that can't be read ends the test.
 
 use data_bytes::DataBytes;
+use data_goals::{Accesses, DataEnd, DataWay};
 use dom_set::{OutOfMemory, Set};
 use leaf_pose::Name;
+use rv_csr::Cause;
 use rv_isa::{OPS, name_of};
 use std::alloc::Global;
 use std::process::Abort;
@@ -22,15 +24,48 @@ pub fn one(alloc: Global, value: u32) -> Result<Set, OutOfMemory> {
     Set::from_ranges(alloc, &[(value, value)], 1)
 }
 
-/// The bytes of a memory of two frames: 80000000 to 80000fff are known and may not be stored, 80001000 to 80001fff have no
-/// value yet.
-pub fn two_frames(alloc: Global) -> Result<DataBytes, OutOfMemory> {
-    Ok(DataBytes {
+/// The ways of addresses that are not translated: those of these bytes lead to themselves, all others fail.
+fn ways(alloc: Global, bytes: &[(u32, u32)], cause: Cause) -> Result<Vec<DataWay>, OutOfMemory> {
+    let there = Set::from_ranges(alloc, bytes, 1)?;
+    let outside = Set::all(alloc)?.minus(alloc, &there)?;
+    let mut ways = Vec::new(alloc);
+    ways.push(DataWay {
+        ea: there,
+        first: one(alloc, 0)?,
+        second: one(alloc, 0)?,
+        end: DataEnd::At {
+            base: 0,
+            mask: u32::MAX,
+        },
+    })?;
+    ways.push(DataWay {
+        ea: outside,
+        first: one(alloc, 0)?,
+        second: one(alloc, 0)?,
+        end: DataEnd::Fails(cause),
+    })?;
+    Ok(ways)
+}
+
+/// What loads and stores may do with a memory of two frames: 80000000 to 80000fff are known and may not be stored, 80001000
+/// to 80001fff have no value yet.
+pub fn two_frames(alloc: Global) -> Result<Accesses, OutOfMemory> {
+    let frames = [(0x8000_0000, 0x8000_1fff)];
+    let bytes = DataBytes {
         known: Set::from_ranges(alloc, &[(0x8000_0000, 0x8000_0fff)], 1)?,
         fresh: Set::from_ranges(alloc, &[(0x8000_1000, 0x8000_1fff)], 1)?,
         outside: Set::from_ranges(alloc, &[(0, 0x7fff_ffff), (0x8000_2000, u32::MAX)], 1)?,
         not_loaded: Set::new(alloc),
         not_stored: Set::from_ranges(alloc, &[(0x8000_0000, 0x8000_0fff)], 1)?,
+    };
+    Ok(Accesses {
+        bytes,
+        walked: Set::new(alloc),
+        pages: Set::all(alloc)?,
+        firsts: one(alloc, 0)?,
+        seconds: one(alloc, 0)?,
+        loads: ways(alloc, &frames, Cause::LoadAccess)?,
+        stores: ways(alloc, &frames, Cause::StoreAccess)?,
     })
 }
 

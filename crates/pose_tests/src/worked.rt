@@ -2,7 +2,7 @@
 ghost use Rattle.std.specs.Prelude.{◌≡◌, All, IfOk, length};
 
 use crate::reading::{atoms, count, name_sets, names, number, two_frames, vectors};
-use data_bytes::DataBytes;
+use data_goals::Accesses;
 use dom_set::Set;
 use fd_prob::{Assignment, Extra, space};
 use fd_solve::{LeafAnswer, Solved, solve_leaf};
@@ -129,20 +129,20 @@ fn csrs(known: &str) -> Csrs {
     csrs
 }
 
-/// The bytes of memory: `memory` for two frames.
-fn bytes_of(alloc: Global, known: &str) -> Result<Option<DataBytes>, Fail> {
+/// What loads and stores may do: `memory` for two frames.
+fn accesses_of(alloc: Global, known: &str) -> Result<Option<Accesses>, Fail> {
     if !known.contains("memory") {
         return Ok(None);
     }
-    let bytes = two_frames(alloc)?;
-    Ok(Some(bytes))
+    let accesses = two_frames(alloc)?;
+    Ok(Some(accesses))
 }
 
 fn stand_of<'t>(
     rt: &impl Abort,
     hart: &str,
     known: &str,
-    bytes: Option<DataBytes>,
+    accesses: Option<Accesses>,
     vectors: &'t Set,
     names: &'t [Name],
 ) -> Stand<'t> {
@@ -155,7 +155,7 @@ fn stand_of<'t>(
         word: word_of(rt, known),
         fetches: !known.contains("unfetched"),
         pairs: 1,
-        bytes,
+        accesses,
         sources: vectors,
         vectors,
         names,
@@ -247,8 +247,8 @@ fn is_right(rt: &impl Abort, alloc: Global, line: &str) -> Result<bool, Fail> {
     let vectors = vectors(rt, alloc, known)?;
     let sets = name_sets(rt, alloc, known)?;
     let names = names(rt, alloc, known, &sets)?;
-    let bytes = bytes_of(alloc, known)?;
-    let stand = stand_of(rt, hart, known, bytes, &vectors, &names);
+    let accesses = accesses_of(alloc, known)?;
+    let stand = stand_of(rt, hart, known, accesses, &vectors, &names);
     let answer = answer(rt, alloc, &stand, &mut row)?;
     let right = is_solved(rt, answer.solved, row.part(rt));
     Ok(right && are_dropped(rt, answer.dropped.as_slice(), row.part(rt)))

@@ -1,9 +1,5 @@
-use Rattle.data_goals.proofs.Untranslated.{rows_are_there}
 use Rattle.data_goals.proofs.Operations.{goals_are_ways, ways_are_goals}
 use Rattle.data_goals.proofs.laws.accesses_are_goals.Goals as goal
-
-pub returns-clause-rows : goal.returns-clause-rows
-returns-clause-rows c = rows_are_there
 
 pub returns-clause-there : goal.returns-clause-there
 returns-clause-there c = ways_are_goals

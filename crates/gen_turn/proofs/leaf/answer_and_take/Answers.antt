@@ -1,11 +1,8 @@
 use Rattle.std.proofs.Common.{ℕ, Bool, List, refl, sym, subst}
 use Rattle.fd_solve.specs.declared.answers.Solved.{Solved}
 use Rattle.leaf_link.specs.Answers.{values_in}
-use Rattle.leaf_turn.specs.declared.taking.Fetch.TheVariants as fetches
-use Rattle.leaf_turn.specs.Answers.{IsPlayable}
 use Rattle.gen_search.specs.Search.{Turned.Taken, Turned.NoneFits, Turned.Spent}
 use Rattle.part_state.specs.State.{here}
-use Rattle.gen_turn.specs.Bodies.{is_plain}
 use Rattle.gen_turn.specs.Drafts.{drafted}
 use Rattle.gen_turn.specs.Turns.{EndsAs, IsLeafTaken}
 use Rattle.gen_turn.proofs.Turning.{answered_so, led_aligned}
@@ -32,13 +29,5 @@ returns-clause-turned c =
     (here c.take_bind_and_list.new.part, subst (λ (ds : List (ℕ × Bool)). IsLeafTaken c.args.hart c.args.wishes.now ds (values_in c.in-Found.x) (here c.args.part.now) (here c.take_bind_and_list.new.part)) c.as_slice.ensures c.in_ok-take_bind_and_list-in-Found.ensures.taken, refl))
 
 pub take_bind_and_list-requires-clause-playable : goal.take_bind_and_list-requires-clause-playable
-take_bind_and_list-requires-clause-playable c = (
-  is_plain c.args.t.now,
-  c.answers_are_playable.ensures.found (is_plain c.args.t.now) c.args.hart (here c.args.part.now) c.args.pa (values_in c.in-Found.x) (c.in_ok-answer.ensures.found (is_plain c.args.t.now) c.in-Found.x c.requires.built.satp c.in-Found.is),
-)
-
-pub returns-clause-ground : goal.returns-clause-ground
-returns-clause-ground c =
-    let playable : IsPlayable (is_plain c.args.t.now) c.args.hart (here c.args.part.now) (fetches.From c.args.pa) (values_in c.in-Found.x) =
-    c.answers_are_playable.ensures.found (is_plain c.args.t.now) c.args.hart (here c.args.part.now) c.args.pa (values_in c.in-Found.x) (c.in_ok-answer.ensures.found (is_plain c.args.t.now) c.in-Found.x c.requires.built.satp c.in-Found.is) in
-    c.in_ok-take_bind_and_list-in-Found.ensures.ground (is_plain c.args.t.now) playable
+take_bind_and_list-requires-clause-playable c =
+    c.answers_are_playable.ensures.found c.args.hart (here c.args.part.now) c.args.pa (values_in c.in-Found.x) (c.in_ok-answer.ensures.found c.in-Found.x c.in-Found.is)

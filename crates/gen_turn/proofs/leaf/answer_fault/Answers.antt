@@ -5,17 +5,13 @@ use Rattle.leaf_turn.specs.declared.taking.Fetch.TheVariants as fetches
 use Rattle.leaf_turn.specs.Answers.{IsPlayable}
 use Rattle.gen_search.specs.Search.{Turned.Taken, Turned.NoneFits, Turned.Spent}
 use Rattle.part_state.specs.State.{here}
-use Rattle.gen_turn.specs.Bodies.{is_plain}
 use Rattle.gen_turn.specs.Drafts.{drafted}
 use Rattle.gen_turn.specs.Turns.{EndsAs}
 use Rattle.gen_turn.proofs.Turning.{failed_so}
 use Rattle.gen_turn.proofs.leaf.answer_fault.Goals as goal
 
 pub take_bind_and_list-requires-clause-playable : goal.take_bind_and_list-requires-clause-playable
-take_bind_and_list-requires-clause-playable c = (
-  is_plain c.args.t.now,
-  subst (λ root. IsPlayable (is_plain c.args.t.now) c.args.hart (here c.args.part.now) (fetches.Fails root) (values_in c.in-Found.x)) (sym c.root_of.ensures) (c.in_ok-fault_answer.ensures.playable (is_plain c.args.t.now) c.in-Found.x c.in-Found.is),
-)
+take_bind_and_list-requires-clause-playable c = subst (λ root. IsPlayable c.args.hart (here c.args.part.now) (fetches.Fails root) (values_in c.in-Found.x)) (sym c.root_of.ensures) (c.in_ok-fault_answer.ensures.playable c.in-Found.x c.in-Found.is)
 
 pub returns-in-NoneFits-clause-turned : goal.returns-in-NoneFits-clause-turned
 returns-in-NoneFits-clause-turned c =
@@ -33,8 +29,3 @@ returns-in_ok-take_bind_and_list-in-Found-clause-turned c =
     (Taken (drafted c.args.t.now c.args.nodes (here c.take_bind_and_list.new.part)))
     (subst (λ (s : Solved). EndsAs (drafted c.args.t.now c.args.nodes (here c.args.part.now)) c.args.hart [] [] s (Taken (drafted c.args.t.now c.args.nodes (here c.take_bind_and_list.new.part)))) (sym c.in-Found.is)
     (here c.take_bind_and_list.new.part, c.in_ok-take_bind_and_list-in-Found.ensures.taken, refl))
-
-pub returns-in_ok-take_bind_and_list-in-Found-clause-ground : goal.returns-in_ok-take_bind_and_list-in-Found-clause-ground
-returns-in_ok-take_bind_and_list-in-Found-clause-ground c =
-    let playable = c.in_ok-fault_answer.ensures.playable (is_plain c.args.t.now) c.in-Found.x c.in-Found.is in
-    c.in_ok-take_bind_and_list-in-Found.ensures.ground (is_plain c.args.t.now) (subst (λ root. IsPlayable (is_plain c.args.t.now) c.args.hart (here c.args.part.now) (fetches.Fails root) (values_in c.in-Found.x)) (sym c.root_of.ensures) playable)

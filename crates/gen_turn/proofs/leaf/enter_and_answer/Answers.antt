@@ -4,7 +4,6 @@ use Rattle.fd_narrow.proofs.Outcomes.{on_ok}
 use Rattle.gen_search.specs.Wholes.{answered}
 use Rattle.part_state.specs.State.{here}
 use Rattle.leaf_turn.specs.Entering.{IsEnteredAs}
-use Rattle.gen_turn.specs.Bodies.{is_plain}
 use Rattle.gen_turn.specs.Drafts.{Drafted, drafted}
 use Rattle.gen_turn.specs.Grounds.{IsSameGround}
 use Rattle.gen_turn.specs.Turns.{IsAnswered, IsDone}
@@ -35,7 +34,7 @@ returns-in-NoneFits-clause-turned c =
 pub returns-in-NoneFits-clause-ground : goal.returns-in-NoneFits-clause-ground
 returns-in-NoneFits-clause-ground c =
     let e = subst (IsEnteredAs c.args.t.now c.args.hart c.args.draws.now c.args.nodes (here c.args.part.now) (here c.enter_fetch.new.part)) c.in-NoneFits.is c.in_ok-enter_fetch.ensures.entered in
-    own_ground (is_plain c.args.t.now) (here c.args.part.now) (here c.enter_fetch.new.part) e.1
+    own_ground (here c.args.part.now) (here c.enter_fetch.new.part) e.1
 
 pub returns-in-Spent-clause-turned : goal.returns-in-Spent-clause-turned
 returns-in-Spent-clause-turned c =
@@ -45,7 +44,7 @@ returns-in-Spent-clause-turned c =
 pub returns-in-Spent-clause-ground : goal.returns-in-Spent-clause-ground
 returns-in-Spent-clause-ground c =
     let e = subst (IsEnteredAs c.args.t.now c.args.hart c.args.draws.now c.args.nodes (here c.args.part.now) (here c.enter_fetch.new.part)) c.in-Spent.is c.in_ok-enter_fetch.ensures.entered in
-    own_ground (is_plain c.args.t.now) (here c.args.part.now) (here c.enter_fetch.new.part) e.1
+    own_ground (here c.args.part.now) (here c.enter_fetch.new.part) e.1
 
 pub returns-in-At-clause-turned : goal.returns-in-At-clause-turned
 returns-in-At-clause-turned c =
@@ -64,7 +63,7 @@ pub returns-in-At-clause-ground : goal.returns-in-At-clause-ground
 returns-in-At-clause-ground c =
     let d : Drafted = drafted c.args.t.now c.args.nodes (here c.args.part.now) in
     let e = subst (IsEnteredAs c.args.t.now c.args.hart c.args.draws.now c.args.nodes (here c.args.part.now) (here c.enter_fetch.new.part)) c.in-At.is c.in_ok-enter_fetch.ensures.entered in
-    on_ok c.answer_and_take.result (IsSameGround (is_plain c.args.t.now) (here c.enter_fetch.new.part) (here c.answer_and_take.new.part)) (IsSameGround (is_plain c.args.t.now) (here c.args.part.now) (here c.answer_and_take.new.part))
+    on_ok c.answer_and_take.result (IsSameGround (here c.enter_fetch.new.part) (here c.answer_and_take.new.part)) (IsSameGround (here c.args.part.now) (here c.answer_and_take.new.part))
     (ground_from d c.args.hart c.args.draws.now (here c.enter_fetch.new.part) c.in-At.pa e c.is_test.ensures
     (record { aligned = c.known_is_words.ensures.aligned; known = c.known_is_words.ensures.words; fixed = c.known_is_words.ensures.fixed }) (here c.answer_and_take.new.part))
     c.answer_and_take.ensures.ground

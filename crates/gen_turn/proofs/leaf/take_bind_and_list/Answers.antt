@@ -12,12 +12,12 @@ use Rattle.gen_turn.proofs.leaf.take_bind_and_list.Goals as goal
 
 pub bind_names-requires : goal.bind_names-requires
 bind_names-requires c =
-    let still = c.in_ok-record.ensures.still c.requires.playable.0 c.requires.playable.1 in
+    let still = c.in_ok-record.ensures.still in
     subst (λ (ns : List (Option ℕ)). list_all (is_name_below (length ns)) (atoms_of c.args.wishes.now) ≡ true) (sym still.names) c.requires.below
 
 pub known_is_words-requires : goal.known_is_words-requires
 known_is_words-requires c =
-    let still = c.in_ok-record.ensures.still c.requires.playable.0 c.requires.playable.1 in
+    let still = c.in_ok-record.ensures.still in
     let many : length (here c.drop_biases.new.part).harts ≡ length (here c.args.part.now).harts =
     ap (λ (w : Whole). length w.harts) (same_after c.args.hart c.args.wishes.now c.args.dropped.now (here c.args.part.now) (here c.take.new.part) (here c.bind_names.new.part) (here c.drop_biases.new.part) _ c.in-Ok.step c.in_ok-bind_names.ensures.now c.in_ok-drop_biases.ensures.now)
     ∙ still.harts in
@@ -30,9 +30,9 @@ returns-clause-taken c =
     c.in_ok-record.ensures.fit c.is_test.ensures (record { aligned = c.known_is_words.ensures.aligned; known = c.known_is_words.ensures.words; fixed = c.known_is_words.ensures.fixed })
 
 pub returns-clause-ground : goal.returns-clause-ground
-returns-clause-ground c = λ keeps playable.
+returns-clause-ground c =
     same_ground c.args.hart c.args.wishes.now c.args.dropped.now (here c.args.part.now) (here c.take.new.part) (here c.bind_names.new.part) (here c.drop_biases.new.part) _ c.in-Ok.step
-    c.in_ok-bind_names.ensures.now c.in_ok-drop_biases.ensures.now keeps (c.in_ok-record.ensures.still keeps playable)
+    c.in_ok-bind_names.ensures.now c.in_ok-drop_biases.ensures.now c.in_ok-record.ensures.still
     (λ j other. hart_stays c.args.hart j other (values_in c.args.x.now) _ (here c.args.part.now) (here c.take.new.part) c.in_ok-record.ensures.taken)
     c.is_test.ensures (record { aligned = c.known_is_words.ensures.aligned; known = c.known_is_words.ensures.words; fixed = c.known_is_words.ensures.fixed })
 

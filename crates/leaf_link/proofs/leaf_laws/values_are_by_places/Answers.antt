@@ -1,4 +1,4 @@
-use Rattle.leaf_link.proofs.NewWords.{new_words_are_two}
+use Rattle.leaf_link.proofs.FourWords.{new_words_are_four}
 use Rattle.leaf_link.proofs.Located.{places_have_values}
 use Rattle.leaf_link.proofs.Placing.{values_are_instructions}
 use Rattle.leaf_link.proofs.SatpKept.{steps_keep_satp}
@@ -14,4 +14,4 @@ pub returns-clause-control : goal.returns-clause-control
 returns-clause-control c = steps_keep_satp
 
 pub returns-clause-words : goal.returns-clause-words
-returns-clause-words c = new_words_are_two
+returns-clause-words c = new_words_are_four

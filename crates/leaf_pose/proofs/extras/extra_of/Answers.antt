@@ -6,7 +6,7 @@ use Rattle.leaf_pose.proofs.extras.extra_of.Goals as goal
 
 pub returns-clause-bias : goal.returns-clause-bias
 returns-clause-bias c =
-    extra_is c.accesses_are_goals.ensures.there c.accesses_are_goals.ensures.back c.accesses_are_goals.ensures.rows c.ways_are_built.ensures.all c.biases_in_cases.ensures.addresses c.args.stand.now c.args.bias.now c.args.posed.now.problem c.args.posed.now.shapes (record { cases = c.in_ok-cases.cases; cuts = c.in_ok-cuts.cuts; rels = c.in_ok-rels.rels }) c.biases_in_cases.ensures.biases c.ways_are_built.ensures.plain c.requires.between
+    extra_is c.accesses_are_goals.ensures.there c.accesses_are_goals.ensures.back c.ways_are_built.ensures.all c.biases_in_cases.ensures.addresses c.args.stand.now c.args.bias.now c.args.posed.now.problem c.args.posed.now.shapes (record { cases = c.in_ok-cases.cases; cuts = c.in_ok-cuts.cuts; rels = c.in_ok-rels.rels }) c.biases_in_cases.ensures.biases c.ways_are_built.ensures.plain c.requires.between
     (c.in_ok-cases.ensures ∙ ap (λ (l : List Shape). stays_of c.args.stand.now c.args.bias.now l) c.as_slice.ensures) c.in_ok-cuts.ensures c.in_ok-rels.ensures
 
 pub returns-clause-places : goal.returns-clause-places

@@ -13,16 +13,16 @@ loop-slot-preserved c =
     let t = turn_of c.args.stand.now in
     let leaf = c.args.leaf.now in
     let op = c.args.op in
-    let way = goal_way t c.args.bytes.now leaf op c.args.goal in
     record {
-      each =
+      each = λ a targets ea.
+          let way = goal_way t a leaf op c.args.way.now c.args.goal in
           subst (λ (l : List (List ℕ)). (rest : List (List ℕ)) → AreDomains (domain t 0 leaf op way) (drop (c.loop-slot.slot-index + 1) SLOTS) rest → AreDomains (domain t 0 leaf op way) SLOTS (l ++ rest)) (sym c.in_ok-push.ensures.items)
-          (add_domain (λ r set. IsSetOf (domain t 0 leaf op way r) set) c.loop-slot.slot-index _ c.loop-slot.doms.items c.in_ok-goal_domain.field-0 c.loop-slot-test.true c.in_ok-goal_domain.ensures c.loop-slot.invariant.each);
-      length = ap (λ (l : List (List ℕ)). length l) c.in_ok-push.ensures.items ∙ (length-append c.loop-slot.doms.items (c.in_ok-goal_domain.field-0 ∷ []) ∙ ap (λ (n : ℕ). n + 1) c.loop-slot.invariant.length);
+          (add_domain (λ r set. IsSetOf (domain t 0 leaf op way r) set) c.loop-slot.slot-index _ c.loop-slot.doms.items c.in_ok-set.set c.loop-slot-test.true (c.in_ok-set.ensures a targets ea) (c.loop-slot.invariant.each a targets ea));
+      length = ap (λ (l : List (List ℕ)). length l) c.in_ok-push.ensures.items ∙ (length-append c.loop-slot.doms.items (c.in_ok-set.set ∷ []) ∙ ap (λ (n : ℕ). n + 1) c.loop-slot.invariant.length);
     }
 
 pub returns-clause-each : goal.returns-clause-each
-returns-clause-each c = all_domains (λ r set. IsSetOf (domain (turn_of c.args.stand.now) 0 c.args.leaf.now c.args.op (goal_way (turn_of c.args.stand.now) c.args.bytes.now c.args.leaf.now c.args.op c.args.goal) r) set) c.loop-slot.slot-index c.loop-slot.doms.items c.loop-slot-test.false c.loop-slot.invariant.each
+returns-clause-each c a targets ea = all_domains (λ r set. IsSetOf (domain (turn_of c.args.stand.now) 0 c.args.leaf.now c.args.op (goal_way (turn_of c.args.stand.now) a c.args.leaf.now c.args.op c.args.way.now c.args.goal) r) set) c.loop-slot.slot-index c.loop-slot.doms.items c.loop-slot-test.false (c.loop-slot.invariant.each a targets ea)
 
 pub returns-clause-length : goal.returns-clause-length
 returns-clause-length c = omega (arith, c.loop-slot.invariant.length, c.loop-slot-test.false, c.loop-slot.auto.slot-index-end)

@@ -28,4 +28,4 @@ pub returns-clause-extras : goal.returns-clause-extras
 returns-clause-extras c = λ leaf shaped.
     subst (λ (es : List Extra). AreExtrasOf c.args.stand.now leaf (lists c.args.biases.now) c.args.posed.now.problem es) (nothing_behind c.loop-bias.extras.items)
     (c.loop-bias.invariant.extras leaf shaped []
-    (subst (λ (bs : List (Vec Atom Global)). AreExtrasOf c.args.stand.now leaf (lists bs) c.args.posed.now.problem []) (sym (nothing_left c.args.biases.now c.loop-bias.bias-index c.loop-bias-test.false)) (λ t walk pa stands posed plain. tt)))
+    (subst (λ (bs : List (Vec Atom Global)). AreExtrasOf c.args.stand.now leaf (lists bs) c.args.posed.now.problem []) (sym (nothing_left c.args.biases.now c.loop-bias.bias-index c.loop-bias-test.false)) (λ t walk pa loads stores stands posed rows plain. tt)))

@@ -31,8 +31,8 @@ returns-clause-answer c = λ s feet setting footprint.
     (λ is. c.in_ok-solve.ensures.none (ap (λ (a : Solved). Ok a) is)))
 
 pub returns-clause-playable : goal.returns-clause-playable
-returns-clause-playable c = λ keeps x is.
+returns-clause-playable c = λ x is.
     let s = setting_at c.args.t.now (λ v. true) in
     let feet = c.footprints_exist.ensures in
-    c.answers_are_playable.ensures.faults keeps c.args.hart (here c.args.part.now) s feet.0 (is_in c.args.causes.now) c.args.draws.now c.args.nodes x c.requires.vectors feet.1 c.known_is_words.ensures.aligned
+    c.answers_are_playable.ensures.faults c.args.hart (here c.args.part.now) s feet.0 (is_in c.args.causes.now) c.args.draws.now c.args.nodes x c.requires.vectors feet.1 c.known_is_words.ensures.aligned
     (subst (IsFaultAnswer (turn_at s feet.0 c.args.hart (here c.args.part.now)) (is_in c.args.causes.now) c.args.draws.now c.args.nodes) is (returns-clause-answer c s feet.0 (setting_is c.args.t.now (λ v. true)) feet.1))

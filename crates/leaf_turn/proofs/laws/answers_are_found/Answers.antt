@@ -2,4 +2,4 @@ use Rattle.leaf_turn.proofs.Finding.{answers_are_found}
 use Rattle.leaf_turn.proofs.laws.answers_are_found.Goals as goal
 
 pub returns : goal.returns
-returns c = answers_are_found c.candidates_are_in_domains.ensures.domains c.data_rows_exist.ensures
+returns c = answers_are_found

@@ -1,4 +1,4 @@
-use Rattle.std.proofs.Common.{ℕ, ◌&&◌, Bool, true, List, sym, ap, ◌∙◌}
+use Rattle.std.proofs.Common.{ℕ, ◌&&◌, Bool, true, List, refl, sym, ap, ◌∙◌}
 use Rattle.std.specs.Prelude.{slice_get}
 use Rattle.tpl_ast.specs.declared.template.Var.TheVariants as vars
 use Rattle.dom_set.specs.Elements.{is_in}
@@ -16,6 +16,6 @@ returns c = λ s feet setting v small.
     let same = sym c.bare_stand-stand.ensures.names in
     tests_alike (turn_at s feet c.args.hart (here c.args.part.now)) (turn_of c.bare_stand-stand.result)
     (λ n. c.requires.names.values n ∙ ap (λ (ns : List Name). value_named (slice_get ns n)) same)
-    (λ n. setting.sets n ∙ c.requires.names.sets n ∙ ap (λ (ns : List Name). set_named (slice_get ns n)) same) c.args.atoms.now v
+    (λ n. setting.sets n ∙ c.requires.names.sets n ∙ ap (λ (ns : List Name). set_named (slice_get ns n)) same) c.args.atoms.now vars.A v refl
     ∙ sym (c.in_ok-passing.ensures v small
     ∙ ap (λ (b : Bool). b && all_tests (turn_of c.bare_stand-stand.result) c.args.atoms.now vars.A v) (ap (λ (l : List ℕ). is_in l v) c.in_ok-all.ensures ∙ is_in-elements (λ x. true) v small))

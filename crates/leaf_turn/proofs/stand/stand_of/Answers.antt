@@ -17,7 +17,7 @@ returns-clause-stand c = λ s feet walk leads setting sources footprint.
       vectors = refl;
       names = c.requires.names;
       footprint = c.feet.ensures;
-      bytes = c.requires.bytes;
+      accesses = c.requires.accesses;
     }) setting sources footprint
 
 pub returns-clause-feet : goal.returns-clause-feet

@@ -1,6 +1,5 @@
 use Rattle.std.proofs.Common.{Some, sym, subst}
 use Rattle.part_state.specs.State.{here}
-use Rattle.gen_turn.specs.Bodies.{is_plain}
 use Rattle.gen_turn.specs.Grounds.{IsSameGround}
 use Rattle.gen_turn.proofs.Drafting.{still_allowed, still_there}
 use Rattle.gen_turn.proofs.Names.{many_with_name}
@@ -13,4 +12,4 @@ returns-in-Ok-clause-kept c = still_there c.args.self.now.template.now c.args.se
 pub returns-in-Ok-clause-still : goal.returns-in-Ok-clause-still
 returns-in-Ok-clause-still c =
     still_allowed c.args.self.now.template.now c.args.self.now.nodes c.args.self.now.part.now c.bind_name.new.part.now
-    (subst (IsSameGround (is_plain c.args.self.now.template.now) (here c.args.self.now.part)) (sym c.in-Ok.ensures.now) (named_ground (is_plain c.args.self.now.template.now) _ (here c.args.self.now.part) (many_with_name c.args.name (Some c.hart.result.now.pc) c.args.self.now.part.now.names)))
+    (subst (IsSameGround (here c.args.self.now.part)) (sym c.in-Ok.ensures.now) (named_ground _ (here c.args.self.now.part) (many_with_name c.args.name (Some c.hart.result.now.pc) c.args.self.now.part.now.names)))

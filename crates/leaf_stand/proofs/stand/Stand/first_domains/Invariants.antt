@@ -3,11 +3,10 @@ use Rattle.fd_prob.specs.declared.slot.TheConstants.{SLOTS}
 use Rattle.leaf_link.specs.Firsts.{IsDomain}
 use Rattle.leaf_stand.specs.FirstCases.{first_at}
 use Rattle.leaf_stand.specs.Sets.{AreEach}
-use Rattle.leaf_stand.specs.Stands.{turn_of}
 use Rattle.leaf_stand.proofs.stand.Stand.first_domains.Given as goal
 
 abbrev pub invariant-loop-slot : goal.invariant-loop-slot
 invariant-loop-slot l = record {
-  each : (rest : List (List ℕ)) → AreEach (λ r set. IsDomain set (first_at (turn_of l.self) l.leaf l.op r)) (drop l.slot-index SLOTS) rest → AreEach (λ r set. IsDomain set (first_at (turn_of l.self) l.leaf l.op r)) SLOTS (l.doms.items ++ rest);
+  each : (rest : List (List ℕ)) → AreEach (λ r set. IsDomain set (first_at l.self l.leaf l.op r)) (drop l.slot-index SLOTS) rest → AreEach (λ r set. IsDomain set (first_at l.self l.leaf l.op r)) SLOTS (l.doms.items ++ rest);
   length : length l.doms.items ≡ l.slot-index;
 }

@@ -1,0 +1,128 @@
+-- The rows of the addresses that lead where a bias wants the physical one.
+use Rattle.std.proofs.Common.{◌≡◌, ℕ, ◌+◌, ◌%◌, ◌<◌, ◌≤◌, ◌^◌, Bool, true, false, ◌&&◌, ◌||◌, List, [], ◌∷◌, ◌++◌, refl, sym, ap, ◌∙◌, arith, suc, drop, get_or, length}
+use Rattle.std.specs.Prelude.{bit_and}
+use Rattle.std.specs.List.{filter}
+use Rattle.std.proofs.Math.Seq.{drop-cons}
+use Rattle.std.proofs.lemmas.List.{drop_all}
+use Rattle.std.proofs.lemmas.List.Folds.{list_any-append}
+use Rattle.dom_set.specs.Elements.{elements_of, is_in}
+use Rattle.dom_set.proofs.Sets.{is_in-elements}
+use Rattle.tpl_ast.specs.declared.template.Atom.{Atom}
+use Rattle.tpl_ast.specs.declared.template.Var.TheVariants as vars
+use Rattle.fd_prob.specs.declared.problem.Assignment.{Assignment}
+use Rattle.fd_prob.specs.declared.relation.Quad.{Quad}
+use Rattle.fd_prob.specs.declared.slot.Slot.TheVariants as slots
+use Rattle.fd_prob.specs.Order.{IsAssignment}
+use Rattle.fd_prob.specs.Relations.{is_in_row, value_of}
+use Rattle.data_ways.specs.declared.way.DataEnd.{DataEnd}
+use Rattle.data_ways.specs.declared.way.DataEnd.TheVariants as ends
+use Rattle.data_ways.specs.declared.way.DataWay.{DataWay}
+use Rattle.data_goals.specs.declared.accesses.Accesses.{Accesses}
+use Rattle.data_goals.specs.Goals.{leads_to}
+use Rattle.leaf_link.specs.Cases.{all_tests}
+use Rattle.leaf_csrs.proofs.Counted.{in_both}
+use Rattle.leaf_stand.specs.declared.stand.Stand.{Stand}
+use Rattle.leaf_stand.specs.Sets.{IsSetOf}
+use Rattle.leaf_stand.specs.Stands.{turn_of}
+use Rattle.leaf_stand.proofs.Single.{word_at}
+use Rattle.leaf_pose.specs.Extras.{AddsRows, AreAddressRows, in_rows, lead_so, leads_so}
+
+or_none : (a : Bool) → (a || false) ≡ a
+or_none true = refl
+or_none false = refl
+
+or_assoc : (a b c : Bool) → ((a || b) || c) ≡ (a || (b || c))
+or_assoc true b c = refl
+or_assoc false b c = refl
+
+-- A TEST COUNTS FOR WORDS ALONE
+below : (n : ℕ) → n % 2 ^ 32 < 2 ^ 32
+below n = omega arith
+
+leads_same : (f g : ℕ → Bool) → ((v : ℕ) → v < 2 ^ 32 → f v ≡ g v) → (end : DataEnd) (v : ℕ) → leads_to end f v ≡ leads_to end g v
+leads_same f g h (ends.At base mask) v = h ((base + bit_and v mask) % 2 ^ 32) (below (base + bit_and v mask))
+leads_same f g h (ends.Fails cause) v = refl
+
+so_same : (f g : ℕ → Bool) → ((v : ℕ) → v < 2 ^ 32 → f v ≡ g v) → (x : Assignment) (ways : List DataWay) → lead_so f x ways ≡ lead_so g x ways
+so_same f g h x [] = refl
+so_same f g h x (way ∷ ways) =
+    let inner : Bool = is_in way.first (value_of x slots.FirstPte) && is_in way.second (value_of x slots.SecondPte) in
+    ap (λ (b : Bool). ((is_in way.ea (value_of x slots.Ea) && b) && inner) || lead_so f x ways) (leads_same f g h way.end (value_of x slots.Ea))
+    ∙ ap (λ (b : Bool). leads_so g (value_of x slots.Ea) (value_of x slots.FirstPte) (value_of x slots.SecondPte) way || b) (so_same f g h x ways)
+
+-- ONE WAY
+and_not : (a b : Bool) → ((a && false) && b) ≡ false
+and_not true b = refl
+and_not false b = refl
+
+nowhere_leads : (test : ℕ → Bool) (way : DataWay) (ea first second : ℕ) → ((base mask : ℕ) → way.end ≡ ends.At base mask → ⊥) → leads_so test ea first second way ≡ false
+nowhere_leads test way ea first second never = go way.end never
+  where
+    go : (end : DataEnd) → ((base mask : ℕ) → end ≡ ends.At base mask → ⊥) → ((is_in way.ea ea && leads_to end test ea) && (is_in way.first first && is_in way.second second)) ≡ false
+    go (ends.At base mask) k = absurd (k base mask refl)
+    go (ends.Fails cause) k = and_not (is_in way.ea ea) (is_in way.first first && is_in way.second second)
+
+pub no_row : (test : ℕ → Bool) (way : DataWay) (old : List Quad) → ((x : Assignment) → IsAssignment x → leads_so test (value_of x slots.Ea) (value_of x slots.FirstPte) (value_of x slots.SecondPte) way ≡ false) → AddsRows test (way ∷ []) old old
+no_row test way old never x hx = sym (ap (λ (b : Bool). in_rows x old || (b || false)) (never x hx) ∙ or_none (in_rows x old))
+
+pub nowhere : (test : ℕ → Bool) (way : DataWay) (old : List Quad) → ((base mask : ℕ) → way.end ≡ ends.At base mask → ⊥) → AddsRows test (way ∷ []) old old
+nowhere test way old never = no_row test way old (λ x hx. nowhere_leads test way (value_of x slots.Ea) (value_of x slots.FirstPte) (value_of x slots.SecondPte) never)
+
+abbrev there_of : (ℕ → Bool) → DataWay → ℕ → Bool
+there_of test way v = is_in way.ea v && leads_to way.end test v
+
+-- the addresses of a way that lead where the test passes
+pub there_set : (test : ℕ → Bool) (way : DataWay) (base mask : ℕ) (there ea : List ℕ) → way.end ≡ ends.At base mask → ((v : ℕ) → v < 2 ^ 32 → is_in there v ≡ test ((base + bit_and v mask) % 2 ^ 32)) → ea ≡ filter (is_in there) way.ea → IsSetOf (there_of test way) ea
+there_set test way base mask there ea end is e v small =
+    in_both (is_in way.ea) (λ n. test ((base + bit_and n mask) % 2 ^ 32)) way.ea there ea (λ n k. refl) is e v small
+    ∙ ap (λ (d : DataEnd). is_in way.ea v && leads_to d test v) (sym end)
+
+pub empty_row : (test : ℕ → Bool) (way : DataWay) (old : List Quad) (ea : List ℕ) → IsSetOf (there_of test way) ea → ea ≡ [] → AddsRows test (way ∷ []) old old
+empty_row test way old ea is none = no_row test way old (λ x hx.
+    let v = value_of x slots.Ea in
+    let small : v < 2 ^ 32 = word_at x hx slots.Ea in
+    ap (λ (b : Bool). b && (is_in way.first (value_of x slots.FirstPte) && is_in way.second (value_of x slots.SecondPte))) (sym (is v small) ∙ ap (λ (l : List ℕ). is_in l v) none))
+
+row_is : (e a b w : Bool) → w ≡ true → (e && a && b && w) ≡ (e && (a && b))
+row_is true true true w h = h
+row_is true true false w h = refl
+row_is true false b w h = refl
+row_is false a b w h = refl
+
+pub one_row : (test : ℕ → Bool) (way : DataWay) (old new : List Quad) (ea word : List ℕ) → IsSetOf (there_of test way) ea → word ≡ elements_of (λ v. true) → new ≡ old ++ record { ea = ea; root = way.first; leaf = way.second; word = word } ∷ [] → AddsRows test (way ∷ []) old new
+one_row test way old new ea word is all e x hx =
+    let row : Quad = record { ea = ea; root = way.first; leaf = way.second; word = word } in
+    let any : is_in word (value_of x slots.DataWord) ≡ true = ap (λ (l : List ℕ). is_in l (value_of x slots.DataWord)) all ∙ is_in-elements (λ n. true) (value_of x slots.DataWord) (word_at x hx slots.DataWord) in
+    ap (λ (l : List Quad). in_rows x l) e ∙ list_any-append (is_in_row x) old (row ∷ [])
+    ∙ ap (λ (b : Bool). in_rows x old || (b || false))
+    (row_is (is_in ea (value_of x slots.Ea)) (is_in way.first (value_of x slots.FirstPte)) (is_in way.second (value_of x slots.SecondPte)) (is_in word (value_of x slots.DataWord)) any
+    ∙ ap (λ (b : Bool). b && (is_in way.first (value_of x slots.FirstPte) && is_in way.second (value_of x slots.SecondPte))) (is (value_of x slots.Ea) (word_at x hx slots.Ea)))
+
+-- ALL WAYS
+abbrev pub IsSoFar : (ℕ → Bool) → List DataWay → ℕ → List Quad → List Quad → Type 0
+IsSoFar test ways i start now = (x : Assignment) → IsAssignment x → (in_rows x now || lead_so test x (drop i ways)) ≡ (in_rows x start || lead_so test x ways)
+
+pub next_row : (test : ℕ → Bool) (ways : List DataWay) (i : ℕ) (d : DataWay) (start old new : List Quad) → i < length ways → IsSoFar test ways i start old → AddsRows test (get_or ways i d ∷ []) old new → IsSoFar test ways (i + 1) start new
+next_row test ways i d start old new lt before added x hx =
+    let n : i + 1 ≡ suc i = omega arith in
+    let e : drop i ways ≡ get_or ways i d ∷ drop (i + 1) ways = drop-cons ways i d lt ∙ ap (λ (m : ℕ). get_or ways i d ∷ drop m ways) (sym n) in
+    let here : Bool = leads_so test (value_of x slots.Ea) (value_of x slots.FirstPte) (value_of x slots.SecondPte) (get_or ways i d) in
+    ap (λ (b : Bool). b || lead_so test x (drop (i + 1) ways)) (added x hx ∙ ap (λ (b : Bool). in_rows x old || b) (or_none here))
+    ∙ or_assoc (in_rows x old) here (lead_so test x (drop (i + 1) ways)) ∙ ap (λ (l : List DataWay). in_rows x old || lead_so test x l) (sym e) ∙ before x hx
+
+pub all_rows : (test : ℕ → Bool) (ways : List DataWay) (i : ℕ) (start now : List Quad) → length ways ≤ i → IsSoFar test ways i start now → AddsRows test ways start now
+all_rows test ways i start now le far x hx = sym (or_none (in_rows x now)) ∙ sym (ap (λ (l : List DataWay). in_rows x now || lead_so test x l) (drop_all i ways le)) ∙ far x hx
+
+-- of all words, those that pass
+pub passing_set : (test : ℕ → Bool) (all wanted : List ℕ) → all ≡ elements_of (λ v. true) → IsSetOf (λ v. is_in all v && test v) wanted → IsSetOf test wanted
+passing_set test all wanted e is v small = is v small ∙ ap (λ (b : Bool). b && test v) (ap (λ (l : List ℕ). is_in l v) e ∙ is_in-elements (λ n. true) v small)
+
+-- those of loads and then those of stores
+pub both_rows : (s : Stand) (bias : List Atom) (a : Accesses) (all wanted : List ℕ) (first last : List Quad) → all ≡ elements_of (λ v. true) → IsSetOf (λ v. is_in all v && all_tests (turn_of s) bias vars.Pa v) wanted
+    → AddsRows (is_in wanted) a.loads.items [] first → AddsRows (is_in wanted) a.stores.items first last → AreAddressRows s bias last a
+both_rows s bias a all wanted first last e is loads stores x hx =
+    let test : ℕ → Bool = all_tests (turn_of s) bias vars.Pa in
+    let same : (v : ℕ) → v < 2 ^ 32 → is_in wanted v ≡ test v = passing_set test all wanted e is in
+    stores x hx ∙ ap (λ (b : Bool). b || lead_so (is_in wanted) x a.stores.items) (loads x hx)
+    ∙ sym (list_any-append (leads_so (is_in wanted) (value_of x slots.Ea) (value_of x slots.FirstPte) (value_of x slots.SecondPte)) a.loads.items a.stores.items)
+    ∙ so_same (is_in wanted) test same x (a.loads.items ++ a.stores.items)
