@@ -1,5 +1,6 @@
 pub mod Ranks
 pub mod Orders
+mod Bounds
 pub mod Putting
 pub mod Inside
 mod Cuts

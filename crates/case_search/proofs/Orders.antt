@@ -14,10 +14,10 @@ use Rattle.case_search.proofs.Ranks.{rank_injective}
 use Rattle.case_search.specs.Search.{AreSame, Before, IsLeastOf, IsLesser, LeastOrNone}
 
 -- at a place the value of x is nearer above the pivot
-abbrev Nearer : List ℕ → Assignment → Assignment → ℕ → Type 0
+abbrev pub Nearer : List ℕ → Assignment → Assignment → ℕ → Type 0
 Nearer ps x y n = rank (slice_index ps n) (slice_index x.values n) < rank (slice_index ps n) (slice_index y.values n)
 
-rank_same : (ps : List ℕ) (x y : Assignment) (s : Slot) → value_of x s ≡ value_of y s → rank (slice_index ps (slot_number s)) (value_of x s) ≡ rank (slice_index ps (slot_number s)) (value_of y s)
+pub rank_same : (ps : List ℕ) (x y : Assignment) (s : Slot) → value_of x s ≡ value_of y s → rank (slice_index ps (slot_number s)) (value_of x s) ≡ rank (slice_index ps (slot_number s)) (value_of y s)
 rank_same ps x y s e = ap (rank (slice_index ps (slot_number s))) e
 
 pub before_trans : (ps : List ℕ) (x y z : Assignment) → Before ps x y → Before ps y z → Before ps x z

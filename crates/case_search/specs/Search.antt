@@ -21,6 +21,10 @@ Before pivots x y =
     (s : Slot) × ((t : Slot) → slot_number t < slot_number s → value_of x t ≡ value_of y t)
     × (rank (slice_index pivots (slot_number s)) (value_of x s) < rank (slice_index pivots (slot_number s)) (value_of y s))
 
+-- with these pivots, no value of x is nearer above its pivot than that of b
+abbrev pub IsBound : List ℕ → Assignment → Assignment → Type 0
+IsBound pivots b x = (s : Slot) → rank (slice_index pivots (slot_number s)) (value_of b s) ≤ rank (slice_index pivots (slot_number s)) (value_of x s)
+
 -- x meets the condition, and nothing that meets it comes before x
 pub record IsLeastOf (pivots : List ℕ) (P : Assignment → Type 0) (x : Assignment) : Type 0 where
   pub meets : P x

@@ -9,6 +9,12 @@ use fd_prob::Slot;
 use set_sums::{differences_within, halved, sums_within, words_of};
 use std::alloc::Global;
 
+/// In how many pieces a sum may be so that a part of it is cut by the sum's values one by one.
+const FEW: usize = 8;
+
+/// So many pieces are many for a sum.
+const MANY: usize = 256;
+
 impl Domains {
     /// Whether the first variable has one value and the second has not. Then what is left of the second and of their sum,
     /// which is exact, tells all that is known of the first.
@@ -16,7 +22,33 @@ impl Domains {
         self.domain(s).is_single() && !self.domain(t).is_single()
     }
 
-    /// Cuts the sum to what the two variables can add up to.
+    /// Whether a variable may have any value.
+    fn is_whole(&self, s: Slot) -> bool {
+        self.domain(s).size() == 1 << 32
+    }
+
+    /// Whether what is left of a variable is not asked for. Where the other part may have any value, each value of the
+    /// variable leads to the sum. Where the other part has one value, a search comes first to a sum that stands before the
+    /// variable, and then the variable has its one value; what is left of it until then may be in far more pieces than the sum.
+    /// What is left of a variable that may have any value tells little where the sum is in many pieces.
+    fn is_left_alone(
+        &self,
+        alloc: Global,
+        s: Slot,
+        t: Slot,
+        sum: Slot,
+    ) -> Result<bool, OutOfMemory> {
+        if self.is_whole(t) {
+            return Ok(true);
+        }
+        let pieces = self.domain(sum).spans(alloc)?.len();
+        if self.domain(t).is_single() {
+            return Ok(pieces > FEW && s.number() > sum.number());
+        }
+        Ok(pieces > MANY && self.is_whole(s))
+    }
+
+    /// Cuts the sum to what the two variables can add up to. Whatever is added to each word gives each word.
     fn narrow_total(
         &mut self,
         alloc: Global,
@@ -26,6 +58,9 @@ impl Domains {
     ) -> Result<(), OutOfMemory>
         ensures { OnOk result (Leaves (λ x. IsTrue (is_sum x s t sum)) self.old self.new) }
     {
+        if self.is_whole(s) || self.is_whole(t) {
+            return Ok(());
+        }
         let totals = sums_within(alloc, self.domain(s), self.domain(t), self.domain(sum))?;
         self.cut(alloc, sum, &totals)
     }
@@ -35,6 +70,9 @@ impl Domains {
         ensures { OnOk result (Leaves (λ x. IsTrue (is_sum x s t sum)) self.old self.new) }
     {
         if self.is_only_one_fixed(s, t) {
+            return Ok(());
+        }
+        if self.is_left_alone(alloc, s, t, sum)? {
             return Ok(());
         }
         let parts = differences_within(alloc, self.domain(sum), self.domain(t), self.domain(s))?;

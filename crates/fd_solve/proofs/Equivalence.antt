@@ -2,7 +2,7 @@
 use Rattle.std.proofs.Common.{◌≡◌, ℕ, zero, suc, ◌+◌, ◌<◌, ◌≤◌, Bool, ◌&&◌, List, [], ◌∷◌, ◌++◌, Option, length, drop, get_or, All, inl, inr, refl, sym, ap, ◌∙◌, subst, arith}
 use Rattle.std.specs.Prelude.{slice_set}
 use Rattle.std.proofs.Math.Seq.{get_or-append_seam}
-use Rattle.std.proofs.lemmas.Bool.{cases_lt}
+use Rattle.std.proofs.lemmas.Bool.{and_parts, cases_lt}
 use Rattle.std.proofs.lemmas.List.{append_assoc, append-nil, get_or_append_left}
 use Rattle.std.proofs.lemmas.List.Elements.{All-cons, All-head, All-nil, All-push, All-tail}
 use Rattle.rv_isa.specs.Numbers.{op_numbered}
@@ -41,6 +41,10 @@ module _ (marks : List Bool) (es : List Extra) (place : ℕ) (c d : Case) (whole
       (λ x made. (made.0, of_case x (marked_case marks es place c) (sym (same_marked x made.0) ∙ fits_its_case x (marked_case marks es place d) made.1)))
       (λ x made. (made.0, of_case x (marked_case marks es place d) (same_marked x made.0 ∙ fits_its_case x (marked_case marks es place c) made.1)))
       o least
+
+  -- what fits with what is added fits without
+  pub unmarked : (x : Assignment) → IsMadeOf (marked_case marks es place c) x → IsMadeOf d x
+  unmarked x made = (made.0, of_case x d (is.same x made.0 ∙ (and_parts _ _ (sym (all_marks marks es place c x whole) ∙ fits_its_case x (marked_case marks es place c) made.1)).0))
 
   pub marked_equivalent : StandsIn (marked_case marks es place c) (marked_case marks es place d)
   marked_equivalent = record {

@@ -1,5 +1,6 @@
 -- Cases of one operation.
-use Rattle.std.proofs.Common.{◌≡◌, ◌≢◌, ℕ, ◌+◌, ◌<◌, ◌≤◌, List, length, get_or, Option, ◌⊎◌, inl, inr, sym, ◌∙◌, subst, arith}
+use Rattle.std.proofs.Common.{◌≡◌, ◌≢◌, ℕ, ◌+◌, ◌<◌, ◌≤◌, List, length, get_or, Option, Some, None, ◌⊎◌, inl, inr, sym, ◌∙◌, subst, arith}
+use Rattle.std.specs.Prelude.{MatchOption}
 use Rattle.std.proofs.lemmas.Bool.{cases_lt}
 use Rattle.fd_prob.specs.declared.problem.Assignment.{Assignment}
 use Rattle.fd_prob.specs.declared.problem.Case.{Case}
@@ -7,7 +8,7 @@ use Rattle.fd_prob.specs.declared.slot.Slot.TheVariants as slots
 use Rattle.fd_prob.specs.Laws.{IsOfCase}
 use Rattle.fd_prob.specs.Order.{IsAssignment}
 use Rattle.fd_prob.specs.Relations.{value_of}
-use Rattle.case_search.specs.Search.{IsLesser, IsMadeOf, LeastOrNone}
+use Rattle.case_search.specs.Search.{Before, IsLesser, IsMadeOf, LeastOrNone}
 use Rattle.fd_solve.specs.Operations.{IsMadeOfAny}
 use Rattle.fd_solve.proofs.Lists.{any_default}
 use Rattle.case_search.proofs.Orders.{as_well, lesser_of_both}
@@ -51,3 +52,8 @@ module _ (op : ℕ) (cases : List Case) (n : ℕ) (c : Case) (lt : n < length ca
   no_more_case differ ps best before = as_well ps (IsMadeBefore op cases n) (IsMadeBefore op cases (n + 1)) (λ y is. wider y is)
       (λ y all. elim (split y all) [ inl old ↦ old | inr new ↦ absurd (differ (sym new.1.op ∙ all.1)) ])
       best before
+
+  -- what is of this case is of another, of which nothing comes before the best
+  pub passed_case : (d : Case) → ((y : Assignment) → IsMadeOf c y → IsMadeOf d y) → (ps : List ℕ) (best : Option Assignment) → MatchOption best ⊥ (λ b. (y : Assignment) → IsMadeOf d y → Before ps y b → ⊥) → LeastOrNone ps (IsMadeBefore op cases n) best → LeastOrNone ps (IsMadeBefore op cases (n + 1)) best
+  passed_case d into ps None behind before = absurd behind
+  passed_case d into ps (Some b) behind before = record { meets = wider b before.meets; least = λ y all lower. elim (split y all) [ inl old ↦ before.least y old lower | inr new ↦ behind y (into y new) lower ] }

@@ -1,16 +1,17 @@
 // The cases of one operation.
-ghost use Rattle.std.specs.Prelude.{◌≡◌, ◌<◌, ◌≤◌, All, IfOk, List, OnOk, length};
+ghost use Rattle.std.specs.Prelude.{◌≡◌, ◌<◌, ◌≤◌, All, IfOk, List, MatchOption, OnOk, false, length};
+ghost use Rattle.fd_prob.specs.declared.problem.Assignment.{Assignment};
 ghost use Rattle.fd_prob.specs.declared.problem.Case.{Case};
 ghost use Rattle.fd_prob.specs.Fitting.{IsCase};
 ghost use Rattle.fd_solve.specs.Equivalent.{AreEquivalent, AreTried, IsTried};
 ghost use Rattle.fd_solve.specs.Marks.{IsSound, marked_case, whole_of};
 ghost use Rattle.case_search.specs.Equivalent.{IsEquivalent};
-ghost use Rattle.case_search.specs.Search.{IsMadeOf, LeastOrNone};
+ghost use Rattle.case_search.specs.Search.{Before, IsMadeOf, LeastOrNone};
 ghost use Rattle.fd_solve.specs.Operations.{IsMadeOfAny};
 
 use crate::marked::{Marked, marked_case};
 use crate::sought::{Narrowing, Sought, Tried, losses_by};
-use case_search::{lesser, narrow_again, solve_again, solve_case};
+use case_search::{lesser, may_precede, narrow_again, solve_again, solve_case};
 use dom_set::OutOfMemory;
 use fd_prob::{Assignment, Case};
 use std::alloc::Global;
@@ -102,9 +103,20 @@ fn solve_marked(
     }
 }
 
+/// Whether an assignment of the case may come before the best one so far, or be the first one.
+fn may_lead(case: &Case, pivots: &[u32; 14], best: Option<Assignment>) -> bool
+    requires { IsCase case.now }
+    ensures { result ≡ false → MatchOption best ⊥ (λ b. (x : Assignment) → IsMadeOf case.now x → Before pivots.now x b → ⊥) }
+{
+    match best {
+        Some(best) => may_precede(case, pivots, &best),
+        None => true,
+    }
+}
+
 /// The least assignment that has the operation and is of one of the cases, with what the marked biases add to them. The cases
-/// that are searched stand for those of the problem. Where they are narrow, what is made of them with marked biases is narrow
-/// too, and is added to `tried`.
+/// that are searched stand for those of the problem; one of which nothing can come before the best so far is passed over.
+/// Where they are narrow, what is made of them with marked biases is narrow too, and is added to `tried`.
 pub fn solve_cases(
     alloc: Global,
     marked: &Marked,
@@ -121,7 +133,7 @@ pub fn solve_cases(
 {
     let mut best = None;
     for (place, case) in sought.cases.iter().enumerate() {
-        if case.op == op {
+        if case.op == op && may_lead(case, pivots, best) {
             let least = solve_marked(
                 alloc,
                 marked,

@@ -4,11 +4,14 @@ use Rattle.fd_solve.specs.Marks.{marked_case, whole_of}
 use Rattle.fd_prob.specs.Fitting.{IsCase}
 use Rattle.case_search.specs.Search.{IsLesser, IsMadeOf, LeastOrNone}
 use Rattle.fd_solve.specs.Equivalent.{AreTried}
-use Rattle.fd_solve.proofs.Equivalence.{equivalent_at, equivalent_count, least_marked, tried_at}
+use Rattle.fd_solve.proofs.Equivalence.{equivalent_at, equivalent_count, least_marked, tried_at, unmarked}
 use Rattle.fd_solve.proofs.Marking.{entry_at, many_marked, marked_at, marked_op}
-use Rattle.fd_solve.proofs.OneOperation.{IsMadeBefore, all_before, no_more_case, one_more_case}
-use Rattle.fd_solve.proofs.cases.solve_cases.Goals.{then-case-op+in_ok-least, else-case-op}
+use Rattle.fd_solve.proofs.OneOperation.{IsMadeBefore, all_before, no_more_case, one_more_case, passed_case}
+use Rattle.fd_solve.proofs.cases.solve_cases.Goals.{then-case-op+then-may_lead+in_ok-least, else-case-op, else-case-op-via-then-case-op+else-may_lead, else-case-op-via-else-case-op}
 use Rattle.fd_solve.proofs.cases.solve_cases.Goals as goal
+
+pub may_lead-requires : goal.may_lead-requires
+may_lead-requires c = (equivalent_at c.args.marked.now.problem.now.cases c.args.sought.now.cases.now c.loop-place.place c.case-item.result c.requires.cases c.loop-place-test.true c.case-item.is).2.whole
 
 pub solve_marked-requires : goal.solve_marked-requires
 solve_marked-requires c =
@@ -36,15 +39,21 @@ loop-place-preserved c =
     let lt : n < length cases = subst (λ (k : ℕ). n < k) (sym many) less in
     let here : case ≡ get_or cases n case = marked_at m.marks.now m.biases.now m.problem.now (length m.problem.now.cases) n own c.requires.sound.entries refl less at.1 in
     let op_is : case.op ≡ plain.op = marked_op m.marks.now m.biases.now n own ∙ sym at.2.op in
+    let own_whole : IsCase own = subst IsCase (sym at.1) (c.requires.sound.problem n own less) in
     record {
       least = elim c.if-case-op.branch [
-        | then-case-op+in_ok-least w ↦
-            let least : LeastOrNone ps (IsMadeOf case) w.in_ok-least.least = least_marked m.marks.now m.biases.now n own plain (subst IsCase (sym at.1) (c.requires.sound.problem n own less)) at.2 ps w.in_ok-least.least w.in_ok-least.ensures.least in
+        | then-case-op+then-may_lead+in_ok-least w ↦
+            let least : LeastOrNone ps (IsMadeOf case) w.in_ok-least.least = least_marked m.marks.now m.biases.now n own plain own_whole at.2 ps w.in_ok-least.least w.in_ok-least.ensures.least in
             one_more_case c.args.op cases n case lt here (op_is ∙ w.if-case-op.true) ps c.loop-place.best w.in_ok-least.least c.if-case-op.best c.loop-place.invariant.least least (subst (IsLesser ps c.loop-place.best w.in_ok-least.least) (sym w.best-is) w.lesser-best.ensures)
-        | else-case-op w ↦ subst (LeastOrNone ps (IsMadeBefore c.args.op cases (n + 1))) (sym w.best-is) (no_more_case c.args.op cases n case lt here (λ same. w.if-case-op.false (sym op_is ∙ same)) ps c.loop-place.best c.loop-place.invariant.least)
+        | else-case-op w ↦
+            let kept : LeastOrNone ps (IsMadeBefore c.args.op cases (n + 1)) c.loop-place.best = elim w.else-case-op.branch [
+              | else-case-op-via-then-case-op+else-may_lead v ↦ passed_case c.args.op cases n case lt here plain (unmarked m.marks.now m.biases.now n own plain own_whole at.2) ps c.loop-place.best (v.may_lead.ensures v.if-may_lead.false) c.loop-place.invariant.least
+              | else-case-op-via-else-case-op v ↦ no_more_case c.args.op cases n case lt here (λ same. v.if-case-op.false (sym op_is ∙ same)) ps c.loop-place.best c.loop-place.invariant.least
+            ] in
+            subst (LeastOrNone ps (IsMadeBefore c.args.op cases (n + 1))) (sym w.best-is) kept
       ];
       tried = elim c.if-case-op.branch [
-        | then-case-op+in_ok-least w ↦ subst (λ (v : Vec (ℕ × Case) Global). AreTried cases v.items) (sym w.tried-is) (w.in_ok-least.ensures.tried cases (tried_at m.marks.now m.biases.now m.problem.now n own plain c.requires.sound.problem c.requires.sound.entries less at.1 at.2) c.loop-place.invariant.tried)
+        | then-case-op+then-may_lead+in_ok-least w ↦ subst (λ (v : Vec (ℕ × Case) Global). AreTried cases v.items) (sym w.tried-is) (w.in_ok-least.ensures.tried cases (tried_at m.marks.now m.biases.now m.problem.now n own plain c.requires.sound.problem c.requires.sound.entries less at.1 at.2) c.loop-place.invariant.tried)
         | else-case-op w ↦ subst (λ (v : Vec (ℕ × Case) Global). AreTried cases v.items) (sym w.tried-is) c.loop-place.invariant.tried
       ];
     }
