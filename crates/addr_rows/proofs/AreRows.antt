@@ -8,6 +8,7 @@ use Rattle.rv_script.specs.Lists.{HasItem}
 use Rattle.rv_script.specs.Script.{Label}
 use Rattle.rv_script.specs.Folds.{Known, Entry}
 use Rattle.sv_walk.specs.Translation.{Reached, At, Fails, arrived, is_translated}
+use Rattle.row_parts.specs.Gaps.{counts}
 use Rattle.row_parts.specs.declared.row.Row.{Row}
 use Rattle.row_parts.specs.declared.row.RowEnd.{RowEnd as CodeEnd}
 use Rattle.row_parts.specs.declared.row.RowEnd.TheVariants.{Pa, Fault, Outside}
@@ -96,10 +97,12 @@ end_from (r ∷ rows) x root leaf end i = go (end_from rows x root leaf end) r.e
   where
     holds : has r x root leaf ≡ true → row_holds r x (value_of root) (value_of leaf) ≡ true
     holds h =
-        let a = both_true (is_in r.ea x) (is_of r.root root && is_of r.leaf leaf) h in
+        let n = both_true (counts r.apart x) (is_in r.ea x && (is_of r.root root && is_of r.leaf leaf)) h in
+        let a = both_true (is_in r.ea x) (is_of r.root root && is_of r.leaf leaf) n.1 in
         let b = both_true (is_of r.root root) (is_of r.leaf leaf) a.1 in
-        true_both (is_in r.ea x) (has_value r.root (value_of root) && has_value r.leaf (value_of leaf)) a.0
-        (true_both (has_value r.root (value_of root)) (has_value r.leaf (value_of leaf)) (word_holds r.root root b.0) (word_holds r.leaf leaf b.1))
+        true_both (counts r.apart x) (is_in r.ea x && (has_value r.root (value_of root) && has_value r.leaf (value_of leaf))) n.0
+        (true_both (is_in r.ea x) (has_value r.root (value_of root) && has_value r.leaf (value_of leaf)) a.0
+        (true_both (has_value r.root (value_of root)) (has_value r.leaf (value_of leaf)) (word_holds r.root root b.0) (word_holds r.leaf leaf b.1)))
 
     reached_is : (e f : Reached) → Reaches e ≡ Reaches f → e ≡ f
     reached_is e f h = cc
@@ -188,11 +191,14 @@ are_rows at st known may pages rows shows lets forms adds = record {
     sound : (item : EntryRow) → HasItem (entry_rows rows) item → (ea first second : ℕ) → ea < 2 ^ 32 → item.holds ea first second ≡ true → (log : List Entry) × Walks st known may ea first second log (end_at item.end ea)
     sound item i ea first second small h =
         let f = from_row rows item i in
-        let a = both_true (is_in f.row.ea ea) (has_value f.row.root first && has_value f.row.leaf second) (sym (f.holds ea first second) ∙ h) in
+        let n = both_true (counts f.row.apart ea) (is_in f.row.ea ea && (has_value f.row.root first && has_value f.row.leaf second)) (sym (f.holds ea first second) ∙ h) in
+        let a = both_true (is_in f.row.ea ea) (has_value f.row.root first && has_value f.row.leaf second) n.1 in
         let b = both_true (has_value f.row.root first) (has_value f.row.leaf second) a.1 in
         let root : Option ℕ = as_new f.row.root first in
         let leaf : Option ℕ = as_new f.row.leaf second in
-        let has_it : has f.row ea root leaf ≡ true = true_both (is_in f.row.ea ea) (is_of f.row.root root && is_of f.row.leaf leaf) a.0 (true_both (is_of f.row.root root) (is_of f.row.leaf leaf) (new_is_of f.row.root first b.0) (new_is_of f.row.leaf second b.1)) in
+        let has_it : has f.row ea root leaf ≡ true =
+        true_both (counts f.row.apart ea) (is_in f.row.ea ea && (is_of f.row.root root && is_of f.row.leaf leaf)) n.0
+        (true_both (is_in f.row.ea ea) (is_of f.row.root root && is_of f.row.leaf leaf) a.0 (true_both (is_of f.row.root root) (is_of f.row.leaf leaf) (new_is_of f.row.root first b.0) (new_is_of f.row.leaf second b.1))) in
         let e : End = Reaches (end_at item.end ea) in
         let there : HasItem (ends_in rows ea root leaf) e = in_ends rows f.row ea root leaf e f.is_there has_it (f.end ea) in
         let way = item_is (pages ea) (ways at st ea root leaf) e (subst (λ (es : List End). HasItem es e) (adds ea root leaf small) there) in

@@ -38,25 +38,33 @@ root_groups at st gs first end x root leaf true ends there may =
     ∙ ap (λ (b : Bool). by_word st.first root (λ w. when b (rooted at st true w x leaf))) (there refl)
     ∙ roots at st x root leaf may
 
+-- where no second entry may be new, there is no end
+none_new : (st : Setting) (x : ℕ) (leaf : Option ℕ) (b : Bool) → when b (at_second st false x Untouched leaf) ≡ []
+unfolding at_second
+none_new st x None true = refl
+none_new st x (Some w) true = refl
+none_new st x leaf false = refl
+
 -- where the second entry would be the new root entry, none is new
 pub apart_second : (st : Setting) (x : ℕ) (leaf : Option ℕ) (apart set word equal : Bool) → apart ≡ (set && not equal)
     → when (apart && word) (at_second st true x Untouched leaf) ≡ when (set && word) (at_second st (not equal) x Untouched leaf)
 unfolding at_second
-apart_second st x leaf apart set word true is = ap (λ (b : Bool). when (b && word) (at_second st true x Untouched leaf)) (is ∙ none set) ∙ sym (empty (set && word) leaf)
+apart_second st x leaf apart set word true is = ap (λ (b : Bool). when (b && word) (at_second st true x Untouched leaf)) (is ∙ none set) ∙ sym (none_new st x leaf (set && word))
   where
     none : (b : Bool) → (b && false) ≡ false
     none true = refl
     none false = refl
-
-    empty : (b : Bool) (given : Option ℕ) → when b (at_second st false x Untouched given) ≡ []
-    empty true None = refl
-    empty true (Some w) = refl
-    empty false given = refl
 apart_second st x leaf apart set word false is = ap (λ (b : Bool). when (b && word) (at_second st true x Untouched leaf)) (is ∙ all set)
   where
     all : (b : Bool) → (b && true) ≡ b
     all true = refl
     all false = refl
+
+-- rows for which both indices have to differ
+pub counted_second : (st : Setting) (x : ℕ) (leaf : Option ℕ) (b equal : Bool)
+    → when (not equal && b) (at_second st true x Untouched leaf) ≡ when b (at_second st (not equal) x Untouched leaf)
+counted_second st x leaf b true = sym (none_new st x leaf b)
+counted_second st x leaf b false = refl
 
 -- an entry is the same as what the table has
 pub class_is : (at : ℕ → Seen) (frame : ℕ) (table : List Seen) (k : Seen) (i : ℕ) → TableOf at frame table → i < 1024 → has_class table k i ≡ same k (entry_at at frame i)

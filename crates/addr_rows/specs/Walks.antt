@@ -13,6 +13,7 @@ use Rattle.rv_script.specs.Bytes.{word_address}
 use Rattle.rv_script.specs.Folds.{Known, Answer.Does, Answer.Nowhere, Entry}
 use Rattle.sv_walk.specs.Translation.{Reached, At, Fails, translated, root_address, root_label, second_label}
 use Rattle.dom_set.specs.Elements.{is_in}
+use Rattle.row_parts.specs.Gaps.{counts}
 use Rattle.row_parts.specs.declared.row.Row.{Row}
 use Rattle.row_parts.specs.declared.row.RowEnd.{RowEnd as CodeEnd}
 use Rattle.row_parts.specs.declared.row.RowEnd.TheVariants.{Pa, Fault, Outside}
@@ -133,7 +134,7 @@ has_value None v = nat_eq v 0
 has_value (Some words) v = is_in words v
 
 abbrev pub row_holds : Row → ℕ → ℕ → ℕ → Bool
-row_holds row ea first second = is_in row.ea ea && (has_value row.root first && has_value row.leaf second)
+row_holds row ea first second = counts row.apart ea && (is_in row.ea ea && (has_value row.root first && has_value row.leaf second))
 
 -- a row of the code, before others; one that leads outside says of nothing where it leads
 abbrev pub entry_row : Row → CodeEnd → List EntryRow → List EntryRow

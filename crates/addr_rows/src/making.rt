@@ -7,6 +7,7 @@ ghost use Rattle.sv_walk.specs.Translation.{is_translated};
 ghost use Rattle.rv_mem.specs.declared.words.Seen.TheVariants.{Untouched};
 ghost use Rattle.row_parts.specs.Alike.{by_groups, by_word};
 ghost use Rattle.row_parts.specs.Classes.{entry_at, same, TableOf};
+ghost use Rattle.row_parts.specs.Gaps.{are_indices_equal, counts};
 ghost use Rattle.row_parts.specs.Items.{by_kind};
 ghost use Rattle.row_parts.specs.Rows.{Adds, end_at, ends_in, found, is_of, when};
 ghost use Rattle.addr_rows.specs.Combinations.{at_root, at_second, is_own_entry, is_table, root_frame, rooted, second_reaches, ways};
@@ -45,7 +46,7 @@ impl Scene {
         news: &News,
         entry: u32,
     ) -> Result<(), OutOfMemory>
-        ensures { OnOk result (Adds rows.old.items rows.new.items (λ x root leaf. found (is_in set.now x && (is_of news.now.root root && is_of news.now.leaf leaf)) (second_reaches (setting_of self.now) x entry))) }
+        ensures { OnOk result (Adds rows.old.items rows.new.items (λ x root leaf. found (counts news.now.apart x && (is_in set.now x && (is_of news.now.root root && is_of news.now.leaf leaf))) (second_reaches (setting_of self.now) x entry))) }
     {
         if is_invalid(entry) || is_pointer(entry) || is_closed(self.view, self.kind, entry) {
             let end = RowEnd::Fault(self.kind.page_cause());
@@ -72,14 +73,16 @@ impl Scene {
         rows: &mut Vec<Row>,
         set: &Set,
         own: &Option<Set>,
+        apart: bool,
         group: &Group,
     ) -> Result<(), OutOfMemory>
-        ensures { OnOk result (Adds rows.old.items rows.new.items (λ x root leaf. when (is_in set.now x && (is_of own.now root && is_of (SomeOf group.now.values) leaf)) (second_reaches (setting_of self.now) x group.now.entry ∷ []))) }
+        ensures { OnOk result (Adds rows.old.items rows.new.items (λ x root leaf. when (counts apart x && (is_in set.now x && (is_of own.now root && is_of (SomeOf group.now.values) leaf))) (second_reaches (setting_of self.now) x group.now.entry ∷ []))) }
     {
         let root = copy_of(alloc, own)?;
         let values = group.values.copy(alloc)?;
         let leaf = Some(values);
-        self.push_second(alloc, rows, set, &News { root, leaf }, group.entry)?;
+        let news = News { root, leaf, apart };
+        self.push_second(alloc, rows, set, &news, group.entry)?;
         Ok(())
     }
 
@@ -90,18 +93,48 @@ impl Scene {
         rows: &mut Vec<Row>,
         set: &Set,
         own: &Option<Set>,
+        apart: bool,
     ) -> Result<(), OutOfMemory>
         requires { AreKept self.now }
-        ensures { OnOk result (Adds rows.old.items rows.new.items (λ x root leaf. when (is_in set.now x && is_of own.now root) (at_second (setting_of self.now) true x Untouched leaf))) }
+        ensures { OnOk result (Adds rows.old.items rows.new.items (λ x root leaf. when (counts apart x && (is_in set.now x && is_of own.now root)) (at_second (setting_of self.now) true x Untouched leaf))) }
     {
         for group in &self.seconds {
-            self.push_second_group(alloc, rows, set, own, group)?;
+            self.push_second_group(alloc, rows, set, own, apart, group)?;
         }
         Ok(())
     }
 
+    /// Appends the rows of addresses whose second entry may be new, where it stands in the table in which the
+    /// new root entry stands: it has to be another word.
+    fn push_apart(
+        &self,
+        alloc: Global,
+        rows: &mut Vec<Row>,
+        set: &Set,
+        own: &Option<Set>,
+    ) -> Result<(), OutOfMemory>
+        requires { AreKept self.now }
+        ensures { OnOk result (Adds rows.old.items rows.new.items (λ x root leaf. when (is_in set.now x && is_of own.now root) (at_second (setting_of self.now) (not (are_indices_equal x)) x Untouched leaf))) }
+    {
+        match page_of(alloc, set)? {
+            Some(_) => {
+                let left = off_diagonal(alloc, set)?;
+                if is_empty(&left) {
+                    return Ok(());
+                }
+                self.push_new_seconds(alloc, rows, &left, own, false)?;
+                Ok(())
+            }
+            None => {
+                // Without the addresses that don't count the set may be in a thousand pieces.
+                self.push_new_seconds(alloc, rows, set, own, true)?;
+                Ok(())
+            }
+        }
+    }
+
     /// Appends the rows of addresses whose second entry may be new, in a frame that is a table's.
-    #[tactic(auto, using(crate::proofs::Fresh::not_own))]
+    #[tactic(auto, using(crate::proofs::Fresh::own_is, crate::proofs::Fresh::not_own))]
     fn push_untouched(
         &self,
         alloc: Global,
@@ -114,14 +147,10 @@ impl Scene {
         ensures { OnOk result (Adds rows.old.items rows.new.items (λ x root leaf. when (is_in set.now x && is_of own.now root) (at_second (setting_of self.now) (not (is_own_entry (setting_of self.now) (is_some own.now) frame x)) x Untouched leaf))) }
     {
         if self.leads_back(own, frame) {
-            let apart = off_diagonal(alloc, set)?;
-            if is_empty(&apart) {
-                return Ok(());
-            }
-            self.push_new_seconds(alloc, rows, &apart, own)?;
+            self.push_apart(alloc, rows, set, own)?;
             return Ok(());
         }
-        self.push_new_seconds(alloc, rows, set, own)?;
+        self.push_new_seconds(alloc, rows, set, own, false)?;
         Ok(())
     }
 
@@ -140,7 +169,11 @@ impl Scene {
         ensures { OnOk result (Adds rows.old.items rows.new.items (λ x root leaf. when (is_in set.now x && is_of own.now root) (at_second (setting_of self.now) (is_table self.now.tables.items frame && not (is_own_entry (setting_of self.now) (is_some own.now) frame x)) x seen leaf))) }
     {
         let root = copy_of(alloc, own)?;
-        let news = News { root, leaf: None };
+        let news = News {
+            root,
+            leaf: None,
+            apart: false,
+        };
         match seen {
             Seen::Vacant => {
                 let beyond = RowEnd::Fault(self.kind.access_cause());
@@ -279,7 +312,11 @@ impl Scene {
     {
         let fault = RowEnd::Fault(self.kind.page_cause());
         let root = copy_of(alloc, own)?;
-        let news = News { root, leaf: None };
+        let news = News {
+            root,
+            leaf: None,
+            apart: false,
+        };
         if is_invalid(entry) {
             push_all(alloc, rows, set, &news, fault)?;
             return Ok(());
@@ -386,6 +423,7 @@ impl Scene {
                 let news = News {
                     root: None,
                     leaf: None,
+                    apart: false,
                 };
                 push_all(alloc, rows, set, &news, end)?;
                 Ok(())
@@ -517,6 +555,7 @@ impl Scene {
         let news = News {
             root: None,
             leaf: None,
+            apart: false,
         };
         push_reached(alloc, rows, &self.ram, self.kind, set, &news, 0, 32)?;
         Ok(())

@@ -168,8 +168,14 @@ fn has_entry(entries: &Option<Set>, given: Option<u32>) -> bool {
     }
 }
 
+/// Whether an address counts for a row: where its indices in both tables have to differ, they do.
+fn counts(row: &Row, ea: u32) -> bool {
+    !row.apart || ea / 0x40_0000 != ea / 0x1000 % 0x400
+}
+
 fn has(row: &Row, ea: u32, news: News) -> bool {
-    row.ea.has(ea) && has_entry(&row.root, news.root) && has_entry(&row.leaf, news.leaf)
+    let is_there = row.ea.has(ea) && counts(row, ea);
+    is_there && has_entry(&row.root, news.root) && has_entry(&row.leaf, news.leaf)
 }
 
 /// Where a row leads an address.

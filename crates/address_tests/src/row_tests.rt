@@ -200,6 +200,17 @@ tables 80001000
 pages 0-ffffffff
 some 0 400000 c00000";
 
+/// Pages whose new root entry may lead back to the root table, which has no second entry but one. The page 0x00802000 has equal
+/// indices.
+const BACK: &str = "\
+ram 80004000
+words 80001004=20000801
+tables 80001000
+pool 80003000
+flags cf 00
+pages 800000-bfffff
+some 801000 802000 802fff 803000 bff000";
+
 /// Compares rows with walks for each kind of access, each privilege, SUM and MXR.
 fn assert_case(rt: &impl Abort, alloc: Global, text: &str) {
     let case = case_of(rt, alloc, text);
@@ -238,6 +249,16 @@ fn rows_without_forms_are_what_walks_find(rt: HostRuntime) {
     assert_case(&rt, rt.alloc(), ROOT);
 }
 
+#[test]
+fn rows_behind_an_entry_that_leads_back_are_what_walks_find(rt: HostRuntime) {
+    let alloc = rt.alloc();
+    assert_case(&rt, alloc, BACK);
+    let case = case_of(&rt, alloc, BACK);
+    let found = rows_of(&rt, alloc, &case, SUPERVISOR, Kind::Load);
+    let both = |row: &Row| row.ea.has(0x0080_2000) && row.ea.has(0x0080_3000);
+    assert!(rt; found.iter().any(|row| row.apart && both(row)));
+}
+
 /// Most of what may be open at once: eight frames for tables, 32 frames to lead to, eight flags.
 const OPEN_ROOT: &str = "\
 ram 80100000
@@ -249,16 +270,24 @@ pool 80020000 80021000 80022000 80023000 80024000 80025000 80026000 80027000
 pool 80028000 80029000 8002a000 8002b000 8002c000 8002d000 8002e000 8002f000
 flags 00 cf df c7 4f 43 0f d7";
 
-/// There are rows of these pages under the open root, and fewer than a number.
-fn assert_few(rt: &impl Abort, alloc: Global, pages: (u32, u32), bound: usize) {
+/// There are rows of these pages under the open root, and fewer than a number; some are of addresses whose indices have to
+/// differ, or none is. The addresses of each are in few pieces.
+fn assert_few(rt: &impl Abort, alloc: Global, pages: (u32, u32), bound: usize, apart: bool) {
     let mut case = case_of(rt, alloc, OPEN_ROOT);
     case.pages.push(pages).expect(rt, "memory");
-    let count = rows_of(rt, alloc, &case, SUPERVISOR, Kind::Load).len();
+    let found = rows_of(rt, alloc, &case, SUPERVISOR, Kind::Load);
+    let count = found.len();
     assert!(rt; 0 < count && count < bound, "{count} rows");
+    assert_eq!(rt; found.iter().any(|row| row.apart), apart);
+    for row in &found {
+        let pieces = row.ea.spans(alloc).expect(rt, "memory").len();
+        assert!(rt; pieces < 128, "{pieces} pieces");
+    }
 }
 
 #[test]
 fn rows_under_an_open_root_are_few(rt: HostRuntime) {
-    assert_few(&rt, rt.alloc(), (0x0080_2000, 0x0080_2fff), 100);
-    assert_few(&rt, rt.alloc(), (0, 0xffff_ffff), 200);
+    assert_few(&rt, rt.alloc(), (0x0080_2000, 0x0080_2fff), 100, false);
+    assert_few(&rt, rt.alloc(), (0x0080_3000, 0x0080_3fff), 100, false);
+    assert_few(&rt, rt.alloc(), (0, 0xffff_ffff), 200, true);
 }

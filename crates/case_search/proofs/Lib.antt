@@ -3,6 +3,7 @@ pub mod Orders
 mod Bounds
 pub mod Putting
 pub mod Inside
+mod Skips
 mod Cuts
 mod Mentions
 mod Searching

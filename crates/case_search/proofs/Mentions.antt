@@ -3,13 +3,14 @@ use Rattle.std.proofs.Common.{◌≡◌, ℕ, ◌+◌, ◌-◌, ◌%◌, ◌^◌
 use Rattle.std.specs.Prelude.{if◌then◌else◌, slice_get}
 use Rattle.std.specs.List.{list_any}
 use Rattle.std.proofs.lemmas.Bool.Decides.{nat_tests}
+use Rattle.dom_set.specs.Elements.{is_in}
 use Rattle.rv_isa.specs.declared.operation.Op.{Op}
 use Rattle.rv_isa.specs.declared.operation.Op.TheVariants.{Jal, Jalr, Csrrw, Csrrs, Csrrc, Csrrwi, Csrrsi, Csrrci}
 use Rattle.rv_isa.specs.Arithmetic.{is_branch}
 use Rattle.fd_prob.specs.declared.problem.Assignment.{Assignment}
 use Rattle.fd_prob.specs.declared.relation.Quad.{Quad}
 use Rattle.fd_prob.specs.declared.relation.Rel.{Rel}
-use Rattle.fd_prob.specs.declared.relation.Rel.TheVariants.{Same, Differ, Sum, Taken, Holds, Linked, Target, Writes, Rows}
+use Rattle.fd_prob.specs.declared.relation.Rel.TheVariants.{Same, Differ, Sum, Taken, Holds, Linked, Target, Writes, In, Rows}
 use Rattle.fd_prob.specs.declared.slot.Slot.{Slot}
 use Rattle.fd_prob.specs.declared.slot.Slot.TheVariants as slots
 use Rattle.fd_prob.specs.Relations.{agrees, goes_to_target, has_condition, holds, is_in_row, is_none_or_legal, is_some_in, target_of, value_of, written_by}
@@ -87,4 +88,5 @@ holds_same op (Target pc set) x y agree = ap (is_some_in set) (target_same op pc
 holds_same op Writes x y agree =
     ap (λ (n : ℕ). is_none_or_legal n (written_by op x)) (agree slots.Csr refl)
     ∙ ap (is_none_or_legal (value_of y slots.Csr)) (written_same op x y (agree slots.Rs1 refl) (agree slots.A refl) (agree slots.Imm refl) (agree slots.OldCsr refl))
+holds_same op (In s set) x y agree = ap (is_in set) (agree s (itself (slot_number s)))
 holds_same op (Rows rows) x y agree = rows_same x y rows (λ row. row_same x y row (agree slots.Ea refl) (agree slots.FirstPte refl) (agree slots.SecondPte refl) (agree slots.DataWord refl))

@@ -1,7 +1,7 @@
 -- The search in the domains of a case.
-use Rattle.std.proofs.Common.{◌≡◌, ℕ, ◌+◌, ◌^◌, ◌<◌, true, false, List, [], ◌∷◌, length, Some, slice_index, inl, inr, ⊎_elim, sym, ap, ◌∙◌, subst, arith, get_or}
+use Rattle.std.proofs.Common.{◌≡◌, ℕ, ◌+◌, ◌^◌, ◌<◌, ◌≤◌, Bool, true, false, not, ◌||◌, IsTrue, refl, eqb-true, List, [], ◌∷◌, length, Some, slice_index, inl, inr, ⊎_elim, sym, ap, ◌∙◌, subst, arith, get_or}
 use Rattle.std.specs.List.{list_all}
-use Rattle.std.proofs.lemmas.Bool.{cases_lt, false≢true}
+use Rattle.std.proofs.lemmas.Bool.{cases_lt, false≢true, or_left, or_right}
 use Rattle.std.proofs.lemmas.List.{ext_get_or}
 use Rattle.std.proofs.lemmas.List.Sums.{AllPass-from_list_all, list_all-from_AllPass}
 use Rattle.rv_isa.specs.declared.operation.Op.{Op}
@@ -10,7 +10,10 @@ use Rattle.fd_narrow.specs.Narrowing.{AllHold, IsInside, domain_in}
 use Rattle.fd_prob.specs.declared.problem.Assignment.{Assignment}
 use Rattle.fd_prob.specs.declared.problem.Case.{Case}
 use Rattle.fd_prob.specs.declared.relation.Rel.{Rel}
+use Rattle.fd_prob.specs.declared.relation.Rel.TheVariants.{In}
 use Rattle.fd_prob.specs.declared.slot.Slot.{Slot}
+use Rattle.fd_narrow.specs.Mentions.{is_slot}
+use Rattle.case_search.specs.Skipping.{all_let, lets}
 use Rattle.fd_prob.specs.declared.slot.Slot.TheVariants as slots
 use Rattle.fd_prob.specs.declared.slot.TheConstants.{SLOTS}
 use Rattle.fd_prob.specs.Order.{IsAssignment, rank}
@@ -29,6 +32,30 @@ Tried c doms s pivot k = (y : Assignment) → IsMet c doms y → rank pivot (val
 -- at one place both have one value
 same_at : (x y : Assignment) (s t : Slot) → slot_number t ≡ slot_number s → value_of x s ≡ value_of y s → value_of x t ≡ value_of y t
 same_at x y s t e same = let P : ℕ → Type 0 = λ n. slice_index x.values n ≡ slice_index y.values n in subst P (sym e) same
+
+same_value_at : (x : Assignment) (t s : Slot) → slot_number t ≡ slot_number s → value_of x t ≡ value_of x s
+same_value_at x t s e = ap (slice_index x.values) e
+
+-- what holds has values in the sets of its relations
+holding_lets : (op : Op) (x : Assignment) (s : Slot) (r : Rel) → IsTrue (holds op x r) → lets r s (value_of x s) ≡ true
+holding_lets op x s (In t set) h = go (is_slot t s) refl
+  where
+    go : (b : Bool) → is_slot t s ≡ b → (not (is_slot t s) || is_in set (value_of x s)) ≡ true
+    go true same = or_right (not (is_slot t s)) (is_in set (value_of x s)) (ap (is_in set) (sym (same_value_at x t s (eqb-true (slot_number t) (slot_number s) same))) ∙ h)
+    go false other = or_left (not (is_slot t s)) (is_in set (value_of x s)) (ap not other)
+holding_lets op x s _ h = refl
+
+-- so values that these sets lack were looked for in vain
+pub skipped : (c : Case) (doms : List (List ℕ)) (s : Slot) (pivot k next : ℕ) (domain : List ℕ) (rels : List Rel) → domain ≡ domain_in doms s → rels ≡ c.rels
+    → ((w : ℕ) → IsTrue (is_in domain w) → k ≤ rank pivot w → rank pivot w < next → all_let rels s w ≡ false) → Tried c doms s pivot k → Tried c doms s pivot next
+skipped c doms s pivot k next domain rels domain_is rels_are passed tried y met less = elim (cases_lt (rank pivot (value_of y s)) k) [
+  | inl before ↦ tried y met before
+  | inr from ↦
+      let lacks : all_let c.rels s (value_of y s) ≡ false =
+      subst (λ (l : List Rel). all_let l s (value_of y s) ≡ false) rels_are (passed (value_of y s) (subst (λ (l : List ℕ). IsTrue (is_in l (value_of y s))) (sym domain_is) (met.inside s)) from less) in
+      let all : all_let c.rels s (value_of y s) ≡ true = list_all-from_AllPass (λ r. lets r s (value_of y s)) c.rels (λ i d lt. holding_lets (op_numbered c.op) y s (get_or c.rels i d) (met.holding i d lt)) in
+      false≢true (sym lacks ∙ all)
+]
 
 one_more_fixed : (doms : List (List ℕ)) (s : Slot) → FixedBelow doms (slot_number s) → ((x y : Assignment) → IsInside doms x → IsInside doms y → value_of x s ≡ value_of y s) → FixedBelow doms (slot_number s + 1)
 one_more_fixed doms s fixed same x y ix iy t below = elim (cases_lt (slot_number t) (slot_number s)) [

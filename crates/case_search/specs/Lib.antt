@@ -1,4 +1,5 @@
 pub mod Search
+pub mod Skipping
 pub mod Free
 pub mod Easier
 pub mod Classes

@@ -13,6 +13,7 @@ mod narrowing;
 mod order;
 mod place;
 mod search;
+mod skipping;
 mod solving;
 mod stronger;
 mod targets;

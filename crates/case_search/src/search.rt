@@ -11,6 +11,7 @@ use crate::easier::without;
 use crate::free::{first_passing, is_free};
 use crate::order::{next_from, rank};
 use crate::place::slot_at;
+use crate::skipping::first_let;
 use dom_set::{OutOfMemory, Set, set_laws};
 use fd_narrow::{Domains, Losses};
 use fd_prob::{Assignment, Case, Slot, all_hold};
@@ -135,7 +136,8 @@ pub fn search(
         let least = search(alloc, case, pivots, &cut, place + 1)?;
         return Ok(least);
     }
-    let mut k: u64 = 0;
+    let first = first_let(domain, slot, rels, pivot, 0);
+    let mut k = first;
     while let Some(value) = next_from(domain, pivot, k) {
         let cut = with_value(
             alloc,
@@ -150,7 +152,7 @@ pub fn search(
             return Ok(Some(x));
         }
         // Where there is nothing even without the relations that look at the variable, no other value helps.
-        if k == 0 {
+        if k == first {
             let easier = without(alloc, case, slot)?;
             let fixed = with_value(
                 alloc,
@@ -165,7 +167,7 @@ pub fn search(
                 return Ok(None);
             }
         }
-        k = u64::from(rank(pivot, value)) + 1;
+        k = first_let(domain, slot, rels, pivot, u64::from(rank(pivot, value)) + 1);
     }
     Ok(None)
 }

@@ -19,6 +19,7 @@ use Rattle.rv_script.proofs.Plays.{same_is}
 use Rattle.sv_walk.specs.declared.entry.Kind.{Kind}
 use Rattle.sv_walk.specs.Translation.{At, Fails as FailsWith, Reached, is_in_ram}
 use Rattle.sv_walk.proofs.Offsets.{offset_kept}
+use Rattle.row_parts.specs.Gaps.{counts}
 use Rattle.addr_rows.specs.Walks.{EntryRow, Faults, Leads, RowEnd, end_at, entry_answers}
 use Rattle.rv_hart.specs.Machine.{data_view, size_of}
 use Rattle.tpl_ast.specs.declared.template.Atom.{Atom}
@@ -43,7 +44,7 @@ use Rattle.data_goals.specs.declared.accesses.Accesses.{Accesses}
 use Rattle.data_goals.specs.declared.goal.Goal.{Goal}
 use Rattle.data_goals.specs.declared.goal.Goal.TheVariants.{Misaligned, Fails, Known, Fresh}
 use Rattle.data_goals.specs.Grounds.{HasAccesses, is_walked}
-use Rattle.data_goals.specs.Goals.{access_of, address_test, cause_of, end_test, goal_test, goal_way, goal_ways, goals_by, is_aligned_to, leads_to, misses, target_test, ways_for, ways_through}
+use Rattle.data_goals.specs.Goals.{access_of, address_test, cause_of, end_test, goal_test, goal_way, goal_ways, goals_by, is_aligned_to, leads_to, misses, target_test, way_in, ways_for, ways_through}
 use Rattle.data_goals.specs.Laws.{AreSmall, has_code}
 use Rattle.data_goals.proofs.Freedom.{IsAccess, may_go}
 use Rattle.data_goals.proofs.Entries.{AreEntries, fails_so, leads_inside, new_in_tables, walk_entries}
@@ -350,7 +351,7 @@ module _ (t : Turn) (walk : List Entry) (pa : ℕ) (a : Accesses) (leaf : List A
       let walks : Walks t (kind_of (access_of op)) (x slots.Ea) (x slots.FirstPte) (x slots.SecondPte) r.log (At p) = subst (λ (k : Kind). Walks t k (x slots.Ea) (x slots.FirstPte) (x slots.SecondPte) r.log (At p)) (sym kinds) r.leads in
       let c = ways_are.complete (x slots.Ea) (x slots.FirstPte) (x slots.SecondPte) r.log (At p) (small slots.Ea) page walks (keep_from t load r.log p r.free r.off) in
       let way : DataWay = c.0 in
-      let e = way_leads way.end (x slots.Ea) p c.5 in
+      let e = way_leads way.end (x slots.Ea) p c.6 in
       let goals = at_goals way.end e.0 e.1 e.2 in
       let g = and_parts (is_open (barred_of a.bytes (access_of op)) (size_of op) p) _ r.goes in
       let leads = λ (words : ℕ → Bool) (held : words p ≡ true).
@@ -363,7 +364,7 @@ module _ (t : Turn) (walk : List Entry) (pa : ℕ) (a : Accesses) (leaf : List A
               goal = goal_way t a leaf op way Known;
               among = in_goals way Known c.1 goals.0;
               fits = record {
-                each = retiring way Known r.old r.vector (known_tests way (and_from _ _ (and_from _ _ c.2 r.aligned) (leads (is_in a.bytes.known) (known_in t walk pa a has p (below r.log p r.leads) ∙ value))) c.3 c.4 (sym (ap (word_by t x p) value) ∙ r.word));
+                each = retiring way Known r.old r.vector (known_tests way (and_from _ _ (and_from _ _ (and_from _ _ c.2 c.3) r.aligned) (leads (is_in a.bytes.known) (known_in t walk pa a has p (below r.log p r.leads) ∙ value))) c.4 c.5 (sym (ap (word_by t x p) value) ∙ r.word));
                 holds = refl;
               };
               outcome_is = refl;
@@ -375,7 +376,7 @@ module _ (t : Turn) (walk : List Entry) (pa : ℕ) (a : Accesses) (leaf : List A
             record {
               goal = goal_way t a leaf op way Fresh;
               among = in_goals way Fresh c.1 goals.1;
-              fits = record { each = retiring way Fresh r.old r.vector (fresh_tests way (and_from _ _ (and_from _ _ c.2 r.aligned) (leads (is_in a.bytes.fresh) held)) c.3 c.4); holds = refl };
+              fits = record { each = retiring way Fresh r.old r.vector (fresh_tests way (and_from _ _ (and_from _ _ (and_from _ _ c.2 c.3) r.aligned) (leads (is_in a.bytes.fresh) held)) c.4 c.5); holds = refl };
               outcome_is = refl;
               reaches_is = refl;
             }
@@ -394,12 +395,13 @@ module _ (t : Turn) (walk : List Entry) (pa : ℕ) (a : Accesses) (leaf : List A
     goes : may_go a op p ≡ true
     wanted : all_tests t leaf vars.Pa p ≡ true
 
-  aims : (way : DataWay) → HasItem (ways_for a op) way → (words : ℕ → Bool) → ((is_in way.ea (x slots.Ea) && is_aligned_to op (x slots.Ea)) && leads_to way.end (target_test a op words (all_tests t leaf vars.Pa)) (x slots.Ea)) ≡ true
+  aims : (way : DataWay) → HasItem (ways_for a op) way → (words : ℕ → Bool) → ((way_in way (x slots.Ea) && is_aligned_to op (x slots.Ea)) && leads_to way.end (target_test a op words (all_tests t leaf vars.Pa)) (x slots.Ea)) ≡ true
       → is_in way.first (x slots.FirstPte) ≡ true → is_in way.second (x slots.SecondPte) ≡ true → IsAimed way words
   aims way i words ea first second =
-      let d = and_parts (is_in way.ea (x slots.Ea) && is_aligned_to op (x slots.Ea)) _ ea in
-      let own = and_parts (is_in way.ea (x slots.Ea)) (is_aligned_to op (x slots.Ea)) d.0 in
-      let s = ways_are.sound way i (x slots.Ea) (x slots.FirstPte) (x slots.SecondPte) (small slots.Ea) own.0 first second in
+      let d = and_parts (way_in way (x slots.Ea) && is_aligned_to op (x slots.Ea)) _ ea in
+      let own = and_parts (way_in way (x slots.Ea)) (is_aligned_to op (x slots.Ea)) d.0 in
+      let at = and_parts (counts way.apart (x slots.Ea)) (is_in way.ea (x slots.Ea)) own.0 in
+      let s = ways_are.sound way i (x slots.Ea) (x slots.FirstPte) (x slots.SecondPte) (small slots.Ea) at.0 at.1 first second in
       go way.end refl s.0 s.1 s.2 d.1 own.1
     where
       go : (end : DataEnd) → way.end ≡ end → (log : List Entry) → Walks t (kind_of (access_of op)) (x slots.Ea) (x slots.FirstPte) (x slots.SecondPte) log (reached_by way.end (x slots.Ea)) → keeps t (access_of op) log (reached_by way.end (x slots.Ea)) ≡ true
@@ -505,7 +507,7 @@ module _ (t : Turn) (walk : List Entry) (pa : ℕ) (a : Accesses) (leaf : List A
         reaches = ap (λ (w : Way). w.reaches) one ∙ sym quiet;
       }
 
-  fail_tests : (way : DataWay) (cause : Cause) → ((slot : Slot) → fault_new t cause slot (x slot) ≡ true) → (is_in way.ea (x slots.Ea) && is_aligned_to op (x slots.Ea)) ≡ true → is_in way.first (x slots.FirstPte) ≡ true → is_in way.second (x slots.SecondPte) ≡ true
+  fail_tests : (way : DataWay) (cause : Cause) → ((slot : Slot) → fault_new t cause slot (x slot) ≡ true) → (way_in way (x slots.Ea) && is_aligned_to op (x slots.Ea)) ≡ true → is_in way.first (x slots.FirstPte) ≡ true → is_in way.second (x slots.SecondPte) ≡ true
       → (slot : Slot) → (end_test t (Some cause) slot (x slot) && goal_test a op way (all_tests t leaf vars.Pa) Fails slot (x slot)) ≡ true
   fail_tests way cause each ea first second slots.Ea = and_from _ _ refl ea
   fail_tests way cause each ea first second slots.FirstPte = and_from _ _ refl first
@@ -533,12 +535,12 @@ module _ (t : Turn) (walk : List Entry) (pa : ℕ) (a : Accesses) (leaf : List A
       let walks : Walks t (kind_of (access_of op)) (x slots.Ea) (x slots.FirstPte) (x slots.SecondPte) r.log (FailsWith cause) = subst (λ (k : Kind). Walks t k (x slots.Ea) (x slots.FirstPte) (x slots.SecondPte) r.log (FailsWith cause)) (sym kinds) r.leads in
       let c = ways_are.complete (x slots.Ea) (x slots.FirstPte) (x slots.SecondPte) r.log (FailsWith cause) (small slots.Ea) page walks (keep_fails t (is_load (row_of op)) r.log cause ∙ r.free) in
       let way : DataWay = c.0 in
-      let e = way_faults way.end (x slots.Ea) cause c.5 in
+      let e = way_faults way.end (x slots.Ea) cause c.6 in
       let same = failing_is way cause e in
       record {
         goal = goal_way t a leaf op way Fails;
         among = in_goals way Fails c.1 (subst (λ (end : DataEnd). HasItem (goals_by end) Fails) (sym e) (inl refl));
-        fits = subst (λ (w : Way). FitsWay w x) (sym same) (record { each = fail_tests way cause r.each (and_from _ _ c.2 r.aligned) c.3 c.4; holds = refl });
+        fits = subst (λ (w : Way). FitsWay w x) (sym same) (record { each = fail_tests way cause r.each (and_from _ _ (and_from _ _ c.2 c.3) r.aligned) c.4 c.5; holds = refl });
         outcome_is = ap (λ (w : Way). w.outcome) same;
         reaches_is = ap (λ (w : Way). w.reaches) same;
       }
@@ -547,8 +549,9 @@ module _ (t : Turn) (walk : List Entry) (pa : ℕ) (a : Accesses) (leaf : List A
   from_fails way cause i e f0 =
       let f : FitsWay (failing_way way cause) x = subst (λ (w : Way). FitsWay w x) (failing_is way cause e) f0 in
       let each = λ (slot : Slot). (and_parts (end_test t (Some cause) slot (x slot)) _ (f.each slot)).1 in
-      let own = and_parts (is_in way.ea (x slots.Ea)) (is_aligned_to op (x slots.Ea)) (each slots.Ea) in
-      let s = ways_are.sound way i (x slots.Ea) (x slots.FirstPte) (x slots.SecondPte) (small slots.Ea) own.0 (each slots.FirstPte) (each slots.SecondPte) in
+      let own = and_parts (way_in way (x slots.Ea)) (is_aligned_to op (x slots.Ea)) (each slots.Ea) in
+      let at = and_parts (counts way.apart (x slots.Ea)) (is_in way.ea (x slots.Ea)) own.0 in
+      let s = ways_are.sound way i (x slots.Ea) (x slots.FirstPte) (x slots.SecondPte) (small slots.Ea) at.0 at.1 (each slots.FirstPte) (each slots.SecondPte) in
       let there : reached_by way.end (x slots.Ea) ≡ FailsWith cause = ap (λ (end : DataEnd). reached_by end (x slots.Ea)) e in
       record {
         each = tests_fail way cause f.each;

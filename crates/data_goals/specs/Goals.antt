@@ -12,6 +12,7 @@ use Rattle.tpl_ast.specs.declared.template.Atom.{Atom}
 use Rattle.tpl_ast.specs.declared.template.Var.TheVariants as vars
 use Rattle.fd_prob.specs.declared.slot.Slot.{Slot}
 use Rattle.fd_prob.specs.declared.slot.Slot.TheVariants as slots
+use Rattle.row_parts.specs.Gaps.{counts}
 use Rattle.data_bytes.specs.declared.starts.DataAccess.{DataAccess}
 use Rattle.data_bytes.specs.declared.starts.DataAccess.TheVariants.{Load, Store}
 use Rattle.data_bytes.specs.Sets.{IsSetOf}
@@ -23,6 +24,7 @@ use Rattle.leaf_link.specs.Turns.{Turn}
 use Rattle.leaf_link.specs.Cases.{Way, all_tests}
 use Rattle.leaf_link.specs.Kinds.{always, is_vector}
 use Rattle.data_goals.specs.declared.accesses.Accesses.{Accesses}
+use Rattle.data_goals.specs.declared.cuts.Place.{Place}
 use Rattle.data_goals.specs.declared.goal.Goal.{Goal}
 use Rattle.data_goals.specs.declared.goal.Goal.TheVariants.{Misaligned, Fails, Known, Fresh}
 use Rattle.data_goals.specs.declared.targets.Targets.{Targets}
@@ -41,7 +43,7 @@ ways_for a op = if is_load (row_of op) then a.loads.items else a.stores.items
 
 -- a misaligned address leads nowhere
 abbrev pub misses : DataWay
-misses = record { ea = []; first = []; second = []; end = ends.Fails LoadMisaligned }
+misses = record { ea = []; first = []; second = []; apart = false; end = ends.Fails LoadMisaligned }
 
 -- the cause of its trap, and nothing where it retires (Unprivileged, 2.6; Privileged, 3.1.15)
 abbrev pub cause_of : Op → DataEnd → Goal → Option Cause
@@ -83,11 +85,37 @@ abbrev pub leads_to : DataEnd → (ℕ → Bool) → ℕ → Bool
 leads_to (ends.At base mask) test v = test ((base + bit_and v mask) % 2 ^ 32)
 leads_to (ends.Fails cause) test v = false
 
+-- an address of a way
+abbrev pub way_in : DataWay → ℕ → Bool
+way_in way v = counts way.apart v && is_in way.ea v
+
 abbrev pub address_test : Accesses → Op → DataWay → (ℕ → Bool) → Goal → ℕ → Bool
 address_test a op way wanted Misaligned v = not (is_aligned_to op v)
-address_test a op way wanted Fails v = is_in way.ea v && is_aligned_to op v
-address_test a op way wanted Known v = (is_in way.ea v && is_aligned_to op v) && leads_to way.end (target_test a op (is_in a.bytes.known) wanted) v
-address_test a op way wanted Fresh v = (is_in way.ea v && is_aligned_to op v) && leads_to way.end (target_test a op (is_in a.bytes.fresh) wanted) v
+address_test a op way wanted Fails v = way_in way v && is_aligned_to op v
+address_test a op way wanted Known v = (way_in way v && is_aligned_to op v) && leads_to way.end (target_test a op (is_in a.bytes.known) wanted) v
+address_test a op way wanted Fresh v = (way_in way v && is_aligned_to op v) && leads_to way.end (target_test a op (is_in a.bytes.fresh) wanted) v
+
+-- what a goal says of an address but for its two indices and for where it leads
+abbrev pub own_test : Op → DataWay → Goal → ℕ → Bool
+own_test op way Misaligned v = not (is_aligned_to op v)
+own_test op way goal v = is_in way.ea v && is_aligned_to op v
+
+-- what it says of the two indices of an address
+abbrev pub apart_test : DataWay → Goal → ℕ → Bool
+apart_test way Misaligned v = true
+apart_test way goal v = counts way.apart v
+
+-- and what it says of where the address leads
+abbrev pub there_test : Accesses → Op → DataWay → (ℕ → Bool) → Goal → ℕ → Bool
+there_test a op way wanted Misaligned v = true
+there_test a op way wanted Fails v = true
+there_test a op way wanted Known v = leads_to way.end (target_test a op (is_in a.bytes.known) wanted) v
+there_test a op way wanted Fresh v = leads_to way.end (target_test a op (is_in a.bytes.fresh) wanted) v
+
+-- what it says of the indices and of where the address leads, as sets of addresses
+pub record IsPlace (a : Accesses) (op : Op) (way : DataWay) (wanted : ℕ → Bool) (goal : Goal) (place : Place) : Type 0 where
+  pub apart : IsCut (apart_test way goal) place.apart
+  pub leads : IsCut (there_test a op way wanted goal) place.leads
 
 -- only a word that is started has a value of its own
 abbrev pub word_test : Goal → ℕ → Bool
@@ -106,6 +134,14 @@ goal_test a op way wanted goal slots.SecondPte v = entry_test goal way.second v
 goal_test a op way wanted goal slots.DataWord v = word_test goal v
 goal_test a op way wanted goal _ v = true
 
+-- the same, but for the two indices of the address and where it leads
+abbrev pub near_test : Op → DataWay → Goal → Slot → ℕ → Bool
+near_test op way goal slots.Ea v = own_test op way goal v
+near_test op way goal slots.FirstPte v = entry_test goal way.first v
+near_test op way goal slots.SecondPte v = entry_test goal way.second v
+near_test op way goal slots.DataWord v = word_test goal v
+near_test op way goal _ v = true
+
 -- no CSR is read, and nothing but the vector of a trap is started beside what the goal says
 abbrev pub end_test : Turn → Option Cause → Slot → ℕ → Bool
 end_test t cause slots.OldCsr v = nat_eq v 0
@@ -119,6 +155,15 @@ goal_way t a leaf op way goal = record {
   outcome = outcome_of (cause_of op way.end goal);
   reaches = retires (cause_of op way.end goal);
   also = λ slot v. end_test t (cause_of op way.end goal) slot v && goal_test a op way (all_tests t leaf vars.Pa) goal slot v;
+  holds = always;
+}
+
+-- the same, but for the two indices of the address and where it leads
+abbrev pub near_way : Turn → Op → DataWay → Goal → Way
+near_way t op way goal = record {
+  outcome = outcome_of (cause_of op way.end goal);
+  reaches = retires (cause_of op way.end goal);
+  also = λ slot v. end_test t (cause_of op way.end goal) slot v && near_test op way goal slot v;
   holds = always;
 }
 

@@ -74,6 +74,7 @@ pub fn misses(alloc: Global) -> DataWay
         ea: Set::new(alloc),
         first: Set::new(alloc),
         second: Set::new(alloc),
+        apart: false,
         end: DataEnd::Fails(Cause::LoadMisaligned),
     }
 }

@@ -21,6 +21,7 @@ use Rattle.row_parts.specs.declared.row.Row.{Row}
 use Rattle.row_parts.specs.declared.row.RowEnd.{RowEnd}
 use Rattle.row_parts.specs.declared.row.RowEnd.TheVariants.{Pa, Fault, Outside}
 use Rattle.row_parts.specs.Forms.{IsOnce, is_first}
+use Rattle.row_parts.specs.Gaps.{counts}
 use Rattle.row_parts.specs.Rows.{Adds, when}
 use Rattle.addr_rows.specs.Combinations.{Setting, ways}
 use Rattle.addr_rows.specs.Laws.{FormsAreWords, RowsAreWalks, WalksAreWays}
@@ -194,7 +195,7 @@ record Known (at : ℕ → Seen) (feet : List Touch) (hart : ℕ) (access : Data
 
 are_ways : (at : ℕ → Seen) (feet : List Touch) (hart : ℕ) (access : DataAccess) (pages : ℕ → Bool) (listed : List ℕ) (rs : List Row) (items : List DataWay) (t : Turn) → Known at feet hart access pages listed rs items t → AreDataWays t access pages items
 are_ways at feet hart access pages listed rs items t g =
-    record { sound = λ way i ea first second small a b c. sound way i ea first second small a b c; complete = λ ea first second log end small page w k. complete ea first second log end small page w k }
+    record { sound = λ way i ea first second small n a b c. sound way i ea first second small n a b c; complete = λ ea first second log end small page w k. complete ea first second log end small page w k }
   where
     v : View
     v = data_view t.fixed
@@ -222,17 +223,17 @@ are_ways at feet hart access pages listed rs items t g =
             let c = and_parts (is_in listed first) free b.1 in
             subst (λ (z : DataEnd). Sound ea first second z) (sym (end_is end other a.0)) (by_row row i other ea first second small leads b.0 (not_false (is_barred at feet hart v access other ea first) c.1))
 
-    sound : (way : DataWay) → HasItem items way → (ea first second : ℕ) → ea < 2 ^ 32 → is_in way.ea ea ≡ true → is_in way.first first ≡ true → is_in way.second second ≡ true
+    sound : (way : DataWay) → HasItem items way → (ea first second : ℕ) → ea < 2 ^ 32 → counts way.apart ea ≡ true → is_in way.ea ea ≡ true → is_in way.first first ≡ true → is_in way.second second ≡ true
         → (log : List Entry) × Walks t (kind_of access) ea first second log (reached_by way.end ea) × (keeps t access log (reached_by way.end ea) ≡ true)
-    sound way i ea first second small a b c =
+    sound way i ea first second small n a b c =
         let test : DataEnd → Bool = same_end way.end in
-        let has : (test way.end && way_has way ea first second) ≡ true = and_from (test way.end) (way_has way ea first second) (end_itself way.end) (and_from (is_in way.ea ea) (is_in way.first first && is_in way.second second) a (and_from (is_in way.first first) (is_in way.second second) b c)) in
+        let has : (test way.end && way_has way ea first second) ≡ true = and_from (test way.end) (way_has way ea first second) (end_itself way.end) (and_from (counts way.apart ea) (is_in way.ea ea && (is_in way.first first && is_in way.second second)) n (and_from (is_in way.ea ea) (is_in way.first first && is_in way.second second) a (and_from (is_in way.first first) (is_in way.second second) b c))) in
         let found : rows_have at feet hart v access test listed rs ea first second ≡ true = sym (g.held test ea first second small) ∙ any_item (λ (w : DataWay). test w.end && way_has w ea first second) items way i has in
         let r = item_of (λ (row : Row). row_has at feet hart v access test listed row ea first second) rs found in
         from_row r.0 r.1 way.end ea first second small r.2
 
     complete : (ea first second : ℕ) (log : List Entry) (end : Reached) → ea < 2 ^ 32 → pages ea ≡ true → Walks t (kind_of access) ea first second log end → keeps t access log end ≡ true
-        → (way : DataWay) × HasItem items way × (is_in way.ea ea ≡ true) × (is_in way.first first ≡ true) × (is_in way.second second ≡ true) × (reached_by way.end ea ≡ end)
+        → (way : DataWay) × HasItem items way × (counts way.apart ea ≡ true) × (is_in way.ea ea ≡ true) × (is_in way.first first ≡ true) × (is_in way.second second ≡ true) × (reached_by way.end ea ≡ end)
     complete ea first second log end small page w k =
         let r = g.rows.complete ea first second log end small page w in
         let f = from_rows rs r.0 r.1 in
@@ -253,9 +254,10 @@ are_ways at feet hart access pages listed rs items t g =
         let i = item_of (λ (z : DataWay). test z.end && way_has z ea first second) items held in
         let way : DataWay = i.0 in
         let a = and_parts (test way.end) (way_has way ea first second) i.2 in
-        let b = and_parts (is_in way.ea ea) (is_in way.first first && is_in way.second second) a.1 in
+        let n = and_parts (counts way.apart ea) (is_in way.ea ea && (is_in way.first first && is_in way.second second)) a.1 in
+        let b = and_parts (is_in way.ea ea) (is_in way.first first && is_in way.second second) n.1 in
         let c = and_parts (is_in way.first first) (is_in way.second second) b.1 in
-        (way, i.1, b.0, c.0, c.1, ap (λ (z : DataEnd). reached_by z ea) (sym (end_is to.0 way.end a.0)) ∙ same)
+        (way, i.1, n.0, b.0, c.0, c.1, ap (λ (z : DataEnd). reached_by z ea) (sym (end_is to.0 way.end a.0)) ∙ same)
 
 -- THE ROWS OF A TURN
 setting_is : (at : ℕ → Seen) (ram : List (ℕ × ℕ)) (feet : List Touch) (hart : ℕ) (v : View) (access : DataAccess) (f : Forms) (t : Turn) → ((n : ℕ) → is_there (at n) ≡ in_ram ram n) → IsDataGround at feet hart v f t

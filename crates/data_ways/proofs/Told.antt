@@ -7,6 +7,7 @@ use Rattle.foot_map.specs.declared.touch.Touch.{Touch}
 use Rattle.rv_mem.specs.declared.words.Seen.{Seen}
 use Rattle.sv_walk.specs.declared.entry.View.{View}
 use Rattle.row_parts.specs.declared.row.Row.{Row}
+use Rattle.row_parts.specs.Gaps.{counts}
 use Rattle.row_parts.proofs.Lists.{or_assoc, or_false}
 use Rattle.addr_rows.specs.Walks.{has_value, row_holds}
 use Rattle.data_bytes.specs.Sets.{IsSetOf}
@@ -44,6 +45,20 @@ no_both false = refl
 pub untaken : (a e x v h n l : Bool) → h ≡ false → a ≡ (a || (e && ((x && (v && (h && n))) && l)))
 untaken a e x v h n l none =
     sym (or_false a) ∙ ap (λ (b : Bool). a || b) (sym (none_had e x l)) ∙ ap (λ (b : Bool). a || (e && ((x && b) && l))) (sym (no_both v)) ∙ ap (λ (b : Bool). a || (e && ((x && (v && (b && n))) && l))) (sym none)
+
+-- a root entry with which no address is barred
+pub taken_too : (a e x o v h n l all : Bool) → all ≡ (o || v) → h ≡ true → n ≡ false → (a || (e && ((x && all) && l))) ≡ ((a || (e && ((x && o) && l))) || (e && ((x && (v && (h && not n))) && l)))
+taken_too a e x o v h n l all is has off =
+    ap (λ (c : Bool). a || (e && ((x && c) && l))) is ∙ both_had a e x o v l
+    ∙ ap (λ (c : Bool). (a || (e && ((x && o) && l))) || (e && ((x && c) && l))) (itself v ∙ ap (λ (c : Bool). v && (c && true)) (sym has) ∙ ap (λ (c : Bool). v && (h && not c)) (sym off))
+  where
+    itself : (b : Bool) → b ≡ (b && (true && true))
+    itself true = refl
+    itself false = refl
+
+pub counted_less : (c e n : Bool) → (c && (e && not n)) ≡ ((c && e) && not n)
+counted_less true e n = refl
+counted_less false e n = refl
 
 -- a root entry that has a way of its own
 pub own_way : (a b new e x y v h n l : Bool) → new ≡ (a || (e && ((y && (v || false)) && l))) → y ≡ (x && not n) → h ≡ true → (new || b) ≡ ((a || b) || (e && ((x && (v && (h && not n))) && l)))
@@ -132,16 +147,21 @@ regrouped true false true true n false = last (not n)
     last false = refl
 regrouped true false true false n l = refl
 
+-- where only some addresses count
+counted : (c r a i h n l : Bool) → ((((c && (r && not a)) && (i && (h && not n))) && l)) ≡ ((c && (r && (h && l))) && (i && not (a || n)))
+counted true r a i h n l = regrouped r a i h n l
+counted false r a i h n l = refl
+
 -- the ways of a row have what the row has
 pub row_is : (at : ℕ → Seen) (feet : List Touch) (hart : ℕ) (v : View) (access : DataAccess) (end : DataEnd) (row : Row) (news : List NewRoot) (barred ea : List ℕ) (passes : Bool) (x first second : ℕ) → x < 2 ^ 32
     → IsSetOf (is_always_barred at feet hart v access end) barred → ea ≡ filter (λ y. not (is_in barred y)) row.ea
-    → (passes && ((is_in ea x && list_any (λ (new : NewRoot). new.value == first && (has_value row.root new.value && not (is_newly_barred at feet hart v access end new.value x))) news) && has_value row.leaf second))
+    → (passes && (((counts row.apart x && is_in ea x) && list_any (λ (new : NewRoot). new.value == first && (has_value row.root new.value && not (is_newly_barred at feet hart v access end new.value x))) news) && has_value row.leaf second))
     ≡ (passes && (row_holds row x first second && (is_in (map (λ (new : NewRoot). new.value) news) first && not (is_barred at feet hart v access end x first))))
 row_is at feet hart v access end row news barred ea passes x first second small is made =
     ap (λ (b : Bool). passes && b)
-    (ap (λ (b : Bool). (b && list_any (λ (new : NewRoot). new.value == first && (has_value row.root new.value && not (is_newly_barred at feet hart v access end new.value x))) news) && has_value row.leaf second)
+    (ap (λ (b : Bool). ((counts row.apart x && b) && list_any (λ (new : NewRoot). new.value == first && (has_value row.root new.value && not (is_newly_barred at feet hart v access end new.value x))) news) && has_value row.leaf second)
     (filter_leaves (λ y. not (is_in barred y)) row.ea ea made x ∙ ap (λ (b : Bool). is_in row.ea x && not b) (is x small))
-    ∙ ap (λ (b : Bool). ((is_in row.ea x && not (is_always_barred at feet hart v access end x)) && b) && has_value row.leaf second)
+    ∙ ap (λ (b : Bool). ((counts row.apart x && (is_in row.ea x && not (is_always_barred at feet hart v access end x))) && b) && has_value row.leaf second)
     (taken_is (λ w. has_value row.root w && not (is_newly_barred at feet hart v access end w x)) news first)
-    ∙ regrouped (is_in row.ea x) (is_always_barred at feet hart v access end x) (is_in (map (λ (new : NewRoot). new.value) news) first) (has_value row.root first) (is_newly_barred at feet hart v access end first x) (has_value row.leaf second)
-    ∙ ap (λ (b : Bool). (is_in row.ea x && (has_value row.root first && has_value row.leaf second)) && (is_in (map (λ (new : NewRoot). new.value) news) first && not b)) (sym (barred_parts at feet hart v access end x first)))
+    ∙ counted (counts row.apart x) (is_in row.ea x) (is_always_barred at feet hart v access end x) (is_in (map (λ (new : NewRoot). new.value) news) first) (has_value row.root first) (is_newly_barred at feet hart v access end first x) (has_value row.leaf second)
+    ∙ ap (λ (b : Bool). (counts row.apart x && (is_in row.ea x && (has_value row.root first && has_value row.leaf second))) && (is_in (map (λ (new : NewRoot). new.value) news) first && not b)) (sym (barred_parts at feet hart v access end x first)))

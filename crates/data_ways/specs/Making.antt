@@ -8,6 +8,7 @@ use Rattle.sv_walk.specs.declared.entry.View.{View}
 use Rattle.row_parts.specs.declared.row.Row.{Row}
 use Rattle.row_parts.specs.declared.row.RowEnd.{RowEnd}
 use Rattle.row_parts.specs.declared.row.RowEnd.TheVariants.{Pa, Fault, Outside}
+use Rattle.row_parts.specs.Gaps.{counts}
 use Rattle.addr_rows.specs.Walks.{has_value, row_holds}
 use Rattle.data_bytes.specs.declared.starts.DataAccess.{DataAccess}
 use Rattle.data_ways.specs.declared.making.Part.{Part}
@@ -20,7 +21,7 @@ use Rattle.data_ways.specs.Tables.{is_newly_barred}
 
 -- a way has an address and new entries
 abbrev pub way_has : DataWay → ℕ → ℕ → ℕ → Bool
-way_has way ea first second = is_in way.ea ea && (is_in way.first first && is_in way.second second)
+way_has way ea first second = counts way.apart ea && (is_in way.ea ea && (is_in way.first first && is_in way.second second))
 
 -- a way whose end passes has them
 abbrev pub in_ways : (DataEnd → Bool) → List DataWay → ℕ → ℕ → ℕ → Bool
@@ -31,6 +32,10 @@ abbrev pub end_for : RowEnd → Option DataEnd
 end_for (Pa base mask) = Some (ends.At base mask)
 end_for (Fault cause) = Some (ends.Fails cause)
 end_for Outside = None
+
+-- an address is one of a part's
+abbrev pub part_in : Part → ℕ → Bool
+part_in part x = counts part.apart x && is_in part.ea x
 
 -- the end of a part of a row passes, and the second entry is one of its
 abbrev pub part_has : (DataEnd → Bool) → Part → Bool → ℕ → Bool

@@ -15,6 +15,7 @@ use Rattle.sv_walk.specs.declared.entry.Kind.TheVariants as kinds
 use Rattle.sv_walk.specs.declared.entry.View.{View}
 use Rattle.sv_walk.specs.Translation.{Reached, At, Fails}
 use Rattle.row_parts.specs.declared.forms.Forms.{Forms}
+use Rattle.row_parts.specs.Gaps.{counts}
 use Rattle.addr_rows.specs.Walks.{Shows}
 use Rattle.rv_hart.specs.Machine.{data_view}
 use Rattle.data_bytes.specs.declared.starts.DataAccess.{DataAccess}
@@ -54,7 +55,7 @@ keeps t access log end = list_all (is_free_entry t) log
 
 -- each choice of an address of some pages and of new entries, 0 where one is not new, whose walk keeps is in a way with its end; a way holds nothing else
 pub record AreDataWays (t : Turn) (access : DataAccess) (pages : ℕ → Bool) (ways : List DataWay) : Type 0 where
-  pub sound : (way : DataWay) → HasItem ways way → (ea first second : ℕ) → ea < 2 ^ 32 → is_in way.ea ea ≡ true → is_in way.first first ≡ true → is_in way.second second ≡ true
+  pub sound : (way : DataWay) → HasItem ways way → (ea first second : ℕ) → ea < 2 ^ 32 → counts way.apart ea ≡ true → is_in way.ea ea ≡ true → is_in way.first first ≡ true → is_in way.second second ≡ true
       → (log : List Entry) × Walks t (kind_of access) ea first second log (reached_by way.end ea) × (keeps t access log (reached_by way.end ea) ≡ true)
   pub complete : (ea first second : ℕ) (log : List Entry) (end : Reached) → ea < 2 ^ 32 → pages ea ≡ true → Walks t (kind_of access) ea first second log end → keeps t access log end ≡ true
-      → (way : DataWay) × HasItem ways way × (is_in way.ea ea ≡ true) × (is_in way.first first ≡ true) × (is_in way.second second ≡ true) × (reached_by way.end ea ≡ end)
+      → (way : DataWay) × HasItem ways way × (counts way.apart ea ≡ true) × (is_in way.ea ea ≡ true) × (is_in way.first first ≡ true) × (is_in way.second second ≡ true) × (reached_by way.end ea ≡ end)

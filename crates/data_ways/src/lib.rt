@@ -16,5 +16,5 @@ pub use data_bytes::DataAccess;
 pub use dom_set::OutOfMemory;
 pub use leading::reaching;
 pub use making::data_ways;
-pub use row_parts::Forms;
+pub use row_parts::{Forms, off_diagonal};
 pub use way::{DataEnd, DataWay};

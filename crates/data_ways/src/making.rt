@@ -4,10 +4,11 @@ ghost use Rattle.std.specs.List.{list_any};
 ghost use Rattle.dom_set.specs.Elements.{is_in, is_within};
 ghost use Rattle.rv_mem.specs.Ram.{in_ram};
 ghost use Rattle.rv_mem.specs.Seen.{is_there};
+ghost use Rattle.row_parts.specs.Gaps.{counts};
 ghost use Rattle.addr_rows.specs.Walks.{EntryRow, has_value};
 ghost use Rattle.leaf_link.specs.Reaching.{AreRows};
 ghost use Rattle.leaf_link.specs.Turns.{Turn};
-ghost use Rattle.data_ways.specs.Making.{end_for, in_ways, part_has, row_has, rows_have, takes};
+ghost use Rattle.data_ways.specs.Making.{end_for, in_ways, part_has, part_in, row_has, rows_have, takes};
 ghost use Rattle.data_ways.specs.Tables.{IsNewRoot, IsTable};
 ghost use Rattle.data_ways.specs.Ways.{AreDataWays, IsDataGround, kind_of};
 
@@ -100,6 +101,8 @@ struct Part<'a> {
     ea: Set,
     root: &'a Option<Set>,
     leaf: &'a Option<Set>,
+    /// Whether only addresses count whose two indices differ.
+    apart: bool,
     end: DataEnd,
 }
 
@@ -110,11 +113,12 @@ fn push_way(
     ea: Set,
     firsts: &[u32],
     leaf: &Option<Set>,
+    apart: bool,
     end: DataEnd,
 ) -> Result<(), OutOfMemory>
     ensures { OnOk result ((test : DataEnd → Bool) (x first second : ℕ) →
         in_ways test ways.new.items x first second
-        ≡ (in_ways test ways.old.items x first second || (test end && ((is_in ea x && is_in firsts.now first) && has_value leaf.now second)))) }
+        ≡ (in_ways test ways.old.items x first second || (test end && (((counts apart x && is_in ea x) && is_in firsts.now first) && has_value leaf.now second)))) }
 {
     if ea.is_empty() || firsts.is_empty() {
         return Ok(());
@@ -125,6 +129,7 @@ fn push_way(
         ea,
         first,
         second,
+        apart,
         end,
     })?;
     Ok(())
@@ -144,9 +149,9 @@ impl<'a, M: Words> Walker<'a, M> {
         requires root { IsTable (M.at self.now.memory.now) self.now.feet.now self.now.hart self.now.view root.now }
         requires new { IsNewRoot (M.at self.now.memory.now) self.now.feet.now self.now.hart self.now.view new.now }
         ensures { OnOk result ((test : DataEnd → Bool) (x first second : ℕ) → x < 2 ^ 32 →
-            (in_ways test ways.new.items x first second || part_has test part.now (is_in part.now.ea x && is_in others.new.items first) second)
-            ≡ ((in_ways test ways.old.items x first second || part_has test part.now (is_in part.now.ea x && is_in others.old.items first) second)
-            || part_has test part.now (is_in part.now.ea x && takes (M.at self.now.memory.now) self.now.feet.now self.now.hart self.now.view self.now.access part.now x first new.now) second)) }
+            (in_ways test ways.new.items x first second || part_has test part.now (part_in part.now x && is_in others.new.items first) second)
+            ≡ ((in_ways test ways.old.items x first second || part_has test part.now (part_in part.now x && is_in others.old.items first) second)
+            || part_has test part.now (part_in part.now x && takes (M.at self.now.memory.now) self.now.feet.now self.now.hart self.now.view self.now.access part.now x first new.now) second)) }
     {
         if !has_value(part.root, new.value) {
             return Ok(());
@@ -157,7 +162,15 @@ impl<'a, M: Words> Walker<'a, M> {
             return Ok(());
         }
         let ea = part.ea.minus(alloc, &barred)?;
-        push_way(alloc, ways, ea, &[new.value], part.leaf, part.end)?;
+        push_way(
+            alloc,
+            ways,
+            ea,
+            &[new.value],
+            part.leaf,
+            part.apart,
+            part.end,
+        )?;
         Ok(())
     }
 
@@ -175,13 +188,15 @@ impl<'a, M: Words> Walker<'a, M> {
         ensures { OnOk result ((test : DataEnd → Bool) (x first second : ℕ) → x < 2 ^ 32 →
             in_ways test ways.new.items x first second
             ≡ (in_ways test ways.old.items x first second
-            || part_has test part.entry (is_in part.entry.ea x && list_any (takes (M.at self.now.memory.now) self.now.feet.now self.now.hart self.now.view self.now.access part.entry x first) news.now) second)) }
+            || part_has test part.entry (part_in part.entry x && list_any (takes (M.at self.now.memory.now) self.now.feet.now self.now.hart self.now.view self.now.access part.entry x first) news.now) second)) }
     {
         let mut others = Vec::new(alloc);
         for new in news {
             self.push_first(alloc, root, ways, &mut others, &part, new)?;
         }
-        push_way(alloc, ways, part.ea, &others, part.leaf, part.end)?;
+        push_way(
+            alloc, ways, part.ea, &others, part.leaf, part.apart, part.end,
+        )?;
         Ok(())
     }
 
@@ -210,6 +225,7 @@ impl<'a, M: Words> Walker<'a, M> {
             ea,
             root: &row.root,
             leaf: &row.leaf,
+            apart: row.apart,
             end,
         };
         self.push_part(alloc, root, news, ways, part)?;

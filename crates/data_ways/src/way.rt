@@ -21,5 +21,7 @@ pub struct DataWay {
     pub first: Set,
     /// The new second entries, or 0 where the second entry is not new.
     pub second: Set,
+    /// Whether of the addresses only those count whose two indices, bits 31:22 and 21:12, differ.
+    pub apart: bool,
     pub end: DataEnd,
 }

@@ -1,7 +1,7 @@
 -- At which variables relations look.
 use Rattle.std.specs.Prelude.{Bool, ◌||◌, ◌==◌}
 use Rattle.fd_prob.specs.declared.relation.Rel.{Rel}
-use Rattle.fd_prob.specs.declared.relation.Rel.TheVariants.{Same, Differ, Sum, Taken, Holds, Linked, Target, Writes, Rows}
+use Rattle.fd_prob.specs.declared.relation.Rel.TheVariants.{Same, Differ, Sum, Taken, Holds, Linked, Target, Writes, In, Rows}
 use Rattle.fd_prob.specs.declared.slot.Slot.{Slot}
 use Rattle.fd_prob.specs.declared.slot.Slot.TheVariants as slots
 use Rattle.fd_prob.specs.Slots.{slot_number}
@@ -20,4 +20,5 @@ mentions (Holds index value table) v = is_slot index v || is_slot value v
 mentions Linked v = is_slot slots.Rs1 v || is_slot slots.Rs2 v || is_slot slots.A v || is_slot slots.B v
 mentions (Target pc set) v = is_slot slots.A v || is_slot slots.Imm v
 mentions Writes v = is_slot slots.Rs1 v || is_slot slots.A v || is_slot slots.Imm v || is_slot slots.Csr v || is_slot slots.OldCsr v
+mentions (In s set) v = is_slot s v
 mentions (Rows rows) v = is_slot slots.Ea v || is_slot slots.FirstPte v || is_slot slots.SecondPte v || is_slot slots.DataWord v

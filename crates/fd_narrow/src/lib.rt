@@ -5,6 +5,7 @@
 mod addresses;
 mod domains;
 mod equalities;
+mod inside;
 mod legal;
 mod mentioned;
 mod narrowing;

@@ -34,6 +34,7 @@ pub fn mentions(rel: &Rel, v: Slot) -> bool
                 || is_slot(Slot::Csr, v)
                 || is_slot(Slot::OldCsr, v)
         }
+        Rel::In(s, _) => is_slot(*s, v),
         Rel::Rows(_) => {
             is_slot(Slot::Ea, v)
                 || is_slot(Slot::FirstPte, v)

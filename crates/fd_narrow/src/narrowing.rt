@@ -36,7 +36,7 @@ struct Times {
 /// before.
 fn is_done_at_once(rel: &Rel, before: &[u64; 14]) -> bool {
     match rel {
-        Rel::Same(..) | Rel::Differ(..) | Rel::Holds { .. } => true,
+        Rel::Same(..) | Rel::Differ(..) | Rel::Holds { .. } | Rel::In(..) => true,
         Rel::Sum(s, t, _) => before[s.number()] == 1 || before[t.number()] == 1,
         Rel::Target(..) => before[Slot::A.number()] == 1 || before[Slot::Imm.number()] == 1,
         _ => false,
@@ -318,6 +318,7 @@ impl Domains {
             } => self.narrow_held(alloc, *index, *value, table.as_slice()),
             Rel::Linked => self.narrow_linked(alloc),
             Rel::Target(pc, set) => self.narrow_target(alloc, op, *pc, set),
+            Rel::In(s, set) => self.narrow_in(alloc, *s, set),
             Rel::Rows(rows) => self.narrow_rows(alloc, rows.as_slice()),
             Rel::Writes => self.narrow_writes(alloc, op),
         }

@@ -9,7 +9,7 @@ use Rattle.rv_isa.specs.Arithmetic.{is_branch, signed}
 use Rattle.fd_prob.specs.declared.problem.Assignment.{Assignment}
 use Rattle.fd_prob.specs.declared.relation.Quad.{Quad}
 use Rattle.fd_prob.specs.declared.relation.Rel.{Rel}
-use Rattle.fd_prob.specs.declared.relation.Rel.TheVariants.{Same, Differ, Sum, Taken, Holds, Linked, Target, Writes, Rows}
+use Rattle.fd_prob.specs.declared.relation.Rel.TheVariants.{Same, Differ, Sum, Taken, Holds, Linked, Target, Writes, In, Rows}
 use Rattle.fd_prob.specs.declared.slot.Slot.{Slot}
 use Rattle.fd_prob.specs.declared.slot.Slot.TheVariants as slots
 use Rattle.fd_prob.specs.Slots.{slot_number}
@@ -101,4 +101,5 @@ holds op x (Holds index value table) = is_held x index value table
 holds op x Linked = is_linked x
 holds op x (Target pc set) = has_target op x pc set
 holds op x Writes = writes_legal op x
+holds op x (In s set) = is_in set (value_of x s)
 holds op x (Rows rows) = list_any (is_in_row x) rows

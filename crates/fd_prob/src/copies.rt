@@ -85,6 +85,10 @@ impl Rel {
                 Ok(Rel::Target(*pc, set))
             }
             Rel::Writes => Ok(Rel::Writes),
+            Rel::In(s, set) => {
+                let set = set.copy(alloc)?;
+                Ok(Rel::In(*s, set))
+            }
             Rel::Rows(rows) => {
                 let rows = copy_rows(alloc, rows.as_slice())?;
                 Ok(Rel::Rows(Items::from_vec(rows)))

@@ -49,13 +49,36 @@ fn common_row(alloc: Global, a: &Quad, b: &Quad) -> Result<Option<Quad>, OutOfMe
     }))
 }
 
-/// Puts a row at the end, if there is one.
+/// Whether two rows have the same sets.
+fn are_same(a: &Quad, b: &Quad) -> bool
+    ensures { IsTrue result → a.now ≡ b.now }
+{
+    a.ea == b.ea && a.root == b.root && a.leaf == b.leaf && a.word == b.word
+}
+
+/// Whether a row is one of a list.
+fn is_among(rows: &[Quad], row: &Quad) -> bool
+    ensures { IsTrue result → (x : Assignment) → (list_any (is_in_row x) rows.now || is_in_row x row.now) ≡ list_any (is_in_row x) rows.now }
+{
+    for other in rows {
+        if are_same(other, row) {
+            return true;
+        }
+    }
+    false
+}
+
+/// Puts a row at the end, if there is one that isn't there.
 fn push_row(rows: &mut Vec<Quad>, row: Option<Quad>) -> Result<(), OutOfMemory>
     ensures { OnOk result ((x : Assignment) → list_any (is_in_row x) rows.new.items ≡ (list_any (is_in_row x) rows.old.items || is_in_some_row x row)) }
 {
-    if let Some(row) = row {
-        rows.push(row)?;
+    let Some(row) = row else {
+        return Ok(());
+    };
+    if is_among(rows, &row) {
+        return Ok(());
     }
+    rows.push(row)?;
     Ok(())
 }
 

@@ -49,6 +49,8 @@ pub enum Rel {
     /// What the case's operation writes to the control and status register is legal; it holds where
     /// nothing is written (Unprivileged, Zicsr).
     Writes,
+    /// The variable's value is in the set, beside its domain where what both have in common would be in far more pieces.
+    In(Slot, Set),
     /// One of the rows has the address of the load or store, the page table entries and the data word.
     Rows(Items<Quad>),
 }
@@ -220,6 +222,7 @@ pub fn holds(op: Op, x: &Assignment, rel: &Rel) -> bool
         Rel::Linked => is_linked(x),
         Rel::Target(pc, set) => has_target(op, x, *pc, set),
         Rel::Writes => writes_legal(op, x),
+        Rel::In(s, set) => set.has(x.value(*s)),
         Rel::Rows(rows) => is_in_any_row(x, rows.as_slice()),
     }
 }

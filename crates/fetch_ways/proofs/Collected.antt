@@ -20,6 +20,7 @@ use Rattle.row_parts.specs.declared.row.Row.{Row}
 use Rattle.row_parts.specs.declared.row.RowEnd.{RowEnd}
 use Rattle.row_parts.specs.declared.row.RowEnd.TheVariants.{Pa, Fault, Outside}
 use Rattle.row_parts.specs.Forms.{IsOnce, is_first}
+use Rattle.row_parts.specs.Gaps.{counts}
 use Rattle.row_parts.specs.Rows.{Adds, when}
 use Rattle.row_parts.proofs.Members.{is_in-elements_of, is_in-filter}
 use Rattle.addr_rows.specs.Combinations.{Setting, ways}
@@ -161,13 +162,13 @@ have_seconds pass tests (Some words) v h = h
 
 -- WAYS
 record OfRow (at : ℕ → Seen) (feet : List Touch) (hart : ℕ) (view : View) (pc : ℕ) (listed : List ℕ) (row : Row) (way : FetchWay) : Type 0 where
-  ea : is_in row.ea pc ≡ true
+  ea : (counts row.apart pc && is_in row.ea pc) ≡ true
   leads : end_for pc row.end ≡ Some way.end
   firsts : way.first ≡ elements_of (is_in (filter (passes at feet hart view pc row way.end) listed))
   seconds : way.second ≡ seconds_of row.leaf
 
 of_row : (at : ℕ → Seen) (feet : List Touch) (hart : ℕ) (view : View) (pc : ℕ) (listed : List ℕ) (row : Row) (way : FetchWay) → HasItem (way_of at feet hart view pc listed row) way → OfRow at feet hart view pc listed row way
-of_row at feet hart view pc listed row way i = go (is_in row.ea pc) refl (end_for pc row.end) refl i
+of_row at feet hart view pc listed row way i = go (counts row.apart pc && is_in row.ea pc) refl (end_for pc row.end) refl i
   where
     made : (end : FetchEnd) (ks : List ℕ) → HasItem (way_with ks (seconds_of row.leaf) end) way → (way.end ≡ end) × (way.first ≡ elements_of (is_in ks)) × (way.second ≡ seconds_of row.leaf)
     made end [] j = absurd j
@@ -176,7 +177,7 @@ of_row at feet hart view pc listed row way i = go (is_in row.ea pc) refl (end_fo
       | inr there ↦ absurd there
     ]
 
-    go : (b : Bool) → is_in row.ea pc ≡ b → (o : Option FetchEnd) → end_for pc row.end ≡ o → HasItem (if b then way_to at feet hart view pc listed row o else []) way → OfRow at feet hart view pc listed row way
+    go : (b : Bool) → (counts row.apart pc && is_in row.ea pc) ≡ b → (o : Option FetchEnd) → end_for pc row.end ≡ o → HasItem (if b then way_to at feet hart view pc listed row o else []) way → OfRow at feet hart view pc listed row way
     go true ea (Some end) leads j =
         let m = made end (filter (passes at feet hart view pc row end) listed) j in
         record {
@@ -235,7 +236,8 @@ are_ways at feet hart listed rs t g = record { sound = λ way i first second one
         let p = and_parts (has_value row.root first) (keeps_with at feet hart v pc first way.end) (and_parts (test first) (is_in listed first) (sym (is_in-filter test listed first) ∙ kept)).0 in
         let leaf : has_value row.leaf second ≡ true = seconds_have g.pass g.tests row.leaf second (sym (ap (λ (xs : List ℕ). is_in xs second) o.seconds) ∙ two) in
         let to = row_ends pc row.end way.end o.leads in
-        let holds : row_holds row pc first second ≡ true = and_from _ _ o.ea (and_from _ _ p.0 leaf) in
+        let e = and_parts (counts row.apart pc) (is_in row.ea pc) o.ea in
+        let holds : row_holds row pc first second ≡ true = and_from _ _ e.0 (and_from _ _ e.1 (and_from _ _ p.0 leaf)) in
         let w = g.rows.sound (fetch_row pc row to.0) (in_rows pc rs row to.0 f.1 to.1) first second holds in
         let same : reached_by way.end ≡ to.0 = ends_same t.fixed.ram pc row.end way.end to.0 o.leads to.1 (leads_inside at t first second w.0 to.0 g.shows w.1) in
         let walk : FetchWalks t first second w.0 (reached_by way.end) = subst (λ (r : Reached). FetchWalks t first second w.0 r) (sym same) w.1 in
@@ -252,14 +254,15 @@ are_ways at feet hart listed rs t g = record { sound = λ way i first second one
         let same : reached_by to.0 ≡ end = ends_same t.fixed.ram pc row.end to.0 end to.1 leads (leads_inside at t first second log end g.shows w) in
         let walk : FetchWalks t first second log (reached_by to.0) = subst (λ (z : Reached). FetchWalks t first second log z) (sym same) w in
         let keep : keeps_with at feet hart v pc first to.0 ≡ true = sym (keeps_is at feet hart t to.0 first second log g.shows g.free walk) ∙ ap (λ (z : Reached). keeps t log z) same ∙ k in
-        let a = and_parts (is_in row.ea pc) (has_value row.root first && has_value row.leaf second) (sym (f.same first second) ∙ r.2) in
+        let n = and_parts (counts row.apart pc) (is_in row.ea pc && (has_value row.root first && has_value row.leaf second)) (sym (f.same first second) ∙ r.2) in
+        let a = and_parts (is_in row.ea pc) (has_value row.root first && has_value row.leaf second) n.1 in
         let b = and_parts (has_value row.root first) (has_value row.leaf second) a.1 in
         let new = root_is at t first second log end g.shows w in
         let test : ℕ → Bool = passes at feet hart v pc row to.0 in
         let kept : is_in (filter test listed) first ≡ true = is_in-filter test listed first ∙ and_from _ _ (and_from _ _ b.0 keep) (g.listed_all first new.1) in
         let way : FetchWay = record { first = elements_of (is_in (filter test listed)); second = seconds_of row.leaf; end = to.0 } in
         let there : HasItem (way_of at feet hart v pc listed row) way =
-        subst (λ (c : Bool). HasItem (if c then way_to at feet hart v pc listed row (end_for pc row.end) else []) way) (sym a.0)
+        subst (λ (c : Bool). HasItem (if c then way_to at feet hart v pc listed row (end_for pc row.end) else []) way) (sym (and_from (counts row.apart pc) (is_in row.ea pc) n.0 a.0))
         (subst (λ (o : Option FetchEnd). HasItem (way_to at feet hart v pc listed row o) way) (sym to.1) (way_there (filter test listed) (seconds_of row.leaf) to.0 first kept)) in
         (way, in_ways at feet hart v pc listed rs row way f.is_there there, is_in-elements_of g.pass g.tests (is_in (filter test listed)) first new.0 ∙ kept, have_seconds g.pass g.tests row.leaf second b.1, same)
 

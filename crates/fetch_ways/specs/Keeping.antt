@@ -13,6 +13,7 @@ use Rattle.row_parts.specs.declared.row.Row.{Row}
 use Rattle.row_parts.specs.declared.row.RowEnd.{RowEnd}
 use Rattle.row_parts.specs.declared.row.RowEnd.TheVariants.{Pa, Fault, Outside}
 use Rattle.row_parts.specs.Classes.{seen_at}
+use Rattle.row_parts.specs.Gaps.{counts}
 use Rattle.addr_rows.specs.Walks.{has_value}
 use Rattle.fetch_ways.specs.Ways.{is_free_walk}
 use Rattle.fetch_ways.specs.declared.way.FetchEnd.{FetchEnd}
@@ -75,7 +76,7 @@ way_to at feet hart view pc listed row (Some end) = way_with (filter (passes at 
 
 -- the way of a row, with the root entries of the list that pass
 abbrev pub way_of : (ℕ → Seen) → List Touch → ℕ → View → ℕ → List ℕ → Row → List FetchWay
-way_of at feet hart view pc listed row = if is_in row.ea pc then way_to at feet hart view pc listed row (end_for pc row.end) else []
+way_of at feet hart view pc listed row = if counts row.apart pc && is_in row.ea pc then way_to at feet hart view pc listed row (end_for pc row.end) else []
 
 abbrev pub ways_of : (ℕ → Seen) → List Touch → ℕ → View → ℕ → List ℕ → List Row → List FetchWay
 ways_of at feet hart view pc listed [] = []

@@ -16,7 +16,7 @@ use addr_rows::{rows, rows_are_walks};
 use dom_set::{OutOfMemory, Set, set_laws};
 use foot_map::FootMap;
 use leaf_link::rows_serve_leaves;
-use row_parts::{Forms, Row, RowEnd};
+use row_parts::{Forms, Row, RowEnd, counts};
 use rv_isa::Instr;
 use rv_mem::{Ram, Words};
 use std::alloc::Global;
@@ -103,7 +103,7 @@ impl<'a, M: Words> Walker<'a, M> {
     ) -> Result<(), OutOfMemory>
         ensures { OnOk result (ways.new.items ≡ ways.old.items ++ way_of (M.at self.now.memory.now) self.now.feet.now self.now.hart self.now.view self.now.pc listed.now row.now) }
     {
-        if !row.ea.has(self.pc) {
+        if !counts(row.apart, self.pc) || !row.ea.has(self.pc) {
             return Ok(());
         }
         let Some(end) = end_for(self.pc, row.end) else {

@@ -28,7 +28,7 @@ use Rattle.leaf_turn.specs.Wishes.{biases_of, mandatory_of}
 use Rattle.gen_search.specs.Laws.{HasOneAnswer}
 use Rattle.gen_search.specs.Search.{IsLeaf, IsLeaf.leaf, IsLeaf.fault, Turned, Turned.Taken}
 use Rattle.gen_turn.specs.Drafts.{Drafted, at_test, turn_of}
-use Rattle.gen_turn.specs.Grounds.{IsBuilt, IsGround}
+use Rattle.gen_turn.specs.Grounds.{IsGround, IsLeafOf}
 use Rattle.gen_turn.specs.Rules.{Shown, can_be_taken, draft_of, draft_rules, turn_shown}
 use Rattle.gen_turn.specs.Turns.{EndsAs, GoesOn, IsAnswered, IsAnsweredBehind, IsDone, IsFailed, IsLeafTaken, listed_as, moment_at, names_bound, with_all_dropped, with_names}
 use Rattle.gen_turn.proofs.Behind.{fetched_ground, one_placed}
@@ -65,7 +65,7 @@ module _ (leaves : LeafAnswersAgree) (fetching : FetchAnswersAgree) (faults : Fa
   one_ending d k g ws dropped drops fetch places answers.Spent answers.NoneFits one other can same listed ends ends_so = absurd same
 
   -- where the pc leads to one address
-  one_answer : (d : Drafted) (k : ℕ) (g : IsGround d k) (ws : List Wish) (built : IsBuilt d.template k ws) (draws : List ℕ) (one other : Turned Drafted) → IsAnswered d k ws draws one → IsAnswered d k ws draws other → one ≡ other
+  one_answer : (d : Drafted) (k : ℕ) (g : IsGround d k) (ws : List Wish) (built : IsLeafOf d.template ws) (draws : List ℕ) (one other : Turned Drafted) → IsAnswered d k ws draws one → IsAnswered d k ws draws other → one ≡ other
   one_answer d k g ws built draws one other a b =
       let t : Turn = turn d k g ws built in
       let w = one_walk t a.walk b.walk a.pa b.pa a.leads b.leads in
@@ -74,7 +74,7 @@ module _ (leaves : LeafAnswersAgree) (fetching : FetchAnswersAgree) (faults : Fa
       one_ending d k g ws a.answer.dropped b.answer.dropped (fetches.From a.pa) (new_places t.fixed t.known) a.answer.solved b.answer.solved one other
       (λ x is. are_playable k d.now a.pa (values_in x) (found d k g ws built found_law draws one a x is)) agree.0 agree.1 a.ends b.ends
 
-  module _ (d : Drafted) (k : ℕ) (g : IsGround d k) (ws : List Wish) (built : IsBuilt d.template k ws) (draws : List ℕ) (one other : Turned Drafted) where
+  module _ (d : Drafted) (k : ℕ) (g : IsGround d k) (ws : List Wish) (built : IsLeafOf d.template ws) (draws : List ℕ) (one other : Turned Drafted) where
     -- behind entries that are the same
     one_behind : (x y : Values) → ((place : Place) → fetch_places (turn d k g ws built) x place ≡ fetch_places (turn d k g ws built) y place) → IsAnsweredBehind d k ws draws x one → IsAnsweredBehind d k ws draws y other → one ≡ other
     one_behind x y same a b =

@@ -33,7 +33,7 @@ use Rattle.leaf_turn.specs.Grounds.{declared_set}
 use Rattle.leaf_turn.specs.Wishes.{mandatory_of}
 use Rattle.gen_search.specs.Search.{Turned.Taken}
 use Rattle.gen_turn.specs.Drafts.{Drafted, at_test, turn_of}
-use Rattle.gen_turn.specs.Grounds.{IsBuilt, IsGround}
+use Rattle.gen_turn.specs.Grounds.{IsGround, IsLeafOf}
 use Rattle.gen_turn.specs.Turns.{GoesOn, IsDone}
 use Rattle.gen_turn.proofs.Behind.{fetched_ground}
 use Rattle.gen_turn.proofs.Filled.{IsFilled, given_filled}
@@ -127,7 +127,7 @@ module _ (sets : ℕ → List ℕ) (k : ℕ) (ws : List Wish) (new : Known) (old
 -- ---- a turn of a `do` leaf
 
 module _ (met_are_true : MetAreTrue) (are_fetched : StepsAreFetched) (words_are_few : NewWordsAreFour) (entries_are_two : FetchWordsAreTwo) (found_law : AnswersAreFound)
-    (d : Drafted) (k : ℕ) (ws : List Wish) (g : IsGround d k) (built : IsBuilt d.template k ws) (draws : List ℕ) (e : Drafted) where
+    (d : Drafted) (k : ℕ) (ws : List Wish) (g : IsGround d k) (built : IsLeafOf d.template ws) (draws : List ℕ) (e : Drafted) where
   pub turn_done : IsDone d k ws draws (Taken e) → IsLeafDone (λ n. declared_set (slice_get d.template.names n)) k ws d.now e.now
   turn_done done = go done.fetch done.is done.goes_on
     where

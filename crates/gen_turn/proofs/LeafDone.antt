@@ -48,7 +48,7 @@ use Rattle.leaf_turn.specs.Grounds.{declared_set}
 use Rattle.leaf_turn.specs.Wishes.{biases_of, mandatory_of, retires}
 use Rattle.gen_search.specs.Search.{Turned.Taken}
 use Rattle.gen_turn.specs.Drafts.{Drafted, at_test, turn_of}
-use Rattle.gen_turn.specs.Grounds.{IsBuilt, IsGround}
+use Rattle.gen_turn.specs.Grounds.{IsGround, IsLeafOf}
 use Rattle.gen_turn.specs.Turns.{EndsAs, IsAnswered, IsLeafTaken, is_listed, listed_as, moment_at, names_bound, next_bias}
 use Rattle.gen_turn.proofs.BoundNames.{IsWishAt, name_bound, name_was, names_kept}
 use Rattle.gen_turn.proofs.Filled.{IsFilled, known_filled, registers_past, registers_zero}
@@ -141,7 +141,7 @@ module _ (d : Drafted) (k : ℕ) (ws : List Wish) (draws : List ℕ) where
     pub found_is : IsFound k d.now pa (values_in values)
     pub taken : IsLeafTaken k ws answer.dropped (values_in values) d.now after
 
-pub answer_made : AnswersAreFound → (d : Drafted) (k : ℕ) (g : IsGround d k) (ws : List Wish) (built : IsBuilt d.template k ws) (draws : List ℕ) (e : Drafted) → IsAnswered d k ws draws (Taken e) → IsTurn d k ws draws e.now
+pub answer_made : AnswersAreFound → (d : Drafted) (k : ℕ) (g : IsGround d k) (ws : List Wish) (built : IsLeafOf d.template ws) (draws : List ℕ) (e : Drafted) → IsAnswered d k ws draws (Taken e) → IsTurn d k ws draws e.now
 answer_made found_law d k g ws built draws e a = go a.answer.solved refl a.ends
   where
     go : (s : Solved) → a.answer.solved ≡ s → EndsAs d k ws a.answer.dropped s (Taken e) → IsTurn d k ws draws e.now
@@ -161,7 +161,7 @@ answer_made found_law d k g ws built draws e a = go a.answer.solved refl a.ends
 
 -- ---- what it did
 
-module _ (met_are_true : MetAreTrue) (are_fetched : StepsAreFetched) (words_are_few : NewWordsAreFour) (d : Drafted) (k : ℕ) (ws : List Wish) (ground : IsGround d k) (built : IsBuilt d.template k ws) (draws : List ℕ) (after : Whole)
+module _ (met_are_true : MetAreTrue) (are_fetched : StepsAreFetched) (words_are_few : NewWordsAreFour) (d : Drafted) (k : ℕ) (ws : List Wish) (ground : IsGround d k) (built : IsLeafOf d.template ws) (draws : List ℕ) (after : Whole)
     (turn : IsTurn d k ws draws after) where
   abbrev old : Whole
   old = d.now

@@ -14,7 +14,6 @@ pub mod Agreeing
 pub mod Ending
 pub mod Made
 pub mod OneGenerated
-pub mod BuiltLines
 pub mod SameText
 pub mod MoreTruth
 pub mod BoundNames

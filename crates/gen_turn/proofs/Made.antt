@@ -1,5 +1,5 @@
 -- What is made of a template, by what a search found.
-use Rattle.std.proofs.Common.{◌≡◌, ℕ, ◌*◌, length, true, sym, ap, ◌∙◌, subst}
+use Rattle.std.proofs.Common.{◌≡◌, ℕ, ◌*◌, length, sym, ap, ◌∙◌, subst}
 use Rattle.tpl_ast.specs.States.{is_in}
 use Rattle.tpl_ast.specs.declared.template.Template.{Template}
 use Rattle.tpl_admit.specs.declared.certificate.Cert.{Cert}
@@ -14,7 +14,6 @@ use Rattle.gen_search.specs.declared.searching.Answer.TheVariants as answers
 use Rattle.gen_search.specs.Answers.{AnswerIs}
 use Rattle.gen_search.specs.Search.{Done, NoTest, SearchResult}
 use Rattle.gen_turn.specs.declared.making.Found.{Found}
-use Rattle.gen_turn.specs.Built.{is_template_built}
 use Rattle.gen_turn.specs.Laws.{DoneTestsAreAdmitted, DoneTestsFitFiles}
 use Rattle.gen_turn.specs.Generating.{Comes, IsFound, IsGivenUp, IsOfStart, IsOfTest}
 use Rattle.gen_turn.specs.Rules.{Shown, shown}
@@ -44,7 +43,7 @@ module _ (t : Template) (seed nodes turns : ℕ) (f : Found) (is : IsFound t see
   pub same_ram : f.answer ≡ answers.Done → (n : ℕ) → is_in t.ram (n * 4) ≡ in_ram f.part.now.ram n
   same_ram done = (of_template done).ram
 
-  module _ (c : Cert) (parses : Parses t.text t) (built : is_template_built t ≡ true) (admitted : DoneTestsAreAdmitted) (fits : DoneTestsFitFiles) (always : (c : Cert) → IsSound c → IsFaithful c) (tells : Tells t (here f.part) c) (sound : IsSound c)
+  module _ (c : Cert) (parses : Parses t.text t) (admitted : DoneTestsAreAdmitted) (fits : DoneTestsFitFiles) (always : (c : Cert) → IsSound c → IsFaithful c) (tells : Tells t (here f.part) c) (sound : IsSound c)
       (well_formed : FitsFile c → IsWellFormed c) where
     by_result : (r : SearchResult Shown) → Comes t seed nodes turns r → AnswerIs r is.last answers.Done → IsOfTest t seed nodes turns c
     by_result (Done end tally) comes same =
@@ -55,9 +54,9 @@ module _ (t : Template) (seed nodes turns : ℕ) (f : Found) (is : IsFound t see
           tally = tally;
           comes = comes_so;
           tells = tells_so;
-          valid = record { sound = sound; admits = admitted t seed nodes turns is.last tally c parses built comes_so tells_so };
+          valid = record { sound = sound; admits = admitted t seed nodes turns is.last tally c parses comes_so tells_so };
           faithful = always c sound;
-          well_formed = well_formed (fits t seed nodes turns is.last tally c parses built comes_so tells_so);
+          well_formed = well_formed (fits t seed nodes turns is.last tally c parses comes_so tells_so);
         }
     by_result (NoTest tally) comes same = absurd same
 

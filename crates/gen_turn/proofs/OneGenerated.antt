@@ -1,5 +1,5 @@
 -- What is made of a template is one.
-use Rattle.std.proofs.Common.{◌≡◌, ℕ, true, sym, ap, ◌∙◌, subst}
+use Rattle.std.proofs.Common.{◌≡◌, ℕ, sym, ap, ◌∙◌, subst}
 use Rattle.tpl_ast.specs.declared.template.Template.{Template}
 use Rattle.tpl_ast.specs.Parsing.{Parses}
 use Rattle.tpl_admit.specs.declared.certificate.Cert.{Cert}
@@ -11,9 +11,8 @@ use Rattle.gen_search.specs.declared.draws.Tally.{Tally}
 use Rattle.gen_search.specs.Search.{Done, NoTest, SearchResult, Searches}
 use Rattle.gen_turn.specs.declared.making.Generated.{Generated}
 use Rattle.gen_turn.specs.declared.making.Generated.TheVariants as made
-use Rattle.gen_turn.specs.Built.{BuiltTemplatesAreReady, is_template_built}
 use Rattle.gen_turn.specs.Generating.{Comes, IsGenerated, IsOfTest}
-use Rattle.gen_turn.specs.Laws.{GeneratedIsOne, SearchesHaveOneResult}
+use Rattle.gen_turn.specs.Laws.{GeneratedIsOne, SearchesHaveOneResult, TemplatesAreReady}
 use Rattle.gen_turn.specs.Rules.{Shown, draft_rules, shown}
 
 pub one_last : (a b : Shown) (x y : Tally) → (let r : SearchResult Shown = Done a x in r) ≡ Done b y → a ≡ b
@@ -25,11 +24,11 @@ one_tally x y h = cc h
 pub done_or_not : (a : Shown) (x y : Tally) → (let r : SearchResult Shown = Done a x in r) ≡ NoTest y → ⊥
 done_or_not a x y h = absurd (cc h)
 
-module _ (searches : SearchesHaveOneResult) (ready : BuiltTemplatesAreReady) (t : Template) (seed nodes turns : ℕ) (parses : Parses t.text t) (built : is_template_built t ≡ true) where
+module _ (searches : SearchesHaveOneResult) (ready : TemplatesAreReady) (t : Template) (seed nodes turns : ℕ) (parses : Parses t.text t) where
   pub one_result : (r s : SearchResult Shown) → Comes t seed nodes turns r → Comes t seed nodes turns s → r ≡ s
   one_result r s a b =
       let first : a.first ≡ b.first = begun_is_one t a.first b.first a.begun b.begun a.test b.test a.told b.told in
-      searches t.harts seed turns (shown t nodes a.first) r s (ready t nodes (whole a.first) parses built a.begun a.test) a.searches
+      searches t.harts seed turns (shown t nodes a.first) r s (ready t nodes (whole a.first) parses a.begun a.test) a.searches
       (subst (λ (f : Test). Searches draft_rules t.harts seed turns (shown t nodes f) s) (sym first) b.searches)
 
   one_certificate : (c d : Cert) → IsOfTest t seed nodes turns c → IsOfTest t seed nodes turns d → c ≡ d
@@ -48,5 +47,5 @@ module _ (searches : SearchesHaveOneResult) (ready : BuiltTemplatesAreReady) (t 
   one_made (made.Done c) (made.GaveUp m u k) a b = absurd (done_or_not a.last a.tally b.tally (one_result _ _ a.comes b.comes))
   one_made (made.GaveUp n s l) (made.Done d) a b = absurd (done_or_not b.last b.tally a.tally (one_result _ _ b.comes a.comes))
 
-pub generated_is_one : SearchesHaveOneResult → BuiltTemplatesAreReady → GeneratedIsOne
-generated_is_one searches ready t seed nodes turns a b parses built one other = one_made searches ready t seed nodes turns parses built a b one other
+pub generated_is_one : SearchesHaveOneResult → TemplatesAreReady → GeneratedIsOne
+generated_is_one searches ready t seed nodes turns a b parses one other = one_made searches ready t seed nodes turns parses a b one other

@@ -26,7 +26,7 @@ use Rattle.gen_search.specs.Search.{ComesTo, ComesTo.done, ComesTo.gave_up, Come
 use Rattle.gen_search.proofs.Each.{Each, each_in_turn}
 use Rattle.gen_search.proofs.Ready.{body_before, first_choose, first_label, first_leaf, first_repeat, first_seq, ready_still}
 use Rattle.gen_turn.specs.Drafts.{Drafted}
-use Rattle.gen_turn.specs.Grounds.{IsBuilt, IsGround}
+use Rattle.gen_turn.specs.Grounds.{IsGround, IsLeafOf}
 use Rattle.gen_turn.specs.Rules.{Shown, can_be_taken, draft_of, draft_rules, turn_shown}
 use Rattle.gen_turn.specs.Turns.{IsDone, IsTurnedTo, with_name, with_names}
 use Rattle.gen_turn.proofs.Laying.{AreWays, IsWay, LaidOut, Tagged, laid_choice, laid_fault, laid_label, laid_leaf, laid_out, laid_repeat, laid_seq}
@@ -136,7 +136,7 @@ pub record EntriesAreByPlaces : Type 0 where
   pub unfetched : FaultsAreUnfetched
 
 module _ (met_are_true : MetAreTrue) (are_fetched : StepsAreFetched) (words_are_few : NewWordsAreFour) (entries : EntriesAreByPlaces) (found_law : AnswersAreFound) (still : StillAllows can_be_taken draft_rules) (t : Template) (turns : ℕ) where
-  done_by : (s : Shown) (k : ℕ) (ws : Vec Wish Global) (can : IsGround (draft_of s) k × IsBuilt s.template k ws.items) (e : Drafted) (draws : List ℕ) → IsDone (draft_of s) k ws.items draws (Taken e) → IsLeafDone (sets_of s.template) k ws.items (whole s.now) e.now
+  done_by : (s : Shown) (k : ℕ) (ws : Vec Wish Global) (can : IsGround (draft_of s) k × IsLeafOf s.template ws.items) (e : Drafted) (draws : List ℕ) → IsDone (draft_of s) k ws.items draws (Taken e) → IsLeafDone (sets_of s.template) k ws.items (whole s.now) e.now
   done_by s k ws can e draws is = turn_done met_are_true are_fetched words_are_few entries.fetch_words found_law (draft_of s) k ws.items can.0 can.1 draws e is
 
   -- behind a turn that is taken is the test that it made

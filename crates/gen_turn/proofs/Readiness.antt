@@ -1,9 +1,9 @@
--- The leaves and labels of a template that is built can be taken on the test that begins as it says.
+-- The leaves and labels of a template can be taken on the test that begins as it says.
 use Rattle.std.proofs.Common.{◌≡◌, ℕ, ◌+◌, ◌<◌, ◌/◌, ◌%◌, ◌&&◌, ◌||◌, Bool, true, false, eqb, List, [], ◌∷◌, ◌++◌, length, map, leb, None, refl, sym, ap, ◌∙◌, subst, inl, inr, arith}
-use Rattle.std.specs.Prelude.{Vec, not}
+use Rattle.std.specs.Prelude.{Vec}
 use Rattle.std.specs.Global.{Global}
 use Rattle.std.specs.List.{AllByRecursion}
-use Rattle.std.proofs.lemmas.Bool.{and_parts, cases_Bool, eq-eqb, eqb-true, leb-true, ltb-true, ne_eqb}
+use Rattle.std.proofs.lemmas.Bool.{and_parts, cases_Bool, eq-eqb, eqb-true, leb-true, ltb-true}
 use Rattle.std.proofs.lemmas.List.{length-replicate}
 use Rattle.std.proofs.lemmas.List.Elements.{All-from_recursion}
 use Rattle.tpl_ast.specs.declared.template.HartDecl.{HartDecl}
@@ -12,7 +12,6 @@ use Rattle.tpl_ast.specs.declared.template.Item.TheFolds.{fold-roll-Item, ind-It
 use Rattle.tpl_ast.specs.declared.template.Item.TheOpen.{Item-F}
 use Rattle.tpl_ast.specs.declared.template.Item.TheOpen as layers
 use Rattle.tpl_ast.specs.declared.template.Item.TheViews.{roll-Item}
-use Rattle.tpl_ast.specs.declared.template.Item.TheViews as views
 use Rattle.tpl_ast.specs.declared.template.Item.TheVariants as variants
 use Rattle.tpl_ast.specs.declared.template.Template.{Template}
 use Rattle.tpl_ast.specs.declared.template.Wish.{Wish}
@@ -29,21 +28,10 @@ use Rattle.part_state.specs.Meaning.{IsTest}
 use Rattle.data_bytes.specs.Frames.{AreFrames}
 use Rattle.gen_search.specs.Ready.{AreAllowed, AreReady, joined, joined_ways, parts_in, parts_of}
 use Rattle.gen_search.specs.Search.{all_items, of_hart}
-use Rattle.leaf_turn.specs.Built.{lets_data}
-use Rattle.gen_turn.specs.Bodies.{harts_may, item_may, may_stand, may_stand_in, ways_may}
-use Rattle.gen_turn.specs.Built.{BuiltTemplatesAreReady}
 use Rattle.gen_turn.specs.Drafts.{Drafted, drafted}
-use Rattle.gen_turn.specs.Grounds.{CanTake, IsBuilt, IsGround}
+use Rattle.gen_turn.specs.Grounds.{CanTake, IsGround, IsLeafOf}
+use Rattle.gen_turn.specs.Laws.{TemplatesAreReady}
 use Rattle.gen_turn.proofs.FirstWords.{first_words}
-
--- ---- a choice
-
-ways_are : (first : Bool) (g : ℕ × Vec Item Global → ℕ × Vec Bool Global) → ((w : ℕ × Vec Item Global) → (g w).1.items ≡ map (item_may first) w.1.items) → (ws : List (ℕ × Vec Item Global)) → all_ways (map g ws) ≡ ways_may first ws
-ways_are first g inner [] = refl
-ways_are first g inner (w ∷ ws) = λ i. all_true (inner w i) && ways_are first g inner ws i
-
-pub choose_may : (first : Bool) (line : ℕ) (ways : Vec (ℕ × Vec Item Global) Global) → item_may first (views.Choose line ways) ≡ ways_may first ways.items
-choose_may first line ways = ap (item_may first) (sym (variants.rolls-Choose line ways)) ∙ fold-roll-Item Bool (may_stand_in first) (layers.Choose line ways) ∙ ways_are first _ (λ w. refl) ways.items
 
 -- ---- one item
 
@@ -51,79 +39,65 @@ allowed_append : (can : ℕ → Item → Type 0) (k : ℕ) (xs ys : List Item) �
 allowed_append can k [] ys a b = b
 allowed_append can k (x ∷ xs) ys a b = (a.0, allowed_append can k xs ys a.1 b)
 
-module _ (can : ℕ → Item → Type 0) (k n : ℕ) (first : Bool)
-    (leaf_can : (line : ℕ) (ws : Vec Wish Global) → is_leaf n ws.items ≡ true → may_stand first ws.items ≡ true → can k (variants.Leaf line ws))
+module _ (can : ℕ → Item → Type 0) (k n : ℕ)
+    (leaf_can : (line : ℕ) (ws : Vec Wish Global) → is_leaf n ws.items ≡ true → can k (variants.Leaf line ws))
     (fault_can : (line : ℕ) (causes : List ℕ) → can k (variants.FetchFault line causes))
     (label_can : (name : ℕ) → name < n → can k (variants.Label name)) where
   abbrev Ready : Item → Type 0
-  Ready i = stands n i ≡ true → item_may first i ≡ true → AreAllowed can k (parts_of i)
+  Ready i = stands n i ≡ true → AreAllowed can k (parts_of i)
 
-  items_ready : (es : List (Proved Ready)) → all_true (map (stands n) (items_of es)) ≡ true → all_true (map (item_may first) (items_of es)) ≡ true → AreAllowed can k (joined (map parts_of (items_of es)))
-  items_ready [] h b = tt
-  items_ready (e ∷ es) h b =
+  items_ready : (es : List (Proved Ready)) → all_true (map (stands n) (items_of es)) ≡ true → AreAllowed can k (joined (map parts_of (items_of es)))
+  items_ready [] h = tt
+  items_ready (e ∷ es) h =
       let stand = and_parts _ _ h in
-      let kept = and_parts _ _ b in
-      allowed_append can k (parts_of e.0) (joined (map parts_of (items_of es))) (e.1 stand.0 kept.0) (items_ready es stand.1 kept.1)
+      allowed_append can k (parts_of e.0) (joined (map parts_of (items_of es))) (e.1 stand.0) (items_ready es stand.1)
 
-  ways_ready : (f g : ℕ × Vec Item Global → ℕ × Vec Bool Global) (p : ℕ × Vec Item Global → ℕ × Vec (List Item) Global) (h : ℕ × Vec (Proved Ready) Global → ℕ × Vec Item Global)
-      → ((v : ℕ × Vec Item Global) → (f v).1.items ≡ map (stands n) v.1.items) → ((v : ℕ × Vec Item Global) → (g v).1.items ≡ map (item_may first) v.1.items) → ((v : ℕ × Vec Item Global) → (p v).1.items ≡ map parts_of v.1.items)
+  ways_ready : (f : ℕ × Vec Item Global → ℕ × Vec Bool Global) (p : ℕ × Vec Item Global → ℕ × Vec (List Item) Global) (h : ℕ × Vec (Proved Ready) Global → ℕ × Vec Item Global)
+      → ((v : ℕ × Vec Item Global) → (f v).1.items ≡ map (stands n) v.1.items) → ((v : ℕ × Vec Item Global) → (p v).1.items ≡ map parts_of v.1.items)
       → ((w : ℕ × Vec (Proved Ready) Global) → (h w).1.items ≡ items_of w.1.items)
-      → (ws : List (ℕ × Vec (Proved Ready) Global)) → all_ways (map f (map h ws)) ≡ true → all_ways (map g (map h ws)) ≡ true → AreAllowed can k (joined_ways (map p (map h ws)))
-  ways_ready f g p h fs gs ps hs [] stand kept = tt
-  ways_ready f g p h fs gs ps hs (w ∷ ws) stand kept =
+      → (ws : List (ℕ × Vec (Proved Ready) Global)) → all_ways (map f (map h ws)) ≡ true → AreAllowed can k (joined_ways (map p (map h ws)))
+  ways_ready f p h fs ps hs [] stand = tt
+  ways_ready f p h fs ps hs (w ∷ ws) stand =
       let a = and_parts _ _ stand in
-      let b = and_parts _ _ kept in
-      let own = items_ready w.1.items
-      (sym (ap all_true (fs (h w) ∙ ap (map (stands n)) (hs w))) ∙ a.0)
-      (sym (ap all_true (gs (h w) ∙ ap (map (item_may first)) (hs w))) ∙ b.0) in
+      let own = items_ready w.1.items (sym (ap all_true (fs (h w) ∙ ap (map (stands n)) (hs w))) ∙ a.0) in
       allowed_append can k (joined (p (h w)).1.items) (joined_ways (map p (map h ws)))
       (subst (λ (xs : List (List Item)). AreAllowed can k (joined xs)) (sym (ps (h w) ∙ ap (map parts_of) (hs w))) own)
-      (ways_ready f g p h fs gs ps hs ws a.1 b.1)
+      (ways_ready f p h fs ps hs ws a.1)
 
-  choice_ready : (f g : ℕ × Vec Item Global → ℕ × Vec Bool Global) (p : ℕ × Vec Item Global → ℕ × Vec (List Item) Global) (h : ℕ × Vec (Proved Ready) Global → ℕ × Vec Item Global)
-      → ((v : ℕ × Vec Item Global) → (f v).1.items ≡ map (stands n) v.1.items) → ((v : ℕ × Vec Item Global) → (g v).1.items ≡ map (item_may first) v.1.items) → ((v : ℕ × Vec Item Global) → (p v).1.items ≡ map parts_of v.1.items)
+  choice_ready : (f : ℕ × Vec Item Global → ℕ × Vec Bool Global) (p : ℕ × Vec Item Global → ℕ × Vec (List Item) Global) (h : ℕ × Vec (Proved Ready) Global → ℕ × Vec Item Global)
+      → ((v : ℕ × Vec Item Global) → (f v).1.items ≡ map (stands n) v.1.items) → ((v : ℕ × Vec Item Global) → (p v).1.items ≡ map parts_of v.1.items)
       → ((w : ℕ × Vec (Proved Ready) Global) → (h w).1.items ≡ items_of w.1.items)
       → (ws : List (ℕ × Vec (Proved Ready) Global))
       → leb 1 (weight_of (map f (map h ws))) && (leb (length (map f (map h ws))) 64 && (are_weights (map f (map h ws)) && all_ways (map f (map h ws)))) ≡ true
-      → all_ways (map g (map h ws)) ≡ true → AreAllowed can k (joined_ways (map p (map h ws)))
-  choice_ready f g p h fs gs ps hs ws stand kept =
+      → AreAllowed can k (joined_ways (map p (map h ws)))
+  choice_ready f p h fs ps hs ws stand =
       let some = and_parts (leb 1 (weight_of (map f (map h ws)))) _ stand in
       let few = and_parts (leb (length (map f (map h ws))) 64) _ some.1 in
-      ways_ready f g p h fs gs ps hs ws (and_parts (are_weights (map f (map h ws))) _ few.1).1 kept
+      ways_ready f p h fs ps hs ws (and_parts (are_weights (map f (map h ws))) _ few.1).1
 
-  ready_by : (z : Item-F Item) → (stands_in n (map-Item _ _ (stands n) z) ≡ true → may_stand_in first (map-Item _ _ (item_may first) z) ≡ true → AreAllowed can k (parts_in (map-Item _ _ parts_of z))) → Ready (roll-Item z)
-  ready_by z same h b = subst (AreAllowed can k) (sym (fold-roll-Item (List Item) parts_in z)) (same (sym (fold-roll-Item Bool (stands_in n) z) ∙ h) (sym (fold-roll-Item Bool (may_stand_in first) z) ∙ b))
+  ready_by : (z : Item-F Item) → (stands_in n (map-Item _ _ (stands n) z) ≡ true → AreAllowed can k (parts_in (map-Item _ _ parts_of z))) → Ready (roll-Item z)
+  ready_by z same h = subst (AreAllowed can k) (sym (fold-roll-Item (List Item) parts_in z)) (same (sym (fold-roll-Item Bool (stands_in n) z) ∙ h))
 
   ready_step : (x : Item-F Item) (y : Item-F (Proved Ready)) → map-Item _ _ (λ e. e.0) y ≡ x → Ready (roll-Item x)
-  ready_step x (layers.Leaf line wishes) is = subst (λ (z : Item-F Item). Ready (roll-Item z)) is (ready_by (layers.Leaf line wishes) (λ h b. (leaf_can line wishes h b, tt)))
-  ready_step x (layers.FetchFault line causes) is = subst (λ (z : Item-F Item). Ready (roll-Item z)) is (ready_by (layers.FetchFault line causes) (λ h b. (fault_can line causes, tt)))
-  ready_step x (layers.Label name) is = subst (λ (z : Item-F Item). Ready (roll-Item z)) is (ready_by (layers.Label name) (λ h b. (label_can name (ltb-true name n h), tt)))
-  ready_step x (layers.Seq body) is = subst (λ (z : Item-F Item). Ready (roll-Item z)) is (ready_by _ (λ h b. items_ready body.items h b))
-  ready_step x (layers.Repeat times body) is = subst (λ (z : Item-F Item). Ready (roll-Item z)) is (ready_by _ (λ h b. items_ready body.items (and_parts (leb times 8192) _ h).1 b))
-  ready_step x (layers.Choose line ways) is = subst (λ (z : Item-F Item). Ready (roll-Item z)) is (ready_by _ (λ h b.
-      choice_ready _ _ _ _ (λ v. refl) (λ v. refl) (λ v. refl) (λ w. refl) ways.items h b))
+  ready_step x (layers.Leaf line wishes) is = subst (λ (z : Item-F Item). Ready (roll-Item z)) is (ready_by (layers.Leaf line wishes) (λ h. (leaf_can line wishes h, tt)))
+  ready_step x (layers.FetchFault line causes) is = subst (λ (z : Item-F Item). Ready (roll-Item z)) is (ready_by (layers.FetchFault line causes) (λ h. (fault_can line causes, tt)))
+  ready_step x (layers.Label name) is = subst (λ (z : Item-F Item). Ready (roll-Item z)) is (ready_by (layers.Label name) (λ h. (label_can name (ltb-true name n h), tt)))
+  ready_step x (layers.Seq body) is = subst (λ (z : Item-F Item). Ready (roll-Item z)) is (ready_by _ (λ h. items_ready body.items h))
+  ready_step x (layers.Repeat times body) is = subst (λ (z : Item-F Item). Ready (roll-Item z)) is (ready_by _ (λ h. items_ready body.items (and_parts (leb times 8192) _ h).1))
+  ready_step x (layers.Choose line ways) is = subst (λ (z : Item-F Item). Ready (roll-Item z)) is (ready_by _ (λ h. choice_ready _ _ _ (λ v. refl) (λ v. refl) (λ w. refl) ways.items h))
 
   item_ready : (i : Item) → Ready i
   item_ready = ind-Item Ready ready_step
 
-  pub body_ready : (items : List Item) → all_true (map (stands n) items) ≡ true → all_true (map (item_may first) items) ≡ true → AreReady can (of_hart k items)
-  body_ready [] h b = tt
-  body_ready (i ∷ items) h b = let stand = and_parts _ _ h in let kept = and_parts _ _ b in (item_ready i stand.0 kept.0, body_ready items stand.1 kept.1)
+  pub body_ready : (items : List Item) → all_true (map (stands n) items) ≡ true → AreReady can (of_hart k items)
+  body_ready [] h = tt
+  body_ready (i ∷ items) h = let stand = and_parts _ _ h in (item_ready i stand.0, body_ready items stand.1)
 
 -- ---- the harts of a template
 
 ready_append : (can : ℕ → Item → Type 0) (xs ys : List (ℕ × Item)) → AreReady can xs → AreReady can ys → AreReady can (xs ++ ys)
 ready_append can [] ys a b = b
 ready_append can (x ∷ xs) ys a b = (a.0, ready_append can xs ys a.1 b)
-
-not_first : (k : ℕ) → eqb (k + 1) 0 ≡ false
-not_first k = ne_eqb (k + 1) 0 (λ e. absurd (omega (arith, e)))
-
--- where only the first hart may let something through, one that lets it through is the first
-only_first : (alone lets : Bool) → (alone || not lets) ≡ true → lets ≡ true → alone ≡ true
-only_first true lets h is = refl
-only_first false true h is = absurd (cc h)
-only_first false false h is = absurd (cc is)
 
 -- ---- frames
 
@@ -180,26 +154,23 @@ module _ (t : Template) (nodes : ℕ) (w : Whole) (keeps : KeepsLimits t.text t)
     words = first_words t w keeps begun test k lt;
   }
 
-  built_leaf : (k : ℕ) (ws : List Wish) → is_leaf (length t.names) ws ≡ true → (lets_data ws ≡ true → k ≡ 0) → IsBuilt t k ws
-  built_leaf k ws leaf loads =
+  own_leaf : (ws : List Wish) → is_leaf (length t.names) ws ≡ true → IsLeafOf t ws
+  own_leaf ws leaf =
       let few = and_parts _ _ leaf in
       record {
         plain = (known (length t.names) ws leaf).plain;
-        loads = loads;
         below = (and_parts _ _ (and_parts _ _ few.1).1).0;
         short = leb-true _ _ few.0;
         once = (known (length t.names) ws leaf).once;
       }
 
-  all_ready : (k : ℕ) (hs : List HartDecl) → k + length hs ≡ length t.harts → AllByRecursion (λ (h : HartDecl). IsBody (length t.names) h.body.items) hs → harts_may (eqb k 0) hs ≡ true → AreReady (CanTake draft) (all_items k hs)
-  all_ready k [] size bodies may = tt
-  all_ready k (h ∷ hs) size bodies may =
+  all_ready : (k : ℕ) (hs : List HartDecl) → k + length hs ≡ length t.harts → AllByRecursion (λ (h : HartDecl). IsBody (length t.names) h.body.items) hs → AreReady (CanTake draft) (all_items k hs)
+  all_ready k [] size bodies = tt
+  all_ready k (h ∷ hs) size bodies =
       let g : IsGround draft k = ground k (omega (arith, size)) in
-      let own = and_parts _ _ may in
-      let leaf : (ws : List Wish) → is_leaf (length t.names) ws ≡ true → may_stand (eqb k 0) ws ≡ true → IsBuilt t k ws = λ ws is stands. built_leaf k ws is (λ lets. eqb-true k 0 (only_first (eqb k 0) (lets_data ws) stands lets)) in
       ready_append (CanTake draft) (of_hart k h.body.items) (all_items (k + 1) hs)
-      (body_ready (CanTake draft) k (length t.names) (eqb k 0) (λ line ws is stands. (g, leaf ws.items is stands)) (λ line causes. g) (λ name lt. (g, lt)) h.body.items bodies.0 own.0)
-      (all_ready (k + 1) hs (omega (arith, size)) bodies.1 (subst (λ (b : Bool). harts_may b hs ≡ true) (sym (not_first k)) own.1))
+      (body_ready (CanTake draft) k (length t.names) (λ line ws is. (g, own_leaf ws.items is)) (λ line causes. g) (λ name lt. (g, lt)) h.body.items bodies.0)
+      (all_ready (k + 1) hs (omega (arith, size)) bodies.1)
 
-pub built_are_ready : TemplatesKeepLimits → LeavesAreKnown → BuiltTemplatesAreReady
-built_are_ready keep known t nodes w parses built begun test = let keeps = keep t.text t parses in all_ready t nodes w keeps known begun test 0 t.harts (omega arith) keeps.bodies built
+pub templates_are_ready : TemplatesKeepLimits → LeavesAreKnown → TemplatesAreReady
+templates_are_ready keep known t nodes w parses begun test = let keeps = keep t.text t parses in all_ready t nodes w keeps known begun test 0 t.harts (omega arith) keeps.bodies

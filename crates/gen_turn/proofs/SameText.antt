@@ -1,5 +1,5 @@
 -- What is made of a template is told by its text: it is the same of each template that the text is parsed as, which differ in how their lists are kept.
-use Rattle.std.proofs.Common.{◌≡◌, ℕ, ◌<◌, Bool, true, List, [], ◌∷◌, length, map, replicate, Result, Ok, refl, sym, ap, ◌∙◌, subst}
+use Rattle.std.proofs.Common.{◌≡◌, ℕ, ◌<◌, Bool, List, [], ◌∷◌, length, map, replicate, Result, Ok, refl, sym, ap, ◌∙◌, subst}
 use Rattle.std.specs.Prelude.{slice_index_or}
 use Rattle.std.proofs.lemmas.List.{length-map}
 use Rattle.tpl_ast.specs.declared.fault.Fault.{Fault}
@@ -24,13 +24,11 @@ use Rattle.gen_search.specs.Moved.{IsMove, SameLeaf, same_do, same_fault, Search
 use Rattle.gen_search.specs.Search.{SearchResult, Turned, Turned.Taken, Turned.NoneFits, Turned.Spent}
 use Rattle.gen_turn.specs.declared.making.Generated.{Generated}
 use Rattle.gen_turn.specs.declared.making.Generated.TheVariants as made
-use Rattle.gen_turn.specs.Built.{BuiltTemplatesAreReady, is_template_built}
 use Rattle.gen_turn.specs.Drafts.{Drafted, at_test, drafted}
 use Rattle.gen_turn.specs.Generating.{Comes, IsGenerated, IsOfTest}
-use Rattle.gen_turn.specs.Laws.{SearchesHaveOneResult, TextsTellWhatIsBuilt, TextsTellWhatIsMade, retold}
+use Rattle.gen_turn.specs.Laws.{SearchesHaveOneResult, TemplatesAreReady, TextsTellWhatIsMade, retold}
 use Rattle.gen_turn.specs.Rules.{Shown, draft_of, draft_rules, shown, turn_shown}
 use Rattle.gen_turn.specs.Turns.{EndsAs, GoesOn, IsAnswered, IsDone, IsFailed, IsTurnedTo}
-use Rattle.gen_turn.proofs.BuiltLines.{built_alike}
 use Rattle.gen_turn.proofs.OneGenerated.{done_or_not, one_last, one_result, one_tally}
 
 -- ---- templates of one text
@@ -167,10 +165,10 @@ retold_tells t u w c tells = record {
   dropped = tells.dropped;
 }
 
-module _ (searches : SearchesHaveOneResult) (ready : BuiltTemplatesAreReady) (move : SearchesAreMoved draft_rules) (t u : Template) (seed nodes turns : ℕ) (text : t.text ≡ u.text) (said : said_by t ≡ said_by u)
-    (parses : Parses u.text u) (built : is_template_built u ≡ true) where
+module _ (searches : SearchesHaveOneResult) (ready : TemplatesAreReady) (move : SearchesAreMoved draft_rules) (t u : Template) (seed nodes turns : ℕ) (text : t.text ≡ u.text) (said : said_by t ≡ said_by u)
+    (parses : Parses u.text u) where
   one_moved : (r s : SearchResult Shown) → Comes t seed nodes turns r → Comes u seed nodes turns s → result_by (moved u.harts) r ≡ s
-  one_moved r s a b = one_result searches ready u seed nodes turns parses built (result_by (moved u.harts) r) s (comes_moved move t u seed nodes turns r text said a) b
+  one_moved r s a b = one_result searches ready u seed nodes turns parses (result_by (moved u.harts) r) s (comes_moved move t u seed nodes turns r text said a) b
 
   one_certificate : (c d : Cert) → IsOfTest t seed nodes turns c → IsOfTest u seed nodes turns d → with_template c u ≡ d
   one_certificate c d a b =
@@ -188,10 +186,7 @@ module _ (searches : SearchesHaveOneResult) (ready : BuiltTemplatesAreReady) (mo
   made_moved (made.Done c) (made.GaveUp m v k) a b = absurd (done_or_not (moved u.harts a.last) a.tally b.tally (one_moved _ _ a.comes b.comes))
   made_moved (made.GaveUp n s l) (made.Done d) a b = absurd (done_or_not b.last b.tally a.tally (sym (one_moved _ _ a.comes b.comes)))
 
-pub texts_tell_built : TextsTellWhatIsBuilt
-texts_tell_built text t u parses parses_so = built_alike t.harts u.harts (ap (λ (s : Said). s.harts) (said_same text t u parses parses_so))
-
-pub texts_tell_made : SearchesHaveOneResult → BuiltTemplatesAreReady → SearchesAreMoved draft_rules → TextsTellWhatIsMade
-texts_tell_made searches ready move text t u seed nodes turns a b parses parses_so built one other =
+pub texts_tell_made : SearchesHaveOneResult → TemplatesAreReady → SearchesAreMoved draft_rules → TextsTellWhatIsMade
+texts_tell_made searches ready move text t u seed nodes turns a b parses parses_so one other =
     let own : Parses u.text u = subst (λ (bytes : List ℕ). Parses bytes u) (sym parses_so.text) parses_so in
-    made_moved searches ready move t u seed nodes turns (parses.text ∙ sym parses_so.text) (said_same text t u parses parses_so) own built a b one other
+    made_moved searches ready move t u seed nodes turns (parses.text ∙ sym parses_so.text) (said_same text t u parses parses_so) own a b one other

@@ -25,7 +25,7 @@ use Rattle.leaf_turn.proofs.Plainness.{each_plain, plain_biases, plain_mandatory
 use Rattle.leaf_turn.proofs.Wholly.{found_by}
 use Rattle.gen_search.specs.Search.{Turned}
 use Rattle.gen_turn.specs.Drafts.{Drafted, setting_of, turn_of, turn_with}
-use Rattle.gen_turn.specs.Grounds.{IsBuilt, IsGround}
+use Rattle.gen_turn.specs.Grounds.{IsGround, IsLeafOf}
 use Rattle.gen_turn.specs.Touches.{touches_from}
 use Rattle.gen_turn.specs.Turns.{IsAnswered}
 use Rattle.gen_turn.proofs.Touching.{touches_are_footprints}
@@ -44,7 +44,7 @@ one_walk t walk other pa there a b = go walk other pa there (sym a.translates �
     go : (walk other : List Entry) (pa there : ℕ) → Does walk (At pa) ≡ Does other (At there) → IsSameWalk walk other pa there
     go walk other pa there e = record { entries = cc e; address = cc e }
 
-module _ (d : Drafted) (k : ℕ) (g : IsGround d k) (ws : List Wish) (built : IsBuilt d.template k ws) where
+module _ (d : Drafted) (k : ℕ) (g : IsGround d k) (ws : List Wish) (built : IsLeafOf d.template ws) where
   abbrev pub turn : Turn
   turn = turn_of d (mandatory_of ws) k
 

@@ -1,4 +1,4 @@
--- Which leaves and labels this build can take.
+-- Which leaves and labels can be taken.
 use Rattle.std.specs.Prelude.{◌≡◌, ℕ, ◌%◌, ◌^◌, ◌<◌, ◌≤◌, true, false, List, length}
 use Rattle.std.specs.List.{AllByRecursion, list_all}
 use Rattle.rv_csr.specs.declared.access.CsrAccess.{CsrAccess}
@@ -14,7 +14,6 @@ use Rattle.leaf_link.specs.Turns.{in_frames}
 use Rattle.leaf_link.specs.Values.{fixed_value}
 use Rattle.leaf_link.specs.Ways.{AreWords}
 use Rattle.data_bytes.specs.Frames.{AreFrames}
-use Rattle.leaf_turn.specs.Built.{lets_data}
 use Rattle.leaf_turn.specs.Grounds.{HasFewForms}
 use Rattle.turn_laws.specs.Ahead.{AreVectors}
 use Rattle.turn_laws.specs.Given.{known_at}
@@ -39,17 +38,16 @@ pub record IsGround (d : Drafted) (k : ℕ) : Type 0 where
   pub test : IsTest d.now
   pub words : IsOfWords k d.now
 
--- a leaf's atoms are those of a leaf of the template, which let loads and stores through in the first hart alone
-pub record IsBuilt (t : Template) (k : ℕ) (ws : List Wish) : Type 0 where
+-- a leaf's atoms are those of a leaf of the template
+pub record IsLeafOf (t : Template) (ws : List Wish) : Type 0 where
   pub plain : AllByRecursion IsPlain (atoms_of ws)
-  pub loads : lets_data ws ≡ true → k ≡ 0
   pub below : list_all (is_name_below (length t.names)) (atoms_of ws) ≡ true
   pub short : length ws ≤ most_atoms
   pub once : NamedOnce (atoms_of ws)
 
 -- a leaf or a label that can be taken
 abbrev pub CanTake : Drafted → ℕ → Item → Type 0
-CanTake d k (items.Leaf line ws) = IsGround d k × IsBuilt d.template k ws.items
+CanTake d k (items.Leaf line ws) = IsGround d k × IsLeafOf d.template ws.items
 CanTake d k (items.FetchFault line causes) = IsGround d k
 CanTake d k (items.Label name) = IsGround d k × (name < length d.template.names)
 CanTake d k _ = ⊥

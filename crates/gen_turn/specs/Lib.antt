@@ -1,9 +1,7 @@
 pub mod Touches
 pub mod Drafts
 pub mod Turns
-pub mod Bodies
 pub mod Grounds
-pub mod Built
 pub mod Rules
 pub mod Generating
 pub mod Laws

@@ -1,9 +1,8 @@
 // Laws of the search for a test of a template.
 ghost use Rattle.gen_search.specs.Laws.{HasOneAnswer, ResultsAreBounded, StillAllows};
-ghost use Rattle.gen_turn.specs.Laws.{DoneTestsAreAdmitted, DoneTestsFitFiles, GeneratedIsOne, SearchesHaveOneResult, TextsTellWhatIsBuilt, TextsTellWhatIsMade};
+ghost use Rattle.gen_turn.specs.Laws.{DoneTestsAreAdmitted, DoneTestsFitFiles, GeneratedIsOne, SearchesHaveOneResult, TemplatesAreReady, TextsTellWhatIsMade};
 ghost use Rattle.gen_turn.specs.Rules.{can_be_taken, draft_rules};
 
-use crate::built::built_templates_are_ready;
 use crate::draft::Draft;
 use gen_search::search_laws;
 use leaf_link::{
@@ -11,7 +10,7 @@ use leaf_link::{
     values_are_by_places,
 };
 use leaf_turn::{answers_are_found, answers_are_playable, takings_are_one};
-use tpl_ast::template_law;
+use tpl_ast::{leaf_law, template_law};
 use turn_laws::given_places_are_known;
 
 /// Does nothing. Its contract says that a leaf turn that can be taken has one answer at most, and that what can be taken
@@ -26,6 +25,15 @@ pub fn turns_have_one_answer()
     answers_are_found();
     answers_are_playable();
     takings_are_one();
+}
+
+/// Does nothing. Its contract says that all leaves and labels of a template can be taken on the test that begins as it
+/// says, and so on every one that the search comes to.
+pub fn templates_are_ready()
+    ensures { TemplatesAreReady }
+{
+    template_law();
+    leaf_law();
 }
 
 /// Does nothing. Its contract says that the search from a test on which all leaves and labels of its template can be
@@ -44,17 +52,16 @@ pub fn generated_is_one()
     ensures { GeneratedIsOne }
 {
     searches_have_one_result();
-    built_templates_are_ready();
+    templates_are_ready();
 }
 
-/// Does nothing. Its contract says that a text tells whether its template is built, and what is made of it: the templates
-/// that one text is parsed as differ in how their lists are kept alone.
+/// Does nothing. Its contract says that a text tells what is made of its template: the templates that one text is parsed as
+/// differ in how their lists are kept alone.
 pub fn texts_tell_what_is_made()
-    ensures built { TextsTellWhatIsBuilt }
-    ensures made { TextsTellWhatIsMade }
+    ensures { TextsTellWhatIsMade }
 {
     searches_have_one_result();
-    built_templates_are_ready();
+    templates_are_ready();
     search_laws::<Draft>();
 }
 
@@ -65,7 +72,7 @@ pub fn done_tests_are_certified()
     ensures fit { DoneTestsFitFiles }
 {
     template_law();
-    built_templates_are_ready();
+    templates_are_ready();
     turns_have_one_answer();
     met_atoms_are_true();
     steps_are_fetched();

@@ -10,7 +10,7 @@ ghost use Rattle.gen_search.specs.Wholes.{answered};
 ghost use Rattle.leaf_turn.specs.Answers.{AreKept, IsPlayable};
 ghost use Rattle.leaf_turn.specs.Entering.{Leads};
 ghost use Rattle.gen_turn.specs.Drafts.{drafted};
-ghost use Rattle.gen_turn.specs.Grounds.{IsBuilt, IsGround, IsSameGround};
+ghost use Rattle.gen_turn.specs.Grounds.{IsGround, IsLeafOf, IsSameGround};
 ghost use Rattle.gen_turn.specs.Turns.{IsAnswered, IsDone, IsFailed, IsLeafTaken};
 
 use crate::binding::bind_names;
@@ -76,7 +76,7 @@ fn answer_and_take(
     draws: &[u32; 16],
 ) -> Result<Turn, OutOfMemory>
     requires ground { IsGround (drafted t.now nodes (here part.old)) hart }
-    requires built { IsBuilt t.now hart wishes.now }
+    requires leaf { IsLeafOf t.now wishes.now }
     requires leads { (walk : List AnEntry) × Leads hart (here part.old) walk pa }
     ensures turned { IfOk result (λ turn. IsAnswered (drafted t.now nodes (here part.old)) hart wishes.now draws.now (answered turn (drafted t.now nodes (here part.new)))) }
     ensures ground { OnOk result (IsSameGround (here part.old) (here part.new)) }
@@ -112,7 +112,7 @@ fn enter_and_answer(
     draws: &[u32; 16],
 ) -> Result<Turn, OutOfMemory>
     requires ground { IsGround (drafted t.now nodes (here part.old)) hart }
-    requires built { IsBuilt t.now hart wishes.now }
+    requires leaf { IsLeafOf t.now wishes.now }
     ensures turned { IfOk result (λ turn. IsDone (drafted t.now nodes (here part.old)) hart wishes.now draws.now (answered turn (drafted t.now nodes (here part.new)))) }
     ensures ground { OnOk result (IsSameGround (here part.old) (here part.new)) }
     ensures kept { AreKept part.old part.new }
@@ -140,7 +140,7 @@ pub fn turn_leaf(
     draws: &[u32; 16],
 ) -> Result<Turn, OutOfMemory>
     requires ground { IsGround (drafted t.now nodes (here part.old)) hart }
-    requires built { IsBuilt t.now hart wishes.now }
+    requires leaf { IsLeafOf t.now wishes.now }
     ensures turned { IfOk result (λ turn. IsDone (drafted t.now nodes (here part.old)) hart wishes.now draws.now (answered turn (drafted t.now nodes (here part.new)))) }
     ensures ground { OnOk result (IsSameGround (here part.old) (here part.new)) }
     ensures kept { OnOk result (AreKept part.old part.new) }

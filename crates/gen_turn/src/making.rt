@@ -1,14 +1,12 @@
 // The search for a test of a template.
-ghost use Rattle.std.specs.Prelude.{◌≡◌, true, IfOk};
+ghost use Rattle.std.specs.Prelude.{IfOk};
 ghost use Rattle.tpl_ast.specs.Parsing.{Parses};
 ghost use Rattle.part_state.specs.Beginning.{IsBegun};
 ghost use Rattle.part_state.specs.State.{here};
-ghost use Rattle.gen_turn.specs.Built.{is_template_built};
 ghost use Rattle.gen_turn.specs.Generating.{IsFound, IsGenerated};
 
-use crate::built::built_templates_are_ready;
 use crate::draft::Draft;
-use crate::laws::done_tests_are_certified;
+use crate::laws::{done_tests_are_certified, templates_are_ready};
 use gen_search::{Answer, OutOfMemory, search};
 use part_state::Part;
 use rv_system::sound_certificates_are_faithful;
@@ -49,13 +47,12 @@ fn search_for(
     nodes: u64,
     turns: u64,
 ) -> Result<Found, OutOfMemory>
-    requires parses { Parses template.now.text template.now }
-    requires built { is_template_built template.now ≡ true }
+    requires { Parses template.now.text template.now }
     ensures { IfOk result (IsFound template.now seed nodes turns) }
 {
     template_law();
     gen_search::template_law();
-    built_templates_are_ready();
+    templates_are_ready();
     let mut draft = Draft::new(alloc, template, nodes)?;
     let answer = search(alloc, &mut draft, template.harts.as_slice(), seed, turns)?;
     let turned = draft.turns();
@@ -66,7 +63,7 @@ fn search_for(
     })
 }
 
-/// Makes a test of a template that this build takes, with the draws of a seed, `nodes` for the budget of each problem, and
+/// Makes a test of a template, with the draws of a seed, `nodes` for the budget of each problem, and
 /// at most `turns` leaf turns.
 pub fn generate(
     alloc: Global,
@@ -75,8 +72,7 @@ pub fn generate(
     nodes: u64,
     turns: u64,
 ) -> Result<Generated, OutOfMemory>
-    requires parses { Parses template.text template }
-    requires built { is_template_built template ≡ true }
+    requires { Parses template.text template }
     ensures { IfOk result (IsGenerated template seed nodes turns) }
 {
     done_tests_are_certified();

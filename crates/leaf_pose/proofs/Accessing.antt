@@ -1,7 +1,6 @@
 -- The cases of loads and stores, as they are posed and as they are defined.
 use Rattle.std.proofs.Common.{◌≡◌, ℕ, zero, suc, ◌+◌, ◌%◌, ◌^◌, ◌<◌, ◌≤◌, ◌⊎◌, Bool, true, false, ◌&&◌, ◌||◌, List, [], ◌∷◌, ◌++◌, Option, Some, None, refl, sym, ap, ◌∙◌, subst, inl, inr, arith, drop, get_or, length}
 use Rattle.std.specs.Prelude.{nat_eq, not}
-use Rattle.std.specs.Bool.{◌==◌}
 use Rattle.std.specs.List.{list_all, list_any}
 use Rattle.std.proofs.Math.Seq.{drop-cons}
 use Rattle.std.proofs.lemmas.List.{drop_all}
@@ -26,13 +25,16 @@ use Rattle.fd_prob.specs.declared.slot.Slot.{Slot}
 use Rattle.fd_prob.specs.declared.slot.Slot.TheVariants as slots
 use Rattle.fd_prob.specs.declared.slot.TheConstants.{SLOTS}
 use Rattle.fd_prob.specs.Fitting.{domain_of, fits_case}
+use Rattle.fd_prob.specs.Order.{IsAssignment}
 use Rattle.fd_prob.specs.Relations.{holds, is_sum, value_of}
 use Rattle.fd_prob.proofs.Fitted.{all_within, each_within}
+use Rattle.row_parts.specs.Gaps.{counts}
 use Rattle.data_ways.specs.declared.way.DataWay.{DataWay}
 use Rattle.data_goals.specs.declared.accesses.Accesses.{Accesses}
+use Rattle.data_goals.specs.declared.cuts.Place.{Place}
 use Rattle.data_goals.specs.declared.goal.Goal.{Goal}
-use Rattle.data_goals.specs.declared.goal.Goal.TheVariants.{Misaligned}
-use Rattle.data_goals.specs.Goals.{IsCut, cause_of, end_test, goal_test, goal_way, goal_ways, goals_by, misses, outcome_of, retires, ways_by, ways_for, ways_through}
+use Rattle.data_goals.specs.declared.goal.Goal.TheVariants.{Misaligned, Fails, Known, Fresh}
+use Rattle.data_goals.specs.Goals.{IsCut, IsPlace, address_test, apart_test, cause_of, end_test, goal_way, goal_ways, goals_by, is_aligned_to, misses, near_test, near_way, outcome_of, own_test, retires, there_test, ways_by, ways_for, ways_through}
 use Rattle.data_goals.proofs.Through.{in_through}
 use Rattle.leaf_link.specs.Turns.{is_narrow, is_small, may_be_source}
 use Rattle.leaf_link.specs.Values.{instr_in}
@@ -49,7 +51,7 @@ use Rattle.leaf_stand.proofs.Fits.{none_yet}
 use Rattle.leaf_stand.proofs.Lists.{each_domain}
 use Rattle.leaf_stand.proofs.Rows.{data_narrow}
 use Rattle.leaf_stand.proofs.Single.{and_true, atoms_same, both_same, domain_in_case, fits_from, number_of, or_true, relations_of, within_of, word_at}
-use Rattle.leaf_pose.specs.Goals.{AreGoalsOf, IsGoalOf, end_by, entered_at, goal_rels, goal_shape, shape_by, sum_rel}
+use Rattle.leaf_pose.specs.Goals.{AreGoalsOf, IsGoalOf, end_by, entered_at, goal_rels, goal_shape, near_domain, place_rel, place_rels, shape_by, sum_rel}
 use Rattle.leaf_pose.specs.Posed.{Adds, HasFitted, IsShaped}
 use Rattle.leaf_pose.specs.declared.shaped.Shaped.{Shaped}
 use Rattle.leaf_pose.proofs.Accesses.{known_same, known_sources}
@@ -86,16 +88,72 @@ and_assoc : (a b c : Bool) → ((a && b) && c) ≡ (a && (b && c))
 and_assoc true b c = refl
 and_assoc false b c = refl
 
-pub goal_set : (s : Stand) (a : Accesses) (leaf : List Atom) (op : Op) (way : DataWay) (goal : Goal) (slot : Slot) (shape : Shape) (all : List ℕ) (cut : Option (List ℕ)) (left : List ℕ) → shape ≡ goal_shape op way.end goal → IsSetOf (entered_at (turn_of s) leaf shape slot) all
-    → IsCut (goal_test a op way (all_tests (turn_of s) leaf vars.Pa) goal slot) cut → ((test own : ℕ → Bool) → IsSetOf test all → IsCut own cut → IsSetOf (λ v. test v && own v) left)
-    → IsSetOf (domain (turn_of s) 0 leaf op (goal_way (turn_of s) a leaf op way goal) slot) left
-goal_set s a leaf op way goal slot shape all cut left e is cut_is left_is v small =
-    let own : ℕ → Bool = goal_test a op way (all_tests (turn_of s) leaf vars.Pa) goal slot in
+near_shape : (s : Stand) (op : Op) (way : DataWay) (goal : Goal) → shape_of op (near_way (turn_of s) op way goal) ≡ shape_at (goal_shape op way.end goal)
+near_shape s op way goal = by_cause op (cause_of op way.end goal)
+
+pub goal_set : (s : Stand) (leaf : List Atom) (op : Op) (way : DataWay) (goal : Goal) (slot : Slot) (shape : Shape) (all : List ℕ) (cut : Option (List ℕ)) (left : List ℕ) → shape ≡ goal_shape op way.end goal → IsSetOf (entered_at (turn_of s) leaf shape slot) all
+    → IsCut (near_test op way goal slot) cut → ((test own : ℕ → Bool) → IsSetOf test all → IsCut own cut → IsSetOf (λ v. test v && own v) left)
+    → IsSetOf (near_domain s leaf op way goal slot) left
+goal_set s leaf op way goal slot shape all cut left e is cut_is left_is v small =
+    let own : ℕ → Bool = near_test op way goal slot in
     left_is (entered_at (turn_of s) leaf shape slot) own is cut_is v small
     ∙ ap (λ (sh : Shape). entered_at (turn_of s) leaf sh slot v && own v) e
     ∙ ap (λ (b : Bool). b && own v) (entered s leaf op (cause_of op way.end goal) slot v)
     ∙ and_assoc (base_domain (turn_of s) 0 leaf (shape_at (goal_shape op way.end goal)) slot v) (end_test (turn_of s) (cause_of op way.end goal) slot v) (own v)
-    ∙ ap (λ (sh : AShape). base_domain (turn_of s) 0 leaf sh slot v && (goal_way (turn_of s) a leaf op way goal).also slot v) (sym (same_shape s a leaf op way goal))
+    ∙ ap (λ (sh : AShape). base_domain (turn_of s) 0 leaf sh slot v && (near_way (turn_of s) op way goal).also slot v) (sym (near_shape s op way goal))
+
+-- what a goal says of an address is what it says but for where it leads, and where it leads
+moved : (c e o : Bool) → ((c && e) && o) ≡ ((e && o) && (c && true))
+moved true e o = sym (and_true (e && o))
+moved false true true = refl
+moved false true false = refl
+moved false false o = refl
+
+moved_by : (c e o t : Bool) → (((c && e) && o) && t) ≡ ((e && o) && (c && t))
+moved_by true e o t = refl
+moved_by false true true t = refl
+moved_by false true false t = refl
+moved_by false false o t = refl
+
+address_parts : (a : Accesses) (op : Op) (way : DataWay) (wanted : ℕ → Bool) (goal : Goal) (v : ℕ) → address_test a op way wanted goal v ≡ (own_test op way goal v && (apart_test way goal v && there_test a op way wanted goal v))
+address_parts a op way wanted Misaligned v = sym (and_true (own_test op way Misaligned v))
+address_parts a op way wanted Fails v = moved (counts way.apart v) (is_in way.ea v) (is_aligned_to op v)
+address_parts a op way wanted Known v = moved_by (counts way.apart v) (is_in way.ea v) (is_aligned_to op v) (there_test a op way wanted Known v)
+address_parts a op way wanted Fresh v = moved_by (counts way.apart v) (is_in way.ea v) (is_aligned_to op v) (there_test a op way wanted Fresh v)
+
+three : (b e o t : Bool) → (b && (e && (o && t))) ≡ ((b && (e && o)) && t)
+three true true o t = refl
+three true false o t = refl
+three false e o t = refl
+
+abbrev leads : Stand → Accesses → List Atom → Op → DataWay → Goal → ℕ → Bool
+leads s a leaf op way goal v = apart_test way goal v && there_test a op way (all_tests (turn_of s) leaf vars.Pa) goal v
+
+ea_parts : (s : Stand) (a : Accesses) (leaf : List Atom) (op : Op) (way : DataWay) (goal : Goal) (v : ℕ)
+    → domain (turn_of s) 0 leaf op (goal_way (turn_of s) a leaf op way goal) slots.Ea v ≡ (near_domain s leaf op way goal slots.Ea v && leads s a leaf op way goal v)
+ea_parts s a leaf op way goal v =
+    let base : Bool = base_domain (turn_of s) 0 leaf (shape_of op (goal_way (turn_of s) a leaf op way goal)) slots.Ea v in
+    let end : Bool = end_test (turn_of s) (cause_of op way.end goal) slots.Ea v in
+    ap (λ (b : Bool). base && (end && b)) (address_parts a op way (all_tests (turn_of s) leaf vars.Pa) goal v) ∙ three base end (own_test op way goal v) (leads s a leaf op way goal v)
+
+-- so a variable has a value of the goal's domain exactly where it has one of the near domain, and the address leads there
+whole_domain : (s : Stand) (a : Accesses) (leaf : List Atom) (op : Op) (way : DataWay) (goal : Goal) (n : ℕ) → leads s a leaf op way goal n ≡ true → (slot : Slot) (v : ℕ) → (slot ≡ slots.Ea → v ≡ n)
+    → near_domain s leaf op way goal slot v ≡ domain (turn_of s) 0 leaf op (goal_way (turn_of s) a leaf op way goal) slot v
+whole_domain s a leaf op way goal n h slots.Ea v e =
+    sym (ea_parts s a leaf op way goal v ∙ ap (λ (b : Bool). near_domain s leaf op way goal slots.Ea v && b) (ap (leads s a leaf op way goal) (e refl) ∙ h) ∙ and_true _)
+whole_domain s a leaf op way goal n h slots.Op v e = refl
+whole_domain s a leaf op way goal n h slots.Rs1 v e = refl
+whole_domain s a leaf op way goal n h slots.Rs2 v e = refl
+whole_domain s a leaf op way goal n h slots.Imm v e = refl
+whole_domain s a leaf op way goal n h slots.Rd v e = refl
+whole_domain s a leaf op way goal n h slots.Csr v e = refl
+whole_domain s a leaf op way goal n h slots.A v e = refl
+whole_domain s a leaf op way goal n h slots.B v e = refl
+whole_domain s a leaf op way goal n h slots.FirstPte v e = refl
+whole_domain s a leaf op way goal n h slots.SecondPte v e = refl
+whole_domain s a leaf op way goal n h slots.DataWord v e = refl
+whole_domain s a leaf op way goal n h slots.OldCsr v e = refl
+whole_domain s a leaf op way goal n h slots.Vector v e = refl
 
 -- all words, where new entries and words may be
 pub all_entered : (s : Stand) (leaf : List Atom) (shape : Shape) (slot : Slot) (set : List ℕ) → (slot ≡ slots.FirstPte) ⊎ ((slot ≡ slots.SecondPte) ⊎ (slot ≡ slots.DataWord)) → set ≡ elements_of (λ v. true) → IsSetOf (entered_at (turn_of s) leaf shape slot) set
@@ -159,9 +217,21 @@ swap true false true = refl
 swap true false false = refl
 swap false a m = refl
 
-pub goal_case_same : (s : Stand) (a : Accesses) (leaf : List Atom) (op : Op) (lead : DataWay) (goal : Goal) (c : ACase) → is_data (kind_of op) ≡ true → all_judged (shape_at (goal_shape op lead.end goal)) leaf ≡ true → are_between leaf ≡ true → c.op ≡ op_number op
-    → AreDomains (domain (turn_of s) 0 leaf op (goal_way (turn_of s) a leaf op lead goal)) SLOTS c.doms → c.rels ≡ goal_rels s leaf (goal_shape op lead.end goal) → FitsSame (c ∷ []) (case_at (turn_of s) 0 leaf op (goal_way (turn_of s) a leaf op lead goal) ∷ [])
-goal_case_same s a leaf op lead goal c kind j b n d r x hx = (there, back)
+-- the relation of a place holds where the address leads there
+place_same : (op : Op) (x : Assignment) (place : Option (List ℕ)) (test : ℕ → Bool) → IsAssignment x → IsCut test place → list_all (holds op x) (place_rel place) ≡ test (value_of x slots.Ea)
+place_same op x None test hx cut = sym (cut (value_of x slots.Ea) (word_at x hx slots.Ea))
+place_same op x (Some set) test hx cut = and_true (is_in set (value_of x slots.Ea)) ∙ cut (value_of x slots.Ea) (word_at x hx slots.Ea)
+
+-- the two relations of a place hold where the address counts and leads there
+places_same : (s : Stand) (a : Accesses) (leaf : List Atom) (op : Op) (lead : DataWay) (goal : Goal) (x : Assignment) (place : Place) → IsAssignment x → IsPlace a op lead (all_tests (turn_of s) leaf vars.Pa) goal place
+    → list_all (holds op x) (place_rels place) ≡ leads s a leaf op lead goal (value_of x slots.Ea)
+places_same s a leaf op lead goal x place hx is =
+    list_all-append (holds op x) (place_rel place.apart) (place_rel place.leads)
+    ∙ both_same _ _ _ _ (place_same op x place.apart (apart_test lead goal) hx is.apart) (place_same op x place.leads (there_test a op lead (all_tests (turn_of s) leaf vars.Pa) goal) hx is.leads)
+
+pub goal_case_same : (s : Stand) (a : Accesses) (leaf : List Atom) (op : Op) (lead : DataWay) (goal : Goal) (c : ACase) (place : Place) → is_data (kind_of op) ≡ true → all_judged (shape_at (goal_shape op lead.end goal)) leaf ≡ true → are_between leaf ≡ true → c.op ≡ op_number op
+    → AreDomains (near_domain s leaf op lead goal) SLOTS c.doms → c.rels ≡ goal_rels s leaf (goal_shape op lead.end goal) ++ place_rels place → IsPlace a op lead (all_tests (turn_of s) leaf vars.Pa) goal place → FitsSame (c ∷ []) (case_at (turn_of s) 0 leaf op (goal_way (turn_of s) a leaf op lead goal) ∷ [])
+goal_case_same s a leaf op lead goal c place kind j b n d r cut x hx = (there, back)
   where
     sh : AShape
     sh = shape_at (goal_shape op lead.end goal)
@@ -169,18 +239,29 @@ goal_case_same s a leaf op lead goal c kind j b n d r x hx = (there, back)
     way : AWay
     way = goal_way (turn_of s) a leaf op lead goal
 
-    inside : (slot : Slot) → is_in (domain_of c slot) (value_of x slot) ≡ domain (turn_of s) 0 leaf op way slot (value_of x slot)
-    inside slot =
-        ap (λ (set : List ℕ). is_in set (value_of x slot)) (domain_in_case c slot)
-        ∙ each_domain (λ q set. IsSetOf (domain (turn_of s) 0 leaf op way q) set) c.doms d slot (value_of x slot) (word_at x hx slot)
+    led : Bool
+    led = leads s a leaf op lead goal (value_of x slots.Ea)
 
-    split : value_of x slots.Op ≡ c.op → list_all (holds (op_numbered c.op) x) c.rels ≡ (sources_hold (turn_of s) sh (values_in x) && all_relate op (value_at sh s.pc 0 (values_in x)) leaf)
+    near : (slot : Slot) → is_in (domain_of c slot) (value_of x slot) ≡ near_domain s leaf op lead goal slot (value_of x slot)
+    near slot =
+        ap (λ (set : List ℕ). is_in set (value_of x slot)) (domain_in_case c slot)
+        ∙ each_domain (λ q set. IsSetOf (near_domain s leaf op lead goal q) set) c.doms d slot (value_of x slot) (word_at x hx slot)
+
+    inside : led ≡ true → (slot : Slot) → is_in (domain_of c slot) (value_of x slot) ≡ domain (turn_of s) 0 leaf op way slot (value_of x slot)
+    inside h slot = near slot ∙ whole_domain s a leaf op lead goal (value_of x slots.Ea) h slot (value_of x slot) (λ e. ap (value_of x) e)
+
+    split : value_of x slots.Op ≡ c.op → list_all (holds (op_numbered c.op) x) c.rels ≡ ((sources_hold (turn_of s) sh (values_in x) && all_relate op (value_at sh s.pc 0 (values_in x)) leaf) && led)
     split e =
         ap (λ (o : Op). list_all (holds o x) c.rels) (ap op_numbered n ∙ read op) ∙ ap (λ (l : List Rel). list_all (holds op x) l) r
-        ∙ list_all-append (holds op x) (source_rels sh s.registers ++ atom_rels leaf) (sum_rel (uses_address sh))
-        ∙ both_same _ _ _ _ (list_all-append (holds op x) (source_rels sh s.registers) (atom_rels leaf) ∙ both_same _ _ _ _ (known_same s op sh x) (atoms_same x s.pc sh (e ∙ n) leaf j b)) (sum_same op x (uses_address sh))
-        ∙ swap (known_sources s sh (values_in x)) (all_relate op (value_at sh s.pc 0 (values_in x)) leaf) (unless (uses_address sh) (sum_of x))
-        ∙ ap (λ (y : Bool). y && all_relate op (value_at sh s.pc 0 (values_in x)) leaf) (sources_same s op sh x kind (e ∙ n))
+        ∙ list_all-append (holds op x) (goal_rels s leaf (goal_shape op lead.end goal)) (place_rels place)
+        ∙ both_same _ _ _ _ (own e) (places_same s a leaf op lead goal x place hx cut)
+      where
+        own : value_of x slots.Op ≡ c.op → list_all (holds op x) (goal_rels s leaf (goal_shape op lead.end goal)) ≡ (sources_hold (turn_of s) sh (values_in x) && all_relate op (value_at sh s.pc 0 (values_in x)) leaf)
+        own e =
+            list_all-append (holds op x) (source_rels sh s.registers ++ atom_rels leaf) (sum_rel (uses_address sh))
+            ∙ both_same _ _ _ _ (list_all-append (holds op x) (source_rels sh s.registers) (atom_rels leaf) ∙ both_same _ _ _ _ (known_same s op sh x) (atoms_same x s.pc sh (e ∙ n) leaf j b)) (sum_same op x (uses_address sh))
+            ∙ swap (known_sources s sh (values_in x)) (all_relate op (value_at sh s.pc 0 (values_in x)) leaf) (unless (uses_address sh) (sum_of x))
+            ∙ ap (λ (y : Bool). y && all_relate op (value_at sh s.pc 0 (values_in x)) leaf) (sources_same s op sh x kind (e ∙ n))
 
     no_aim : (y : Bool) → unless (uses sh vars.Target) y ≡ true
     no_aim y = ap (λ (u : Bool). unless u y) (no_target op kind sh.outcome sh.reaches)
@@ -189,36 +270,53 @@ goal_case_same s a leaf op lead goal c kind j b n d r x hx = (there, back)
     there h =
         let k : fits_case x c ≡ true = sym (or_none (fits_case x c)) ∙ h in
         let e = number_of x c k in
-        let p = and_parts (sources_hold (turn_of s) sh (values_in x)) (all_relate op (value_at sh s.pc 0 (values_in x)) leaf) (sym (split e) ∙ relations_of x c k) in
+        let q = and_parts (sources_hold (turn_of s) sh (values_in x) && all_relate op (value_at sh s.pc 0 (values_in x)) leaf) led (sym (split e) ∙ relations_of x c k) in
+        let p = and_parts (sources_hold (turn_of s) sh (values_in x)) (all_relate op (value_at sh s.pc 0 (values_in x)) leaf) q.0 in
         inl (record {
           op = e ∙ n;
-          each = λ slot. sym (inside slot) ∙ each_within c x (within_of x c k) slot;
-          holds = subst (λ (q : AShape). (sources_hold (turn_of s) q (values_in x) && (atoms_hold (turn_of s) leaf q (values_in x) && true)) ≡ true) (sym (same_shape s a leaf op lead goal))
+          each = λ slot. sym (inside q.1 slot) ∙ each_within c x (within_of x c k) slot;
+          holds = subst (λ (w : AShape). (sources_hold (turn_of s) w (values_in x) && (atoms_hold (turn_of s) leaf w (values_in x) && true)) ≡ true) (sym (same_shape s a leaf op lead goal))
               (and_from _ _ p.0 (and_from _ _ (and_from _ _ p.1 (no_aim _)) refl));
         })
 
     back : Fits (case_at (turn_of s) 0 leaf op way ∷ []) (values_in x) → list_any (fits_case x) (c ∷ []) ≡ true
     back (inl f) =
         let e : value_of x slots.Op ≡ c.op = f.op ∙ sym n in
+        let here = and_parts (near_domain s leaf op lead goal slots.Ea (value_of x slots.Ea)) led (sym (ea_parts s a leaf op lead goal (value_of x slots.Ea)) ∙ f.each slots.Ea) in
         let all = subst (λ (q : AShape). (sources_hold (turn_of s) q (values_in x) && (atoms_hold (turn_of s) leaf q (values_in x) && true)) ≡ true) (same_shape s a leaf op lead goal) f.holds in
         let one = and_parts (sources_hold (turn_of s) sh (values_in x)) (atoms_hold (turn_of s) leaf sh (values_in x) && true) all in
         let two = and_parts (atoms_hold (turn_of s) leaf sh (values_in x)) true one.1 in
         let atoms = and_parts (all_relate op (value_at sh s.pc 0 (values_in x)) leaf) _ two.0 in
-        or_none (fits_case x c) ∙ fits_from x c e (all_within c x (λ slot. inside slot ∙ f.each slot)) (split e ∙ and_from _ _ one.0 atoms.0)
+        or_none (fits_case x c) ∙ fits_from x c e (all_within c x (λ slot. inside here.1 slot ∙ f.each slot)) (split e ∙ and_from _ _ (and_from _ _ one.0 atoms.0) here.1)
     back (inr f) = absurd f
 
 -- where no address fits, nothing does
-pub goal_empty : (s : Stand) (a : Accesses) (leaf : List Atom) (op : Op) (way : DataWay) (goal : Goal) (ea : List ℕ) → IsSetOf (domain (turn_of s) 0 leaf op (goal_way (turn_of s) a leaf op way goal) slots.Ea) ea → ea ≡ []
+none_fits : (s : Stand) (a : Accesses) (leaf : List Atom) (op : Op) (way : DataWay) (goal : Goal) → ((v : ℕ) → v < 2 ^ 32 → domain (turn_of s) 0 leaf op (goal_way (turn_of s) a leaf op way goal) slots.Ea v ≡ true → ⊥)
     → FitsSame [] (stand_cases s leaf op (goal_way (turn_of s) a leaf op way goal ∷ []))
-goal_empty s a leaf op way goal ea is none x hx = (λ h. absurd (cc h), λ f. absurd (nothing (is_posed_at s leaf (shape_of op (goal_way (turn_of s) a leaf op way goal))) f))
+none_fits s a leaf op way goal none x hx = (λ h. absurd (cc h), λ f. absurd (nothing (is_posed_at s leaf (shape_of op (goal_way (turn_of s) a leaf op way goal))) f))
   where
     nothing : (b : Bool) → Fits (case_if b (case_at (turn_of s) 0 leaf op (goal_way (turn_of s) a leaf op way goal)) []) (values_in x) → ⊥
-    nothing true (inl f) =
-        let y : is_in ea (value_of x slots.Ea) ≡ true = is (value_of x slots.Ea) (word_at x hx slots.Ea) ∙ f.each slots.Ea in
-        let z : is_in [] (value_of x slots.Ea) ≡ true = subst (λ (l : List ℕ). is_in l (value_of x slots.Ea) ≡ true) none y in
-        absurd (cc z)
+    nothing true (inl f) = none (value_of x slots.Ea) (word_at x hx slots.Ea) (f.each slots.Ea)
     nothing true (inr f) = absurd f
     nothing false f = absurd f
+
+in_none : (set : List ℕ) (v : ℕ) → set ≡ [] → is_in set v ≡ true → ⊥
+in_none set v e h = let z : is_in [] v ≡ true = subst (λ (l : List ℕ). is_in l v ≡ true) e h in absurd (cc z)
+
+pub goal_empty : (s : Stand) (a : Accesses) (leaf : List Atom) (op : Op) (way : DataWay) (goal : Goal) (ea : List ℕ) → IsSetOf (near_domain s leaf op way goal slots.Ea) ea → ea ≡ []
+    → FitsSame [] (stand_cases s leaf op (goal_way (turn_of s) a leaf op way goal ∷ []))
+goal_empty s a leaf op way goal ea is none =
+    none_fits s a leaf op way goal (λ v small h. in_none ea v none (is v small ∙ (and_parts (near_domain s leaf op way goal slots.Ea v) (leads s a leaf op way goal v) (sym (ea_parts s a leaf op way goal v) ∙ h)).0))
+
+-- and where no address leads there
+pub goal_nowhere : (s : Stand) (a : Accesses) (leaf : List Atom) (op : Op) (way : DataWay) (goal : Goal) (set : Option (List ℕ)) → IsCut (there_test a op way (all_tests (turn_of s) leaf vars.Pa) goal) set → set ≡ Some []
+    → FitsSame [] (stand_cases s leaf op (goal_way (turn_of s) a leaf op way goal ∷ []))
+goal_nowhere s a leaf op way goal set cut e =
+    let there : ℕ → Bool = there_test a op way (all_tests (turn_of s) leaf vars.Pa) goal in
+    let is : IsSetOf there [] = subst (λ (o : Option (List ℕ)). IsCut there o) e cut in
+    none_fits s a leaf op way goal (λ v small h.
+    let led = and_parts (near_domain s leaf op way goal slots.Ea v) (leads s a leaf op way goal v) (sym (ea_parts s a leaf op way goal v) ∙ h) in
+    in_none [] v refl (is v small ∙ (and_parts (apart_test way goal v) (there v) led.1).1))
 
 -- APPENDING
 ways_of_data : (s : Stand) (leaf : List Atom) (op : Op) (a : Accesses) → is_data (kind_of op) ≡ true → s.accesses ≡ Some a → ways_at s leaf op ≡ goal_ways (turn_of s) a leaf op

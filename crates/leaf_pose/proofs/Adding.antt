@@ -10,6 +10,7 @@ use Rattle.rv_script.specs.Logs.{answer_told, by_answers}
 use Rattle.sv_walk.specs.declared.entry.Kind.{Kind}
 use Rattle.sv_walk.specs.declared.entry.Kind.TheVariants.{Load as ForLoad, Store as ForStore}
 use Rattle.sv_walk.specs.Translation.{At, translated}
+use Rattle.row_parts.specs.Gaps.{counts}
 use Rattle.addr_rows.specs.Walks.{EntryRow, entry_answers}
 use Rattle.rv_hart.specs.Machine.{data_view, size_of}
 use Rattle.fd_prob.specs.declared.relation.Quad.{Quad}
@@ -21,7 +22,7 @@ use Rattle.data_ways.specs.Ways.{reached_by}
 use Rattle.data_goals.specs.declared.accesses.Accesses.{Accesses}
 use Rattle.data_goals.specs.declared.goal.Goal.{Goal}
 use Rattle.data_goals.specs.declared.goal.Goal.TheVariants.{Fails, Fresh, Known, Misaligned}
-use Rattle.data_goals.specs.Goals.{access_of, address_test, cause_of, end_test, entry_test, goal_test, goal_way, goal_ways, goals_by, is_aligned_to, leads_to, misses, place_at, retires as goal_retires, target_test as is_target, ways_for}
+use Rattle.data_goals.specs.Goals.{access_of, address_test, cause_of, end_test, entry_test, goal_test, goal_way, goal_ways, goals_by, is_aligned_to, leads_to, misses, place_at, retires as goal_retires, target_test as is_target, way_in, ways_for}
 use Rattle.data_goals.specs.Grounds.{HasAccesses}
 use Rattle.data_goals.specs.Laws.{AreSmall, GoalsAreWays, WaysAreGoals}
 use Rattle.data_goals.proofs.Through.{in_through, through_has}
@@ -67,12 +68,12 @@ use Rattle.leaf_pose.specs.Posed.{AreShaped, HasFitted, IsShaped}
 use Rattle.leaf_stand.specs.Kinds.{kind_of}
 use Rattle.leaf_stand.specs.Posed.{data_ways, is_data, is_posed_at, stand_ways}
 use Rattle.leaf_stand.specs.Relations.{IsTargetSet, are_between, atom_rels, speak_of, speaks_of, target_rel, target_test}
-use Rattle.leaf_stand.specs.Stands.{IsDataOf, IsStandOf, outcome_at, shape_at, turn_of}
+use Rattle.leaf_stand.specs.Stands.{IsStandOf, outcome_at, shape_at, turn_of}
 use Rattle.leaf_stand.proofs.Rows.{built_address, data_address}
 use Rattle.leaf_stand.proofs.Single.{atoms_same, both_same, number_of, targets_same, word_at}
 use Rattle.leaf_stand.proofs.Silent.{silent}
 use Rattle.leaf_stand.specs.DataRows.{AreRowsOf, AreRowsOfPages}
-use Rattle.leaf_stand.proofs.Turning.{AreGoals, AreSameWays, IsSameWay, all_same, all_same_alone, atoms_agree, case_there, data_step, goal_same, posed_agrees, way_moved, ways_same}
+use Rattle.leaf_stand.proofs.Turning.{AreGoals, AreSameWays, IsSameWay, all_same, atoms_agree, case_there, data_step, goal_same, posed_agrees, way_moved, ways_same}
 use Rattle.leaf_link.proofs.Front.{has_either, has_first, has_second}
 use Rattle.leaf_pose.proofs.OneAddress.{one_address}
 use Rattle.leaf_pose.proofs.Steps.{plain_ways}
@@ -180,15 +181,15 @@ relations_meet s bias shape rels x place says b j e r =
 
 -- WHAT AN EXTRA LETS THROUGH
 cut_same : (s : Stand) (t : Turn) (walk : List Entry) (pa : ℕ) → IsStandOf s t walk pa → (bias : List Atom) (slot : Slot) (v : ℕ) → bias_cut t bias slot v ≡ bias_cut (turn_of s) bias slot v
-cut_same s t walk pa h bias slots.Op v = all_same s t walk pa h bias vars.Op v refl
-cut_same s t walk pa h bias slots.Rs1 v = all_same s t walk pa h bias vars.Rs1 v refl
-cut_same s t walk pa h bias slots.Rs2 v = all_same s t walk pa h bias vars.Rs2 v refl
-cut_same s t walk pa h bias slots.Imm v = all_same s t walk pa h bias vars.Imm v refl
-cut_same s t walk pa h bias slots.Rd v = all_same s t walk pa h bias vars.Rd v refl
-cut_same s t walk pa h bias slots.Csr v = all_same s t walk pa h bias vars.Csr v refl
-cut_same s t walk pa h bias slots.Ea v = all_same s t walk pa h bias vars.Ea v refl
-cut_same s t walk pa h bias slots.A v = all_same s t walk pa h bias vars.A v refl
-cut_same s t walk pa h bias slots.B v = all_same s t walk pa h bias vars.B v refl
+cut_same s t walk pa h bias slots.Op v = all_same s t walk pa h bias vars.Op v
+cut_same s t walk pa h bias slots.Rs1 v = all_same s t walk pa h bias vars.Rs1 v
+cut_same s t walk pa h bias slots.Rs2 v = all_same s t walk pa h bias vars.Rs2 v
+cut_same s t walk pa h bias slots.Imm v = all_same s t walk pa h bias vars.Imm v
+cut_same s t walk pa h bias slots.Rd v = all_same s t walk pa h bias vars.Rd v
+cut_same s t walk pa h bias slots.Csr v = all_same s t walk pa h bias vars.Csr v
+cut_same s t walk pa h bias slots.Ea v = all_same s t walk pa h bias vars.Ea v
+cut_same s t walk pa h bias slots.A v = all_same s t walk pa h bias vars.A v
+cut_same s t walk pa h bias slots.B v = all_same s t walk pa h bias vars.B v
 cut_same s t walk pa h bias slots.FirstPte v = refl
 cut_same s t walk pa h bias slots.SecondPte v = refl
 cut_same s t walk pa h bias slots.DataWord v = refl
@@ -312,10 +313,10 @@ pinned_address : (a : Accesses) (op : Op) (way : DataWay) (wanted : ℕ → Bool
 pinned_address a op way wanted Misaligned v h = h
 pinned_address a op way wanted Fails v h = h
 pinned_address a op way wanted Known v h =
-    let k = and_parts (is_in way.ea v && is_aligned_to op v) (leads_to way.end (is_target a op (is_in a.bytes.known) wanted) v) h in
+    let k = and_parts (way_in way v && is_aligned_to op v) (leads_to way.end (is_target a op (is_in a.bytes.known) wanted) v) h in
     and_from _ _ k.0 (pinned_leads a op (is_in a.bytes.known) wanted way.end v k.1)
 pinned_address a op way wanted Fresh v h =
-    let k = and_parts (is_in way.ea v && is_aligned_to op v) (leads_to way.end (is_target a op (is_in a.bytes.fresh) wanted) v) h in
+    let k = and_parts (way_in way v && is_aligned_to op v) (leads_to way.end (is_target a op (is_in a.bytes.fresh) wanted) v) h in
     and_from _ _ k.0 (pinned_leads a op (is_in a.bytes.fresh) wanted way.end v k.1)
 
 pinned_goal : (a : Accesses) (op : Op) (way : DataWay) (wanted : ℕ → Bool) (goal : Goal) (x : Values) (slot : Slot) → goal_test a op way wanted goal slot (x slot) ≡ true → goal_test a op way (λ n. is_in (place_at way.end (x slots.Ea) ∷ []) n && wanted n) goal slot (x slot) ≡ true
@@ -365,10 +366,10 @@ abbrev IsLed : Turn → Values → ℕ → Kind → Type 0
 IsLed t x p kind = (log : List Entry) × (answer_told (by_answers t.known (entry_answers (x slots.FirstPte) (x slots.SecondPte))) (translated t.fixed.ram (data_view t.fixed) kind (x slots.Ea)) ≡ Does log (At p))
 
 led_either : (t : Turn) (a : Accesses) (walk : List Entry) (pa : ℕ) → HasAccesses t walk pa a → (way : DataWay) (base mask : ℕ) (x : Values) → AreSmall x → HasItem (a.loads.items ++ a.stores.items) way → way.end ≡ ends.At base mask
-    → is_in way.ea (x slots.Ea) ≡ true → is_in way.first (x slots.FirstPte) ≡ true → is_in way.second (x slots.SecondPte) ≡ true → IsLed t x ((base + bit_and (x slots.Ea) mask) % 2 ^ 32) ForLoad ⊎ IsLed t x ((base + bit_and (x slots.Ea) mask) % 2 ^ 32) ForStore
+    → way_in way (x slots.Ea) ≡ true → is_in way.first (x slots.FirstPte) ≡ true → is_in way.second (x slots.SecondPte) ≡ true → IsLed t x ((base + bit_and (x slots.Ea) mask) % 2 ^ 32) ForLoad ⊎ IsLed t x ((base + bit_and (x slots.Ea) mask) % 2 ^ 32) ForStore
 led_either t a walk pa has way base mask x small item end ea first second = elim (has_either a.loads.items a.stores.items way item) [
-  | inl i ↦ let r = has.loads.sound way i (x slots.Ea) (x slots.FirstPte) (x slots.SecondPte) (small slots.Ea) ea first second in inl (r.0, subst (λ (d : DataEnd). led_by ForLoad r.0 d) end r.1.plays)
-  | inr i ↦ let r = has.stores.sound way i (x slots.Ea) (x slots.FirstPte) (x slots.SecondPte) (small slots.Ea) ea first second in inr (r.0, subst (λ (d : DataEnd). led_by ForStore r.0 d) end r.1.plays)
+  | inl i ↦ let e = and_parts (counts way.apart (x slots.Ea)) (is_in way.ea (x slots.Ea)) ea in let r = has.loads.sound way i (x slots.Ea) (x slots.FirstPte) (x slots.SecondPte) (small slots.Ea) e.0 e.1 first second in inl (r.0, subst (λ (d : DataEnd). led_by ForLoad r.0 d) end r.1.plays)
+  | inr i ↦ let e = and_parts (counts way.apart (x slots.Ea)) (is_in way.ea (x slots.Ea)) ea in let r = has.stores.sound way i (x slots.Ea) (x slots.FirstPte) (x slots.SecondPte) (small slots.Ea) e.0 e.1 first second in inr (r.0, subst (λ (d : DataEnd). led_by ForStore r.0 d) end r.1.plays)
 ]
   where
     led_by : Kind → List Entry → DataEnd → Type 0
@@ -415,7 +416,7 @@ leads_at (ends.Fails cause) test v h = absurd (cc)
 
 -- of the ways that the values are in, the rows have what leads where the bias wants it
 lead_there : (t : Turn) (a : Accesses) (walk : List Entry) (pa : ℕ) → HasAccesses t walk pa a → (test : ℕ → Bool) (way : DataWay) (base mask : ℕ) (x : Assignment) → AreSmall (values_in x) → HasItem (a.loads.items ++ a.stores.items) way → way.end ≡ ends.At base mask
-    → is_in way.ea (value_of x slots.Ea) ≡ true → is_in way.first (value_of x slots.FirstPte) ≡ true → is_in way.second (value_of x slots.SecondPte) ≡ true
+    → way_in way (value_of x slots.Ea) ≡ true → is_in way.first (value_of x slots.FirstPte) ≡ true → is_in way.second (value_of x slots.SecondPte) ≡ true
     → lead_so test x (a.loads.items ++ a.stores.items) ≡ test ((base + bit_and (value_of x slots.Ea) mask) % 2 ^ 32)
 lead_there t a walk pa has test way base mask x small item end ea first second = both_or_neither _ _ there back
   where
@@ -428,8 +429,8 @@ lead_there t a walk pa has test way base mask x small item end ea first second =
     there : lead_so test x (a.loads.items ++ a.stores.items) ≡ true → test place ≡ true
     there h =
         let r = any_item tells (a.loads.items ++ a.stores.items) h in
-        let k = and_parts (is_in r.0.ea (value_of x slots.Ea) && leads_to r.0.end test (value_of x slots.Ea)) (is_in r.0.first (value_of x slots.FirstPte) && is_in r.0.second (value_of x slots.SecondPte)) r.2 in
-        let m = and_parts (is_in r.0.ea (value_of x slots.Ea)) (leads_to r.0.end test (value_of x slots.Ea)) k.0 in
+        let k = and_parts (way_in r.0 (value_of x slots.Ea) && leads_to r.0.end test (value_of x slots.Ea)) (is_in r.0.first (value_of x slots.FirstPte) && is_in r.0.second (value_of x slots.SecondPte)) r.2 in
+        let m = and_parts (way_in r.0 (value_of x slots.Ea)) (leads_to r.0.end test (value_of x slots.Ea)) k.0 in
         let n = and_parts (is_in r.0.first (value_of x slots.FirstPte)) (is_in r.0.second (value_of x slots.SecondPte)) k.1 in
         let d = leads_at r.0.end test (value_of x slots.Ea) m.1 in
         let e = led_same t (values_in x) ((d.0 + bit_and (value_of x slots.Ea) d.1) % 2 ^ 32) place (led_either t a walk pa has r.0 d.0 d.1 (values_in x) small r.1 d.2 m.0 n.0 n.1) (led_either t a walk pa has way base mask (values_in x) small item end ea first second) in
@@ -450,7 +451,7 @@ record IsReached (way : DataWay) (x : Values) : Type 0 where
   base : ℕ
   mask : ℕ
   end : way.end ≡ ends.At base mask
-  ea : is_in way.ea (x slots.Ea) ≡ true
+  ea : way_in way (x slots.Ea) ≡ true
   first : is_in way.first (x slots.FirstPte) ≡ true
   second : is_in way.second (x slots.SecondPte) ≡ true
 
@@ -495,12 +496,12 @@ data_turned laws s t walk pa loads stores h leaf bias posed rows shape x hx n f 
     small : AreSmall (values_in x)
     small slot = word_at x hx slot
 
-    of_accesses : (o : Option Accesses) → s.accesses ≡ o → IfSome o (IsDataOf t walk pa) → IfSome o (AreRowsOfPages t leaf loads stores) → HasItem (data_ways s leaf shape.op o) f.whole → IsTurned s t walk pa leaf bias shape x
+    of_accesses : (o : Option Accesses) → s.accesses ≡ o → IfSome o (HasAccesses t walk pa) → IfSome o (AreRowsOfPages t leaf loads stores) → HasItem (data_ways s leaf shape.op o) f.whole → IsTurned s t walk pa leaf bias shape x
     of_accesses None told is are item = absurd item
     of_accesses (Some a) told is are item =
         let op = shape.op in
         let g = goal_of (turn_of s) a leaf op f.whole item in
-        let same = goal_same s t walk pa h is.alone a leaf op g.lead g.goal in
+        let same = goal_same s t walk pa h a leaf op g.lead g.goal in
         let way = goal_way t a leaf op g.lead g.goal in
         let outcome_is : way.outcome ≡ outcome_at shape.end = sym same.outcome ∙ ap (λ (w : AWay). w.outcome) g.is ∙ f.outcome in
         let reaches_is : way.reaches ≡ shape.reaches = sym same.reaches ∙ ap (λ (w : AWay). w.reaches) g.is ∙ f.reaches in
@@ -511,7 +512,7 @@ data_turned laws s t walk pa loads stores h leaf bias posed rows shape x hx n f 
         ∙ ap (λ (sh : AShape). is_posed_at s leaf sh) (shape_is op (outcome_at shape.end) shape.reaches (goal_way (turn_of s) a leaf op g.lead g.goal) (ap (λ (w : AWay). w.outcome) g.is ∙ f.outcome) (ap (λ (w : AWay). w.reaches) g.is ∙ f.reaches)) ∙ f.posed in
         let address = data_address op n in
         let m = way_moved t walk pa leaf op (goal_ways t a leaf op) (ways_of t walk pa leaf loads stores op) (values_in x) way
-        (laws.goals.there t walk pa a loads stores leaf op (values_in x) way.outcome way.reaches (data_step t walk pa leaf a loads stores is.has posed.fetched are op (values_in x) small address way posed_here here)) (g.stands t leaf) posed_here here in
+        (laws.goals.there t walk pa a loads stores leaf op (values_in x) way.outcome way.reaches (data_step t walk pa leaf a loads stores is posed.fetched are op (values_in x) small address way posed_here here)) (g.stands t leaf) posed_here here in
         record {
           ways = ways_of t walk pa leaf loads stores op;
           owed = laws.all t walk pa leaf (is_in a.pages) loads stores posed.fetched are.pages are.loads are.stores op;
@@ -521,12 +522,12 @@ data_turned laws s t walk pa loads stores h leaf bias posed rows shape x hx n f 
           fits = record { posed = m.posed; fits = m.fits };
           place = place_at g.lead.end (value_of x slots.Ea);
           address = λ r.
-              all_same_alone s t walk pa h is.alone bias vars.Pa (address_by t (values_in x))
-              ∙ ap (λ (v : ℕ). all_tests (turn_of s) bias vars.Pa v) (place_is laws t walk pa a leaf loads stores is.has posed.fetched are posed.plain op g.lead g.goal (values_in x) (g.stands t) address small posed_here here (reaches_is ∙ r));
+              all_same s t walk pa h bias vars.Pa (address_by t (values_in x))
+              ∙ ap (λ (v : ℕ). all_tests (turn_of s) bias vars.Pa v) (place_is laws t walk pa a leaf loads stores is posed.fetched are posed.plain op g.lead g.goal (values_in x) (g.stands t) address small posed_here here (reaches_is ∙ r));
           says = λ quads told_rows r.
               let led = reached_of t pa a leaf op g.lead g.goal (values_in x) here (g.listed (reaches_is ∙ r)) (reaches_is ∙ r) in
               let rows_are : AreAddressRows s bias quads a = subst (λ (o : Option Accesses). IfSome o (AreAddressRows s bias quads)) told told_rows in
-              rows_are x hx ∙ lead_there t a walk pa is.has (all_tests (turn_of s) bias vars.Pa) g.lead led.base led.mask x small (for_item a op g.lead (g.leads (reaches_is ∙ r))) led.end led.ea led.first led.second
+              rows_are x hx ∙ lead_there t a walk pa is (all_tests (turn_of s) bias vars.Pa) g.lead led.base led.mask x small (for_item a op g.lead (g.leads (reaches_is ∙ r))) led.end led.ea led.first led.second
               ∙ ap (λ (d : DataEnd). all_tests (turn_of s) bias vars.Pa (place_at d (value_of x slots.Ea))) (sym led.end);
         }
 
@@ -562,7 +563,7 @@ one_added laws s t walk pa loads stores h leaf bias law posed rows plain built b
     stays_same : bias_stays t bias shape.op w.way ≡ stays_at s bias shape
     stays_same =
         both_same _ _ _ _ (ap (λ (sh : AShape). all_judged sh bias) w.same_shape)
-        (all_same s t walk pa h bias vars.Outcome w.way.outcome refl ∙ ap (λ (sh : AShape). all_tests (turn_of s) bias vars.Outcome sh.outcome) w.same_shape)
+        (all_same s t walk pa h bias vars.Outcome w.way.outcome ∙ ap (λ (sh : AShape). all_tests (turn_of s) bias vars.Outcome sh.outcome) w.same_shape)
 
     related : all_judged (shape_at shape) bias ≡ true
         → list_all (holds (op_numbered c.op) x) e.rels ≡ (atoms_hold t bias (shape_of shape.op w.way) (values_in x) && unless shape.reaches (all_tests (turn_of s) bias vars.Pa w.place))

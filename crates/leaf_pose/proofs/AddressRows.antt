@@ -1,12 +1,13 @@
 -- The rows of the addresses that lead where a bias wants the physical one.
 use Rattle.std.proofs.Common.{◌≡◌, ℕ, ◌+◌, ◌%◌, ◌<◌, ◌≤◌, ◌^◌, Bool, true, false, ◌&&◌, ◌||◌, List, [], ◌∷◌, ◌++◌, refl, sym, ap, ◌∙◌, arith, suc, drop, get_or, length}
-use Rattle.std.specs.Prelude.{bit_and}
+use Rattle.std.specs.Prelude.{bit_and, not}
 use Rattle.std.specs.List.{filter}
 use Rattle.std.proofs.Math.Seq.{drop-cons}
 use Rattle.std.proofs.lemmas.List.{drop_all}
 use Rattle.std.proofs.lemmas.List.Folds.{list_any-append}
 use Rattle.dom_set.specs.Elements.{elements_of, is_in}
 use Rattle.dom_set.proofs.Sets.{is_in-elements}
+use Rattle.row_parts.specs.Gaps.{are_indices_equal, counts}
 use Rattle.tpl_ast.specs.declared.template.Atom.{Atom}
 use Rattle.tpl_ast.specs.declared.template.Var.TheVariants as vars
 use Rattle.fd_prob.specs.declared.problem.Assignment.{Assignment}
@@ -18,7 +19,7 @@ use Rattle.data_ways.specs.declared.way.DataEnd.{DataEnd}
 use Rattle.data_ways.specs.declared.way.DataEnd.TheVariants as ends
 use Rattle.data_ways.specs.declared.way.DataWay.{DataWay}
 use Rattle.data_goals.specs.declared.accesses.Accesses.{Accesses}
-use Rattle.data_goals.specs.Goals.{leads_to}
+use Rattle.data_goals.specs.Goals.{leads_to, way_in}
 use Rattle.leaf_link.specs.Cases.{all_tests}
 use Rattle.leaf_csrs.proofs.Counted.{in_both}
 use Rattle.leaf_stand.specs.declared.stand.Stand.{Stand}
@@ -47,7 +48,7 @@ so_same : (f g : ℕ → Bool) → ((v : ℕ) → v < 2 ^ 32 → f v ≡ g v) �
 so_same f g h x [] = refl
 so_same f g h x (way ∷ ways) =
     let inner : Bool = is_in way.first (value_of x slots.FirstPte) && is_in way.second (value_of x slots.SecondPte) in
-    ap (λ (b : Bool). ((is_in way.ea (value_of x slots.Ea) && b) && inner) || lead_so f x ways) (leads_same f g h way.end (value_of x slots.Ea))
+    ap (λ (b : Bool). ((way_in way (value_of x slots.Ea) && b) && inner) || lead_so f x ways) (leads_same f g h way.end (value_of x slots.Ea))
     ∙ ap (λ (b : Bool). leads_so g (value_of x slots.Ea) (value_of x slots.FirstPte) (value_of x slots.SecondPte) way || b) (so_same f g h x ways)
 
 -- ONE WAY
@@ -58,9 +59,9 @@ and_not false b = refl
 nowhere_leads : (test : ℕ → Bool) (way : DataWay) (ea first second : ℕ) → ((base mask : ℕ) → way.end ≡ ends.At base mask → ⊥) → leads_so test ea first second way ≡ false
 nowhere_leads test way ea first second never = go way.end never
   where
-    go : (end : DataEnd) → ((base mask : ℕ) → end ≡ ends.At base mask → ⊥) → ((is_in way.ea ea && leads_to end test ea) && (is_in way.first first && is_in way.second second)) ≡ false
+    go : (end : DataEnd) → ((base mask : ℕ) → end ≡ ends.At base mask → ⊥) → ((way_in way ea && leads_to end test ea) && (is_in way.first first && is_in way.second second)) ≡ false
     go (ends.At base mask) k = absurd (k base mask refl)
-    go (ends.Fails cause) k = and_not (is_in way.ea ea) (is_in way.first first && is_in way.second second)
+    go (ends.Fails cause) k = and_not (way_in way ea) (is_in way.first first && is_in way.second second)
 
 pub no_row : (test : ℕ → Bool) (way : DataWay) (old : List Quad) → ((x : Assignment) → IsAssignment x → leads_so test (value_of x slots.Ea) (value_of x slots.FirstPte) (value_of x slots.SecondPte) way ≡ false) → AddsRows test (way ∷ []) old old
 no_row test way old never x hx = sym (ap (λ (b : Bool). in_rows x old || (b || false)) (never x hx) ∙ or_none (in_rows x old))
@@ -69,13 +70,33 @@ pub nowhere : (test : ℕ → Bool) (way : DataWay) (old : List Quad) → ((base
 nowhere test way old never = no_row test way old (λ x hx. nowhere_leads test way (value_of x slots.Ea) (value_of x slots.FirstPte) (value_of x slots.SecondPte) never)
 
 abbrev there_of : (ℕ → Bool) → DataWay → ℕ → Bool
-there_of test way v = is_in way.ea v && leads_to way.end test v
+there_of test way v = way_in way v && leads_to way.end test v
+
+all_of : (c e l : Bool) → (c && (e && l)) ≡ ((c && e) && l)
+all_of true e l = refl
+all_of false e l = refl
+
+-- of addresses those that count
+pub counted_all : (set : List ℕ) → IsSetOf (λ v. counts false v && is_in set v) set
+counted_all set v small = refl
+
+swapped : (a b : Bool) → (a && b) ≡ (b && a)
+swapped true true = refl
+swapped true false = refl
+swapped false true = refl
+swapped false false = refl
+
+pub counted_apart : (set left : List ℕ) → ((v : ℕ) → v < 2 ^ 32 → is_in left v ≡ (is_in set v && not (are_indices_equal v))) → IsSetOf (λ v. counts true v && is_in set v) left
+counted_apart set left h v small = h v small ∙ swapped (is_in set v) (not (are_indices_equal v))
 
 -- the addresses of a way that lead where the test passes
-pub there_set : (test : ℕ → Bool) (way : DataWay) (base mask : ℕ) (there ea : List ℕ) → way.end ≡ ends.At base mask → ((v : ℕ) → v < 2 ^ 32 → is_in there v ≡ test ((base + bit_and v mask) % 2 ^ 32)) → ea ≡ filter (is_in there) way.ea → IsSetOf (there_of test way) ea
-there_set test way base mask there ea end is e v small =
-    in_both (is_in way.ea) (λ n. test ((base + bit_and n mask) % 2 ^ 32)) way.ea there ea (λ n k. refl) is e v small
-    ∙ ap (λ (d : DataEnd). is_in way.ea v && leads_to d test v) (sym end)
+pub there_set : (test : ℕ → Bool) (way : DataWay) (base mask : ℕ) (there met ea : List ℕ) → way.end ≡ ends.At base mask → ((v : ℕ) → v < 2 ^ 32 → is_in there v ≡ test ((base + bit_and v mask) % 2 ^ 32)) → met ≡ filter (is_in there) way.ea
+    → IsSetOf (λ v. counts way.apart v && is_in met v) ea → IsSetOf (there_of test way) ea
+there_set test way base mask there met ea end is e counted v small =
+    counted v small
+    ∙ ap (λ (b : Bool). counts way.apart v && b) (in_both (is_in way.ea) (λ n. test ((base + bit_and n mask) % 2 ^ 32)) way.ea there met (λ n k. refl) is e v small)
+    ∙ all_of (counts way.apart v) (is_in way.ea v) (test ((base + bit_and v mask) % 2 ^ 32))
+    ∙ ap (λ (d : DataEnd). way_in way v && leads_to d test v) (sym end)
 
 pub empty_row : (test : ℕ → Bool) (way : DataWay) (old : List Quad) (ea : List ℕ) → IsSetOf (there_of test way) ea → ea ≡ [] → AddsRows test (way ∷ []) old old
 empty_row test way old ea is none = no_row test way old (λ x hx.

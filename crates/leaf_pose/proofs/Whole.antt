@@ -20,7 +20,6 @@ use Rattle.rv_script.specs.Lists.{HasItem}
 use Rattle.sv_walk.specs.Translation.{is_translated}
 use Rattle.rv_hart.specs.Machine.{data_view}
 use Rattle.tpl_ast.specs.declared.template.Atom.{Atom}
-use Rattle.tpl_ast.specs.Leaves.{same_var}
 use Rattle.tpl_ast.specs.declared.template.Var.{Var}
 use Rattle.tpl_ast.specs.declared.template.Var.TheVariants as vars
 use Rattle.fd_prob.specs.declared.problem.Case.{Case as ACase}
@@ -45,7 +44,7 @@ use Rattle.leaf_stand.specs.Kinds.{kind_of}
 use Rattle.leaf_pose.specs.Posed.{Adds, AreShaped, IsAllowedCase}
 use Rattle.leaf_stand.specs.Posed.{FitsSame, all_cases, allows, are_posable, has_accesses, is_data, is_posable, is_read_as, reads_as}
 use Rattle.leaf_pose.specs.Problems.{ArePivots, PosesLeaf}
-use Rattle.leaf_stand.specs.Stands.{IsDataOf, IsStandOf, turn_of}
+use Rattle.leaf_stand.specs.Stands.{IsStandOf, turn_of}
 use Rattle.leaf_pose.proofs.Leading.{FindsFirst, first_found, none_found}
 use Rattle.leaf_stand.proofs.Lists.{each_domain}
 use Rattle.leaf_stand.proofs.Rows.{built_address, data_address}
@@ -73,10 +72,10 @@ pivots_are draws slots.OldCsr = refl
 pivots_are draws slots.Vector = refl
 
 -- THE DOMAINS OF FIRST CASES
-first_field : (s : Stand) (t : Turn) (walk : List Entry) (pa : ℕ) → IsStandOf s t walk pa → (leaf : List Atom) (op : Op) (slot : Slot) (u : Var) (v : ℕ) → same_var vars.Pa u ≡ false
+first_field : (s : Stand) (t : Turn) (walk : List Entry) (pa : ℕ) → IsStandOf s t walk pa → (leaf : List Atom) (op : Op) (slot : Slot) (u : Var) (v : ℕ)
     → (in_first_word (t.known (Word pa)) op slot v && all_tests t leaf u v) ≡ (in_first_word s.word op slot v && all_tests (turn_of s) leaf u v)
-first_field s t walk pa h leaf op slot u v n =
-    both_same _ _ _ _ (ap (λ (o : Option ℕ). in_first_word o op slot v) h.word) (all_same s t walk pa h leaf u v n)
+first_field s t walk pa h leaf op slot u v =
+    both_same _ _ _ _ (ap (λ (o : Option ℕ). in_first_word o op slot v) h.word) (all_same s t walk pa h leaf u v)
 
 zero_alone : (b inside : Bool) (v : ℕ) → b ≡ false → or_no b inside v ≡ nat_eq v 0
 zero_alone b inside v h = ap (λ (c : Bool). or_no c inside v) h
@@ -89,9 +88,9 @@ entries_same : (s : Stand) (t : Turn) (walk : List Entry) (pa : ℕ) → IsStand
     → ((a : Accesses) → HasAccesses t walk pa a → IsSetOf (λ v. or_no (is_translated (data_view t.fixed)) (form v) v) (of a)) → (v : ℕ) → v < 2 ^ 32 → or_no (has_walk t op) (form v) v ≡ first_entries s op of v
 entries_same s t walk pa h leaf op p allowed of form told v small = of_kind (is_data (kind_of op)) refl (posable_where s leaf op p allowed)
   where
-    of_told : (o : Option Accesses) → IfSome o (IsDataOf t walk pa) → is_some o ≡ true → or_no (is_translated (data_view t.fixed)) (form v) v ≡ first_entry of o v
+    of_told : (o : Option Accesses) → IfSome o (HasAccesses t walk pa) → is_some o ≡ true → or_no (is_translated (data_view t.fixed)) (form v) v ≡ first_entry of o v
     of_told None is some = absurd (cc some)
-    of_told (Some a) is some = sym (told a is.has v small)
+    of_told (Some a) is some = sym (told a is v small)
 
     of_kind : (b : Bool) → is_data (kind_of op) ≡ b → (not (is_data (kind_of op)) || has_accesses s) ≡ true → or_no (has_walk t op) (form v) v ≡ first_entries s op of v
     of_kind true n k =
@@ -103,15 +102,15 @@ entries_same s t walk pa h leaf op p allowed of form told v small = of_kind (is_
         zero_alone (has_walk t op) (form v) v (ap (λ (b : Bool). b && is_translated (data_view t.fixed)) none) ∙ ap (λ (b : Bool). if b then first_entry of s.accesses v else nat_eq v 0) (sym none)
 
 first_same : (s : Stand) (t : Turn) (walk : List Entry) (pa : ℕ) → IsStandOf s t walk pa → (leaf : List Atom) (op : Op) → is_posable s leaf op ≡ true → allows s leaf op ≡ true → (slot : Slot) (v : ℕ) → v < 2 ^ 32 → first_domain t pa leaf op slot v ≡ first_at s leaf op slot v
-first_same s t walk pa h leaf op p a slots.Op v small = first_field s t walk pa h leaf op slots.Op vars.Op v refl
-first_same s t walk pa h leaf op p a slots.Rs1 v small = first_field s t walk pa h leaf op slots.Rs1 vars.Rs1 v refl
-first_same s t walk pa h leaf op p a slots.Rs2 v small = first_field s t walk pa h leaf op slots.Rs2 vars.Rs2 v refl
-first_same s t walk pa h leaf op p a slots.Imm v small = first_field s t walk pa h leaf op slots.Imm vars.Imm v refl
-first_same s t walk pa h leaf op p a slots.Rd v small = first_field s t walk pa h leaf op slots.Rd vars.Rd v refl
-first_same s t walk pa h leaf op p a slots.Csr v small = first_field s t walk pa h leaf op slots.Csr vars.Csr v refl
-first_same s t walk pa h leaf op p a slots.Ea v small = both_same _ _ _ _ refl (all_same s t walk pa h leaf vars.Ea v refl)
-first_same s t walk pa h leaf op p a slots.A v small = both_same _ _ _ _ refl (all_same s t walk pa h leaf vars.A v refl)
-first_same s t walk pa h leaf op p a slots.B v small = both_same _ _ _ _ refl (all_same s t walk pa h leaf vars.B v refl)
+first_same s t walk pa h leaf op p a slots.Op v small = first_field s t walk pa h leaf op slots.Op vars.Op v
+first_same s t walk pa h leaf op p a slots.Rs1 v small = first_field s t walk pa h leaf op slots.Rs1 vars.Rs1 v
+first_same s t walk pa h leaf op p a slots.Rs2 v small = first_field s t walk pa h leaf op slots.Rs2 vars.Rs2 v
+first_same s t walk pa h leaf op p a slots.Imm v small = first_field s t walk pa h leaf op slots.Imm vars.Imm v
+first_same s t walk pa h leaf op p a slots.Rd v small = first_field s t walk pa h leaf op slots.Rd vars.Rd v
+first_same s t walk pa h leaf op p a slots.Csr v small = first_field s t walk pa h leaf op slots.Csr vars.Csr v
+first_same s t walk pa h leaf op p a slots.Ea v small = both_same _ _ _ _ refl (all_same s t walk pa h leaf vars.Ea v)
+first_same s t walk pa h leaf op p a slots.A v small = both_same _ _ _ _ refl (all_same s t walk pa h leaf vars.A v)
+first_same s t walk pa h leaf op p a slots.B v small = both_same _ _ _ _ refl (all_same s t walk pa h leaf vars.B v)
 first_same s t walk pa h leaf op p a slots.FirstPte v small = entries_same s t walk pa h leaf op p a (λ r. r.firsts) (is_first_form t) (λ r has. has.firsts) v small
 first_same s t walk pa h leaf op p a slots.SecondPte v small = entries_same s t walk pa h leaf op p a (λ r. r.seconds) (is_second_form t) (λ r has. has.seconds) v small
 first_same s t walk pa h leaf op p a slots.DataWord v small = refl
@@ -132,7 +131,7 @@ first_reads (Some w) op = read_same (decoded w) op
 
 allowed_same : (s : Stand) (t : Turn) (walk : List Entry) (pa : ℕ) → IsStandOf s t walk pa → (leaf : List Atom) (op : Op) → is_allowed t pa leaf op ≡ allows s leaf op
 allowed_same s t walk pa h leaf op =
-    both_same _ _ _ _ (ap (λ (o : Option ℕ). in_first_word o op slots.Op (op_number op)) h.word ∙ first_reads s.word op) (all_same s t walk pa h leaf vars.Op (op_number op) refl)
+    both_same _ _ _ _ (ap (λ (o : Option ℕ). in_first_word o op slots.Op (op_number op)) h.word ∙ first_reads s.word op) (all_same s t walk pa h leaf vars.Op (op_number op))
 
 number_small : (op : Op) → op_number op < 2 ^ 32
 unfolding op_number

@@ -17,7 +17,7 @@ use Rattle.fd_prob.specs.Order.{IsAssignment}
 use Rattle.fd_prob.specs.Relations.{is_in_row, value_of}
 use Rattle.data_ways.specs.declared.way.DataWay.{DataWay}
 use Rattle.data_goals.specs.declared.accesses.Accesses.{Accesses}
-use Rattle.data_goals.specs.Goals.{leads_to}
+use Rattle.data_goals.specs.Goals.{leads_to, way_in}
 use Rattle.leaf_link.specs.Turns.{Turn}
 use Rattle.leaf_link.specs.Cases.{all_judged, all_tests}
 use Rattle.leaf_link.specs.KindLaws.{IsPosed}
@@ -39,7 +39,7 @@ stays_of s bias (shape ∷ shapes) = stays_at s bias shape ∷ stays_of s bias s
 
 -- the address is one of a way's that leads where the test passes, and the new entries are the way's
 abbrev pub leads_so : (ℕ → Bool) → ℕ → ℕ → ℕ → DataWay → Bool
-leads_so test ea first second way = (is_in way.ea ea && leads_to way.end test ea) && (is_in way.first first && is_in way.second second)
+leads_so test ea first second way = (way_in way ea && leads_to way.end test ea) && (is_in way.first first && is_in way.second second)
 
 -- the values are in one of the rows
 abbrev pub in_rows : Assignment → List Quad → Bool

@@ -6,17 +6,18 @@ use Rattle.rv_script.specs.Lists.{HasItem}
 use Rattle.tpl_ast.specs.declared.template.Atom.{Atom}
 use Rattle.tpl_ast.specs.declared.template.Var.TheVariants as vars
 use Rattle.fd_prob.specs.declared.relation.Rel.{Rel}
-use Rattle.fd_prob.specs.declared.relation.Rel.TheVariants.{Sum}
+use Rattle.fd_prob.specs.declared.relation.Rel.TheVariants.{Sum, In}
 use Rattle.fd_prob.specs.declared.slot.Slot.{Slot}
 use Rattle.fd_prob.specs.declared.slot.Slot.TheVariants as slots
 use Rattle.data_ways.specs.declared.way.DataEnd.{DataEnd}
 use Rattle.data_ways.specs.declared.way.DataWay.{DataWay}
 use Rattle.data_goals.specs.declared.accesses.Accesses.{Accesses}
+use Rattle.data_goals.specs.declared.cuts.Place.{Place}
 use Rattle.data_goals.specs.declared.goal.Goal.{Goal}
 use Rattle.data_goals.specs.declared.targets.Targets.{Targets}
-use Rattle.data_goals.specs.Goals.{AreTargets, cause_of, goal_way, goal_ways, goals_by, retires}
+use Rattle.data_goals.specs.Goals.{AreTargets, cause_of, goal_way, goal_ways, goals_by, near_way, retires}
 use Rattle.leaf_link.specs.Turns.{Turn}
-use Rattle.leaf_link.specs.Cases.{all_tests, uses_address}
+use Rattle.leaf_link.specs.Cases.{all_tests, domain, uses_address}
 use Rattle.leaf_stand.specs.declared.shape.End.{End}
 use Rattle.leaf_stand.specs.declared.shape.End.TheVariants.{Retires, Traps}
 use Rattle.leaf_stand.specs.declared.shape.Shape.{Shape}
@@ -49,6 +50,18 @@ sum_rel false = []
 -- the relations: what the sources, the atoms and the sum say
 abbrev pub goal_rels : Stand → List Atom → Shape → List Rel
 goal_rels s leaf shape = (source_rels (shape_at shape) s.registers ++ atom_rels leaf) ++ sum_rel (uses_address (shape_at shape))
+
+-- that an address is in a set, beside its domain
+abbrev pub place_rel : Option (List ℕ) → List Rel
+place_rel None = []
+place_rel (Some set) = In slots.Ea set ∷ []
+
+abbrev pub place_rels : Place → List Rel
+place_rels place = place_rel place.apart ++ place_rel place.leads
+
+-- the domain of a variable of a goal, but for the two indices of an address and where it leads
+abbrev pub near_domain : Stand → List Atom → Op → DataWay → Goal → Slot → ℕ → Bool
+near_domain s leaf op way goal slot v = domain (turn_of s) 0 leaf op (near_way (turn_of s) op way goal) slot v
 
 -- the targets are those of a leaf's load or store, where a stand tells what they may do
 pub record IsAimed (s : Stand) (leaf : List Atom) (op : Op) (a : Accesses) (targets : Targets) : Type 0 where

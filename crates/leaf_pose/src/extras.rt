@@ -1,7 +1,9 @@
 // What a bias adds to the problem of a leaf.
 
-ghost use Rattle.std.specs.Prelude.{◌≡◌, ◌∷◌, [], true, List, length, IfOk, IfSome, OnOk};
+ghost use Rattle.std.specs.Prelude.{◌≡◌, ◌∷◌, ◌&&◌, [], true, List, length, IfOk, IfSome, OnOk};
 ghost use Rattle.dom_set.specs.Elements.{is_in};
+ghost use Rattle.row_parts.specs.Gaps.{counts};
+ghost use Rattle.leaf_stand.specs.Sets.{IsSetOf};
 ghost use Rattle.leaf_pose.specs.Extras.{AddsAddress, AddsBias, AddsRows, AreAddressRows, AreBiasRelations, stays_at, stays_of};
 ghost use Rattle.tpl_ast.specs.declared.template.Atom.{Atom as AnAtom};
 ghost use Rattle.leaf_pose.specs.Posed.{AreShaped};
@@ -10,7 +12,7 @@ ghost use Rattle.leaf_stand.specs.Relations.{are_between};
 use crate::problem::Posed;
 use crate::relations::push_target;
 use data_goals::{DataEnd, DataWay, accesses_are_goals};
-use data_ways::reaching;
+use data_ways::{off_diagonal, reaching};
 use dom_set::{OutOfMemory, Set};
 use fd_prob::{Extra, Items, Quad, Rel};
 use leaf_link::{biases_in_cases, ways_are_built};
@@ -41,6 +43,17 @@ fn staying(
     Ok(stay)
 }
 
+/// Of some addresses those that count, where their two indices may have to differ.
+fn counted(alloc: Global, set: Set, apart: bool) -> Result<Set, OutOfMemory>
+    ensures { IfOk result (IsSetOf (λ v. counts apart v && is_in set v)) }
+{
+    if apart {
+        let left = off_diagonal(alloc, &set)?;
+        return Ok(left);
+    }
+    Ok(set)
+}
+
 /// Appends the row of a way: of its addresses those that lead where a data access is wanted, with its new entries.
 fn push_row(
     alloc: Global,
@@ -54,7 +67,8 @@ fn push_row(
         return Ok(());
     };
     let there = reaching(alloc, base, mask, wanted)?;
-    let ea = way.ea.and(alloc, &there)?;
+    let met = way.ea.and(alloc, &there)?;
+    let ea = counted(alloc, met, way.apart)?;
     if ea.is_empty() {
         return Ok(());
     }

@@ -1,25 +1,28 @@
 // The cases of loads and stores.
 
-ghost use Rattle.std.specs.Prelude.{◌≡◌, ℕ, ◌∷◌, [], ◌&&◌, Bool, true, length, IfOk, OnOk};
+ghost use Rattle.std.specs.Prelude.{◌≡◌, ℕ, ◌∷◌, ◌++◌, [], ◌&&◌, Bool, true, length, IfOk, OnOk, Option, Some as SomeOf};
 ghost use Rattle.rv_isa.specs.Numbers.{op_number};
 ghost use Rattle.tpl_ast.specs.declared.template.Var.{Var as AVar};
 ghost use Rattle.fd_prob.specs.declared.slot.Slot.{Slot as ASlot};
 ghost use Rattle.fd_prob.specs.declared.slot.TheConstants.{SLOTS};
 ghost use Rattle.fd_prob.specs.Fitting.{IsCase};
 ghost use Rattle.data_goals.specs.declared.accesses.Accesses.{Accesses as AnAccesses};
-ghost use Rattle.data_goals.specs.Goals.{AreTargets, IsCut, goal_way, goals_by, ways_by, ways_for, ways_through};
-ghost use Rattle.leaf_link.specs.Cases.{all_judged, all_tests, case_at, domain};
+ghost use Rattle.data_goals.specs.Goals.{AreTargets, IsCut, IsPlace, goal_way, goals_by, ways_by, ways_for, ways_through};
+ghost use Rattle.leaf_link.specs.Cases.{all_judged, all_tests, case_at};
 ghost use Rattle.leaf_stand.specs.Kinds.{kind_of};
 ghost use Rattle.leaf_stand.specs.Posed.{FitsSame, allows, is_data, stand_cases, ways_at};
 ghost use Rattle.leaf_stand.specs.Relations.{are_between};
 ghost use Rattle.leaf_stand.specs.Sets.{AreDomains, IsSetOf};
 ghost use Rattle.leaf_stand.specs.Stands.{shape_at, turn_of};
-ghost use Rattle.leaf_pose.specs.Goals.{AreGoalsOf, IsAimed, IsGoalOf, entered_at, goal_rels, goal_shape};
+ghost use Rattle.leaf_pose.specs.Goals.{AreGoalsOf, IsAimed, IsGoalOf, entered_at, goal_rels, goal_shape, near_domain, place_rel, place_rels};
 ghost use Rattle.leaf_pose.specs.Posed.{Adds};
 
 use crate::relations::push_sources;
 use crate::shaped::Shaped;
-use data_goals::{Accesses, DataEnd, DataWay, Goal, Targets, goal_cut, misses, targets_of};
+use data_goals::{
+    Accesses, DataEnd, DataWay, Goal, Place, Targets, goal_apart, goal_cut, goal_leads, misses,
+    targets_of,
+};
 use dom_set::{OutOfMemory, Set};
 use fd_prob::{Case, Items, Rel, SLOTS, Slot};
 use leaf_stand::{End, Shape, Stand, push_atoms};
@@ -71,7 +74,7 @@ fn open_domain(
     }
 }
 
-/// The domain of a variable.
+/// The domain of a variable, but for the two indices of an address and where it leads.
 fn goal_domain(
     alloc: Global,
     stand: &Stand,
@@ -79,14 +82,13 @@ fn goal_domain(
     op: Op,
     way: &DataWay,
     goal: Goal,
-    targets: &Targets,
     slot: Slot,
 ) -> Result<Set, OutOfMemory>
-    ensures { IfOk result (λ set. (a : AnAccesses) → AreTargets a op (all_tests (turn_of stand.now) leaf.now AVar.Pa) targets.now → IsSetOf (domain (turn_of stand.now) 0 leaf.now op (goal_way (turn_of stand.now) a leaf.now op way.now goal) slot) set) }
+    ensures { IfOk result (IsSetOf (near_domain stand.now leaf.now op way.now goal slot)) }
 {
     let shape = shape_of(op, way.end, goal);
     let open = open_domain(alloc, stand, leaf, shape, slot)?;
-    let cut = goal_cut(alloc, op, way, goal, targets, slot)?;
+    let cut = goal_cut(alloc, op, way, goal, slot)?;
     let left = left_by(alloc, open, cut)?;
     Ok(left)
 }
@@ -99,15 +101,14 @@ fn domain_beside(
     op: Op,
     way: &DataWay,
     goal: Goal,
-    targets: &Targets,
     ea: &Set,
     slot: Slot,
 ) -> Result<Set, OutOfMemory>
-    ensures { IfOk result (λ set. (a : AnAccesses) → AreTargets a op (all_tests (turn_of stand.now) leaf.now AVar.Pa) targets.now → IsSetOf (domain (turn_of stand.now) 0 leaf.now op (goal_way (turn_of stand.now) a leaf.now op way.now goal) ASlot.Ea) ea.now → IsSetOf (domain (turn_of stand.now) 0 leaf.now op (goal_way (turn_of stand.now) a leaf.now op way.now goal) slot) set) }
+    ensures { IfOk result (λ set. IsSetOf (near_domain stand.now leaf.now op way.now goal ASlot.Ea) ea.now → IsSetOf (near_domain stand.now leaf.now op way.now goal slot) set) }
 {
     match slot {
         Slot::Ea => Ok(ea.copy(alloc)?),
-        _ => Ok(goal_domain(alloc, stand, leaf, op, way, goal, targets, slot)?),
+        _ => Ok(goal_domain(alloc, stand, leaf, op, way, goal, slot)?),
     }
 }
 
@@ -119,28 +120,39 @@ fn goal_domains(
     op: Op,
     way: &DataWay,
     goal: Goal,
-    targets: &Targets,
     ea: &Set,
 ) -> Result<Vec<Set>, OutOfMemory>
-    ensures each { IfOk result (λ doms. (a : AnAccesses) → AreTargets a op (all_tests (turn_of stand.now) leaf.now AVar.Pa) targets.now → IsSetOf (domain (turn_of stand.now) 0 leaf.now op (goal_way (turn_of stand.now) a leaf.now op way.now goal) ASlot.Ea) ea.now → AreDomains (domain (turn_of stand.now) 0 leaf.now op (goal_way (turn_of stand.now) a leaf.now op way.now goal)) SLOTS doms.items) }
+    ensures each { IfOk result (λ doms. IsSetOf (near_domain stand.now leaf.now op way.now goal ASlot.Ea) ea.now → AreDomains (near_domain stand.now leaf.now op way.now goal) SLOTS doms.items) }
     ensures length { IfOk result (λ doms. length doms.items ≡ 14) }
 {
     let mut doms = Vec::new(alloc);
     for slot in SLOTS {
-        let set = domain_beside(alloc, stand, leaf, op, way, goal, targets, ea, slot)?;
+        let set = domain_beside(alloc, stand, leaf, op, way, goal, ea, slot)?;
         doms.push(set)?;
     }
     Ok(doms)
 }
 
-/// What the sources and the atoms say, and that the address is the sum of the base and the immediate.
+/// Appends that the address is in a set, if there is one.
+fn push_place(alloc: Global, rels: &mut Items<Rel>, place: &Option<Set>) -> Result<(), OutOfMemory>
+    ensures { OnOk result (rels.new ≡ rels.old ++ place_rel place.now) }
+{
+    if let Some(set) = place {
+        let own = set.copy(alloc)?;
+        rels.push(Rel::In(Slot::Ea, own))?;
+    }
+    Ok(())
+}
+
+/// What the sources and the atoms say, that the address is the sum of the base and the immediate, and where it leads.
 fn goal_relations(
     alloc: Global,
     stand: &Stand,
     leaf: &[Atom],
     shape: Shape,
+    place: &Place,
 ) -> Result<Items<Rel>, OutOfMemory>
-    ensures { IfOk result (λ rels. rels ≡ goal_rels stand.now leaf.now shape) }
+    ensures { IfOk result (λ rels. rels ≡ goal_rels stand.now leaf.now shape ++ place_rels place.now) }
 {
     let mut rels = Items::new(alloc);
     push_sources(alloc, stand, &mut rels, shape)?;
@@ -148,10 +160,12 @@ fn goal_relations(
     if shape.uses_address() {
         rels.push(Rel::Sum(Slot::A, Slot::Imm, Slot::Ea))?;
     }
+    push_place(alloc, &mut rels, &place.apart)?;
+    push_place(alloc, &mut rels, &place.leads)?;
     Ok(rels)
 }
 
-/// The case of a goal of a way, where the addresses that fit it are known.
+/// The case of a goal of a way, where the addresses that fit it are known, and which of them lead to its place.
 fn case_of(
     alloc: Global,
     stand: &Stand,
@@ -159,23 +173,33 @@ fn case_of(
     op: Op,
     way: &DataWay,
     goal: Goal,
-    targets: &Targets,
     ea: &Set,
+    place: &Place,
 ) -> Result<Case, OutOfMemory>
     requires kind { is_data (kind_of op) ≡ true }
     requires judged { all_judged (shape_at (goal_shape op way.now.end goal)) leaf.now ≡ true }
     requires between { are_between leaf.now ≡ true }
     ensures shape { IfOk result IsCase }
     ensures number { IfOk result (λ c. c.op ≡ op_number op) }
-    ensures fits { IfOk result (λ c. (a : AnAccesses) → AreTargets a op (all_tests (turn_of stand.now) leaf.now AVar.Pa) targets.now → IsSetOf (domain (turn_of stand.now) 0 leaf.now op (goal_way (turn_of stand.now) a leaf.now op way.now goal) ASlot.Ea) ea.now → FitsSame (c ∷ []) (case_at (turn_of stand.now) 0 leaf.now op (goal_way (turn_of stand.now) a leaf.now op way.now goal) ∷ [])) }
+    ensures fits { IfOk result (λ c. (a : AnAccesses) → IsPlace a op way.now (all_tests (turn_of stand.now) leaf.now AVar.Pa) goal place.now → IsSetOf (near_domain stand.now leaf.now op way.now goal ASlot.Ea) ea.now → FitsSame (c ∷ []) (case_at (turn_of stand.now) 0 leaf.now op (goal_way (turn_of stand.now) a leaf.now op way.now goal) ∷ [])) }
 {
-    let doms = goal_domains(alloc, stand, leaf, op, way, goal, targets, ea)?;
-    let rels = goal_relations(alloc, stand, leaf, shape_of(op, way.end, goal))?;
+    let doms = goal_domains(alloc, stand, leaf, op, way, goal, ea)?;
+    let rels = goal_relations(alloc, stand, leaf, shape_of(op, way.end, goal), place)?;
     Ok(Case {
         op: op.number(),
         doms: Items::from_vec(doms),
         rels,
     })
+}
+
+/// Whether no address leads there.
+fn is_nowhere(leads: &Option<Set>) -> bool
+    ensures { result ≡ true → leads.now ≡ SomeOf [] }
+{
+    match leads {
+        Some(set) => set.is_empty(),
+        None => false,
+    }
 }
 
 /// Appends the case of a goal of a way, where it is posed and some address fits it.
@@ -198,11 +222,17 @@ fn push_goal(
     if !stand.is_posed(leaf, shape) {
         return Ok(());
     }
-    let ea = goal_domain(alloc, stand, leaf, op, way, goal, targets, Slot::Ea)?;
+    let leads = goal_leads(alloc, way, goal, targets)?;
+    if is_nowhere(&leads) {
+        return Ok(());
+    }
+    let ea = goal_domain(alloc, stand, leaf, op, way, goal, Slot::Ea)?;
     if ea.is_empty() {
         return Ok(());
     }
-    let case = case_of(alloc, stand, leaf, op, way, goal, targets, &ea)?;
+    let apart = goal_apart(alloc, way, goal)?;
+    let place = Place { apart, leads };
+    let case = case_of(alloc, stand, leaf, op, way, goal, &ea, &place)?;
     shaped.push(case, shape)?;
     Ok(())
 }

@@ -1,4 +1,5 @@
 pub mod Sets
+pub mod Blocks
 pub mod Rows
 pub mod Lists
 pub mod Single

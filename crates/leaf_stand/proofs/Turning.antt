@@ -56,7 +56,7 @@ use Rattle.leaf_stand.specs.declared.stand.Stand.{Stand}
 use Rattle.leaf_stand.specs.Kinds.{kind_of}
 use Rattle.leaf_stand.specs.Posed.{FitsSame, all_cases, allows, data_ways, has_accesses, is_data, is_posable, is_posed_at, stand_cases, stand_ways, ways_at}
 use Rattle.leaf_stand.specs.DataRows.{AreRowsOf, AreRowsOfPages}
-use Rattle.leaf_stand.specs.Stands.{IsDataOf, IsStandOf, turn_of}
+use Rattle.leaf_stand.specs.Stands.{IsStandOf, turn_of}
 use Rattle.data_goals.specs.declared.accesses.Accesses.{Accesses}
 use Rattle.data_goals.specs.declared.goal.Goal.{Goal}
 use Rattle.data_goals.specs.declared.goal.Goal.TheVariants.{Misaligned}
@@ -72,55 +72,41 @@ use Rattle.leaf_stand.proofs.Single.{both_same, word_at}
 use Rattle.leaf_stand.proofs.Fits.{fits_either, fits_left, fits_right, in_word_reads, posable_where}
 
 -- ATOMS
--- what an atom says of a variable that is shared
-abbrev shared_test : Turn → Var → ℕ → Bool
-shared_test t u v = if same_var vars.Pa u then is_shared t.others (Some v) else true
-
-tests_same : (s : Stand) (t : Turn) (walk : List Entry) (pa : ℕ) → IsStandOf s t walk pa → (atom : Atom) (u : Var) (v : ℕ) → shared_test t u v ≡ shared_test (turn_of s) u v → tests t atom u v ≡ tests (turn_of s) atom u v
-tests_same s t walk pa h (atoms.In w set) u v n = refl
-tests_same s t walk pa h (atoms.NotIn w set) u v n = refl
-tests_same s t walk pa h (atoms.Is w name) u v n =
+tests_same : (s : Stand) (t : Turn) (walk : List Entry) (pa : ℕ) → IsStandOf s t walk pa → (atom : Atom) (u : Var) (v : ℕ) → tests t atom u v ≡ tests (turn_of s) atom u v
+tests_same s t walk pa h (atoms.In w set) u v = refl
+tests_same s t walk pa h (atoms.NotIn w set) u v = refl
+tests_same s t walk pa h (atoms.Is w name) u v =
     ap (λ (o : Option ℕ). if same_var w u then is_value_named o (t.sets name) v else true) (h.names name)
     ∙ ap (λ (l : List ℕ). if same_var w u then is_value_named ((turn_of s).names name) l v else true) (h.sets name)
-tests_same s t walk pa h (atoms.Same w y) u v n = refl
-tests_same s t walk pa h (atoms.Differ w y) u v n = refl
-tests_same s t walk pa h atoms.Taken u v n = refl
-tests_same s t walk pa h atoms.NotTaken u v n = refl
-tests_same s t walk pa h atoms.Shared u v n = n
+tests_same s t walk pa h (atoms.Same w y) u v = refl
+tests_same s t walk pa h (atoms.Differ w y) u v = refl
+tests_same s t walk pa h atoms.Taken u v = refl
+tests_same s t walk pa h atoms.NotTaken u v = refl
+tests_same s t walk pa h atoms.Shared u v = ap (λ (o : List (List Record)). if same_var vars.Pa u then is_shared o (Some v) else true) h.others
 
-all_by_shared : (s : Stand) (t : Turn) (walk : List Entry) (pa : ℕ) → IsStandOf s t walk pa → (leaf : List Atom) (u : Var) (v : ℕ) → shared_test t u v ≡ shared_test (turn_of s) u v → all_tests t leaf u v ≡ all_tests (turn_of s) leaf u v
-all_by_shared s t walk pa h [] u v n = refl
-all_by_shared s t walk pa h (atom ∷ leaf) u v n = both_same _ _ _ _ (tests_same s t walk pa h atom u v n) (all_by_shared s t walk pa h leaf u v n)
-
-not_shared : (s : Stand) (t : Turn) (u : Var) (v : ℕ) → same_var vars.Pa u ≡ false → shared_test t u v ≡ shared_test (turn_of s) u v
-not_shared s t u v n = ap (λ (b : Bool). if b then is_shared t.others (Some v) else true) n ∙ sym (ap (λ (b : Bool). if b then is_shared (turn_of s).others (Some v) else true) n)
-
-pub all_same : (s : Stand) (t : Turn) (walk : List Entry) (pa : ℕ) → IsStandOf s t walk pa → (leaf : List Atom) (u : Var) (v : ℕ) → same_var vars.Pa u ≡ false → all_tests t leaf u v ≡ all_tests (turn_of s) leaf u v
-all_same s t walk pa h leaf u v n = all_by_shared s t walk pa h leaf u v (not_shared s t u v n)
-
--- without harts of lower numbers, of each variable
-pub all_same_alone : (s : Stand) (t : Turn) (walk : List Entry) (pa : ℕ) → IsStandOf s t walk pa → t.others ≡ [] → (leaf : List Atom) (u : Var) (v : ℕ) → all_tests t leaf u v ≡ all_tests (turn_of s) leaf u v
-all_same_alone s t walk pa h alone leaf u v = all_by_shared s t walk pa h leaf u v (ap (λ (o : List (List Record)). if same_var vars.Pa u then is_shared o (Some v) else true) alone)
+pub all_same : (s : Stand) (t : Turn) (walk : List Entry) (pa : ℕ) → IsStandOf s t walk pa → (leaf : List Atom) (u : Var) (v : ℕ) → all_tests t leaf u v ≡ all_tests (turn_of s) leaf u v
+all_same s t walk pa h [] u v = refl
+all_same s t walk pa h (atom ∷ leaf) u v = both_same _ _ _ _ (tests_same s t walk pa h atom u v) (all_same s t walk pa h leaf u v)
 
 -- DOMAINS
-field_same : (s : Stand) (t : Turn) (walk : List Entry) (pa : ℕ) → IsStandOf s t walk pa → (leaf : List Atom) (op : Op) (slot : Slot) (u : Var) (used : Bool) (v : ℕ) → same_var vars.Pa u ≡ false
+field_same : (s : Stand) (t : Turn) (walk : List Entry) (pa : ℕ) → IsStandOf s t walk pa → (leaf : List Atom) (op : Op) (slot : Slot) (u : Var) (used : Bool) (v : ℕ)
     → (in_word (t.known (Word pa)) op slot v && unless used (all_tests t leaf u v)) ≡ (in_word s.word op slot v && unless used (all_tests (turn_of s) leaf u v))
-field_same s t walk pa h leaf op slot u used v n = both_same _ _ _ _ (ap (λ (o : Option ℕ). in_word o op slot v) h.word) (ap (λ (b : Bool). unless used b) (all_same s t walk pa h leaf u v n))
+field_same s t walk pa h leaf op slot u used v = both_same _ _ _ _ (ap (λ (o : Option ℕ). in_word o op slot v) h.word) (ap (λ (b : Bool). unless used b) (all_same s t walk pa h leaf u v))
 
-value_same : (s : Stand) (t : Turn) (walk : List Entry) (pa : ℕ) → IsStandOf s t walk pa → (leaf : List Atom) (u : Var) (used : Bool) (v : ℕ) → same_var vars.Pa u ≡ false
+value_same : (s : Stand) (t : Turn) (walk : List Entry) (pa : ℕ) → IsStandOf s t walk pa → (leaf : List Atom) (u : Var) (used : Bool) (v : ℕ)
     → or_no used (nat_lt v (2 ^ 32) && all_tests t leaf u v) v ≡ or_no used (nat_lt v (2 ^ 32) && all_tests (turn_of s) leaf u v) v
-value_same s t walk pa h leaf u used v n = ap (λ (b : Bool). or_no used (nat_lt v (2 ^ 32) && b) v) (all_same s t walk pa h leaf u v n)
+value_same s t walk pa h leaf u used v = ap (λ (b : Bool). or_no used (nat_lt v (2 ^ 32) && b) v) (all_same s t walk pa h leaf u v)
 
 base_same : (s : Stand) (t : Turn) (walk : List Entry) (pa : ℕ) → IsStandOf s t walk pa → (leaf : List Atom) (sh : AShape) (slot : Slot) (v : ℕ) → base_domain t pa leaf sh slot v ≡ base_domain (turn_of s) 0 leaf sh slot v
-base_same s t walk pa h leaf sh slots.Op v = field_same s t walk pa h leaf sh.op slots.Op vars.Op true v refl
-base_same s t walk pa h leaf sh slots.Rs1 v = field_same s t walk pa h leaf sh.op slots.Rs1 vars.Rs1 (uses sh vars.Rs1) v refl
-base_same s t walk pa h leaf sh slots.Rs2 v = field_same s t walk pa h leaf sh.op slots.Rs2 vars.Rs2 (uses sh vars.Rs2) v refl
-base_same s t walk pa h leaf sh slots.Imm v = field_same s t walk pa h leaf sh.op slots.Imm vars.Imm (uses sh vars.Imm) v refl
-base_same s t walk pa h leaf sh slots.Rd v = field_same s t walk pa h leaf sh.op slots.Rd vars.Rd (uses sh vars.Rd) v refl
-base_same s t walk pa h leaf sh slots.Csr v = field_same s t walk pa h leaf sh.op slots.Csr vars.Csr (uses sh vars.Csr) v refl
-base_same s t walk pa h leaf sh slots.Ea v = value_same s t walk pa h leaf vars.Ea (uses_address sh) v refl
-base_same s t walk pa h leaf sh slots.A v = value_same s t walk pa h leaf vars.A (uses_rs1 sh) v refl
-base_same s t walk pa h leaf sh slots.B v = value_same s t walk pa h leaf vars.B (uses_rs2 sh) v refl
+base_same s t walk pa h leaf sh slots.Op v = field_same s t walk pa h leaf sh.op slots.Op vars.Op true v
+base_same s t walk pa h leaf sh slots.Rs1 v = field_same s t walk pa h leaf sh.op slots.Rs1 vars.Rs1 (uses sh vars.Rs1) v
+base_same s t walk pa h leaf sh slots.Rs2 v = field_same s t walk pa h leaf sh.op slots.Rs2 vars.Rs2 (uses sh vars.Rs2) v
+base_same s t walk pa h leaf sh slots.Imm v = field_same s t walk pa h leaf sh.op slots.Imm vars.Imm (uses sh vars.Imm) v
+base_same s t walk pa h leaf sh slots.Rd v = field_same s t walk pa h leaf sh.op slots.Rd vars.Rd (uses sh vars.Rd) v
+base_same s t walk pa h leaf sh slots.Csr v = field_same s t walk pa h leaf sh.op slots.Csr vars.Csr (uses sh vars.Csr) v
+base_same s t walk pa h leaf sh slots.Ea v = value_same s t walk pa h leaf vars.Ea (uses_address sh) v
+base_same s t walk pa h leaf sh slots.A v = value_same s t walk pa h leaf vars.A (uses_rs1 sh) v
+base_same s t walk pa h leaf sh slots.B v = value_same s t walk pa h leaf vars.B (uses_rs2 sh) v
 base_same s t walk pa h leaf sh slots.FirstPte v = refl
 base_same s t walk pa h leaf sh slots.SecondPte v = refl
 base_same s t walk pa h leaf sh slots.DataWord v = refl
@@ -145,7 +131,7 @@ sources_agree s t walk pa h sh x =
 pub atoms_agree : (s : Stand) (t : Turn) (walk : List Entry) (pa : ℕ) → IsStandOf s t walk pa → (leaf : List Atom) (sh : AShape) (x : Values) → atoms_hold t leaf sh x ≡ atoms_hold (turn_of s) leaf sh x
 atoms_agree s t walk pa h leaf sh x =
     both_same _ _ _ _ (ap (λ (pc : ℕ). all_relate sh.op (value_at sh pc 0 x) leaf) h.pc)
-    (ap (λ (pc : ℕ). unless (uses sh vars.Target) (all_tests t leaf vars.Target (target_at sh.op pc x))) h.pc ∙ ap (λ (b : Bool). unless (uses sh vars.Target) b) (all_same s t walk pa h leaf vars.Target (target_at sh.op s.pc x) refl))
+    (ap (λ (pc : ℕ). unless (uses sh vars.Target) (all_tests t leaf vars.Target (target_at sh.op pc x))) h.pc ∙ ap (λ (b : Bool). unless (uses sh vars.Target) b) (all_same s t walk pa h leaf vars.Target (target_at sh.op s.pc x)))
 
 -- WAYS
 -- two ways say the same
@@ -323,7 +309,7 @@ holds_agree s t walk pa h leaf op a b w x e =
 
 pub posed_agrees : (s : Stand) (t : Turn) (walk : List Entry) (pa : ℕ) → IsStandOf s t walk pa → (leaf : List Atom) (op : Op) (a b : AWay) → IsSameWay a b → is_posed_at s leaf (shape_of op a) ≡ is_posed t walk pa leaf (shape_of op b)
 posed_agrees s t walk pa h leaf op a b w =
-    ap (λ (sh : AShape). is_posed_at s leaf sh) (shapes_same op a b w) ∙ both_same _ _ _ _ (sym h.fetches) (both_same _ _ _ _ refl (sym (all_same s t walk pa h leaf vars.Outcome b.outcome refl)))
+    ap (λ (sh : AShape). is_posed_at s leaf sh) (shapes_same op a b w) ∙ both_same _ _ _ _ (sym h.fetches) (both_same _ _ _ _ refl (sym (all_same s t walk pa h leaf vars.Outcome b.outcome)))
 
 pub case_there : (s : Stand) (t : Turn) (walk : List Entry) (pa : ℕ) → IsStandOf s t walk pa → (leaf : List Atom) (op : Op) (a b : AWay) → IsSameWay a b → (x : Values) → FitsCase (case_at (turn_of s) 0 leaf op a) x → FitsCase (case_at t pa leaf op b) x
 case_there s t walk pa h leaf op a b w x f = record {
@@ -383,8 +369,8 @@ turn_ways_allowed s t walk pa h leaf op (way ∷ ways) x f = elim (head_or_later
 ]
 
 -- LOADS AND STORES
-pub goal_same : (s : Stand) (t : Turn) (walk : List Entry) (pa : ℕ) → IsStandOf s t walk pa → t.others ≡ [] → (a : Accesses) (leaf : List Atom) (op : Op) (way : DataWay) (goal : Goal) → IsSameWay (goal_way (turn_of s) a leaf op way goal) (goal_way t a leaf op way goal)
-goal_same s t walk pa h alone a leaf op way goal = record {
+pub goal_same : (s : Stand) (t : Turn) (walk : List Entry) (pa : ℕ) → IsStandOf s t walk pa → (a : Accesses) (leaf : List Atom) (op : Op) (way : DataWay) (goal : Goal) → IsSameWay (goal_way (turn_of s) a leaf op way goal) (goal_way t a leaf op way goal)
+goal_same s t walk pa h a leaf op way goal = record {
   outcome = refl;
   reaches = refl;
   also = λ slot v. both_same _ _ _ _ (end_same (cause_of op way.end goal) slot v) (ap (λ (wanted : ℕ → Bool). goal_test a op way wanted goal slot v) wanted_same);
@@ -398,7 +384,7 @@ goal_same s t walk pa h alone a leaf op way goal = record {
     end_same o _ v = refl
 
     wanted_same : all_tests (turn_of s) leaf vars.Pa ≡ all_tests t leaf vars.Pa
-    wanted_same = fun_ext (λ v. sym (all_same_alone s t walk pa h alone leaf vars.Pa v))
+    wanted_same = fun_ext (λ v. sym (all_same s t walk pa h leaf vars.Pa v))
 
 same_either : (ps qs rs us : List AWay) → AreSameWays ps qs → AreSameWays rs us → AreSameWays (ps ++ rs) (qs ++ us)
 same_either [] [] rs us f g = g
@@ -406,12 +392,12 @@ same_either (p ∷ ps) (q ∷ qs) rs us f g = (f.0, same_either ps qs rs us f.1 
 same_either (p ∷ ps) [] rs us f g = absurd f
 same_either [] (q ∷ qs) rs us f g = absurd f
 
-goals_same : (s : Stand) (t : Turn) (walk : List Entry) (pa : ℕ) → IsStandOf s t walk pa → t.others ≡ [] → (a : Accesses) (leaf : List Atom) (op : Op) → AreSameWays (goal_ways (turn_of s) a leaf op) (goal_ways t a leaf op)
-goals_same s t walk pa h alone a leaf op = (goal_same s t walk pa h alone a leaf op misses Misaligned, through_same (ways_for a op))
+goals_same : (s : Stand) (t : Turn) (walk : List Entry) (pa : ℕ) → IsStandOf s t walk pa → (a : Accesses) (leaf : List Atom) (op : Op) → AreSameWays (goal_ways (turn_of s) a leaf op) (goal_ways t a leaf op)
+goals_same s t walk pa h a leaf op = (goal_same s t walk pa h a leaf op misses Misaligned, through_same (ways_for a op))
   where
     by_same : (way : DataWay) (goals : List Goal) → AreSameWays (ways_by (turn_of s) a leaf op way goals) (ways_by t a leaf op way goals)
     by_same way [] = record {}
-    by_same way (goal ∷ goals) = (goal_same s t walk pa h alone a leaf op way goal, by_same way goals)
+    by_same way (goal ∷ goals) = (goal_same s t walk pa h a leaf op way goal, by_same way goals)
 
     through_same : (ways : List DataWay) → AreSameWays (ways_through (turn_of s) a leaf op ways) (ways_through t a leaf op ways)
     through_same [] = record {}
@@ -556,21 +542,21 @@ pub record IsPosedOver (s : Stand) (t : Turn) (walk : List Entry) (pa : ℕ) (le
   pub rows : AreRowsOf s t leaf loads stores
 
 module _ (laws : AreGoals) (s : Stand) (t : Turn) (walk : List Entry) (pa : ℕ) (leaf : List Atom) (loads stores : List EntryRow) (h : IsPosedOver s t walk pa leaf loads stores) where
-  data_there : (op : Op) (x : Values) → AreSmall x → is_data (kind_of op) ≡ true → (o : Option Accesses) → IfSome o (IsDataOf t walk pa) → IfSome o (AreRowsOfPages t leaf loads stores)
+  data_there : (op : Op) (x : Values) → AreSmall x → is_data (kind_of op) ≡ true → (o : Option Accesses) → IfSome o (HasAccesses t walk pa) → IfSome o (AreRowsOfPages t leaf loads stores)
       → Fits (stand_cases s leaf op (data_ways s leaf op o)) x → Fits (cases_of t walk pa leaf op (ways_of t walk pa leaf loads stores op)) x
   data_there op x small n None is rows f = absurd f
   data_there op x small n (Some a) is rows f =
-      let g = ways_there s t walk pa h.stand leaf op (goal_ways (turn_of s) a leaf op) (goal_ways t a leaf op) (goals_same s t walk pa h.stand is.alone a leaf op) x f in
+      let g = ways_there s t walk pa h.stand leaf op (goal_ways (turn_of s) a leaf op) (goal_ways t a leaf op) (goals_same s t walk pa h.stand a leaf op) x f in
       ways_moved t walk pa leaf op (goal_ways t a leaf op) (ways_of t walk pa leaf loads stores op) x
-      (λ way posed fits. laws.there t walk pa a loads stores leaf op x way.outcome way.reaches (data_step t walk pa leaf a loads stores is.has h.fetched rows op x small (data_address op n) way posed fits)) g
+      (λ way posed fits. laws.there t walk pa a loads stores leaf op x way.outcome way.reaches (data_step t walk pa leaf a loads stores is h.fetched rows op x small (data_address op n) way posed fits)) g
 
-  data_back : (op : Op) (x : Values) → AreSmall x → is_data (kind_of op) ≡ true → (o : Option Accesses) → IfSome o (IsDataOf t walk pa) → IfSome o (AreRowsOfPages t leaf loads stores)
+  data_back : (op : Op) (x : Values) → AreSmall x → is_data (kind_of op) ≡ true → (o : Option Accesses) → IfSome o (HasAccesses t walk pa) → IfSome o (AreRowsOfPages t leaf loads stores)
       → is_some o ≡ true → Fits (cases_of t walk pa leaf op (ways_of t walk pa leaf loads stores op)) x → Fits (stand_cases s leaf op (data_ways s leaf op o)) x
   data_back op x small n None is rows some f = absurd (cc some)
   data_back op x small n (Some a) is rows some f =
-      ways_back s t walk pa h.stand leaf op (goal_ways (turn_of s) a leaf op) (goal_ways t a leaf op) (goals_same s t walk pa h.stand is.alone a leaf op) x
+      ways_back s t walk pa h.stand leaf op (goal_ways (turn_of s) a leaf op) (goal_ways t a leaf op) (goals_same s t walk pa h.stand a leaf op) x
       (ways_moved t walk pa leaf op (ways_of t walk pa leaf loads stores op) (goal_ways t a leaf op) x
-      (λ way posed fits. laws.back t walk pa a loads stores leaf op x way.outcome way.reaches (data_step t walk pa leaf a loads stores is.has h.fetched rows op x small (data_address op n) way posed fits)) f)
+      (λ way posed fits. laws.back t walk pa a loads stores leaf op x way.outcome way.reaches (data_step t walk pa leaf a loads stores is h.fetched rows op x small (data_address op n) way posed fits)) f)
 
   operation_there : (op : Op) (x : Values) → AreSmall x → Fits (stand_cases s leaf op (ways_at s leaf op)) x → Fits (cases_of t walk pa leaf op (ways_of t walk pa leaf loads stores op)) x
   operation_there op x small f = of_kind (is_data (kind_of op)) refl f

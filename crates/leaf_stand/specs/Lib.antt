@@ -1,4 +1,5 @@
 pub mod Sets
+pub mod Shared
 pub mod Stands
 pub mod Relations
 pub mod Kinds

@@ -14,13 +14,13 @@ use Rattle.rv_hart.specs.Privileged.{lazy_address}
 use Rattle.fd_prob.specs.declared.slot.Slot.{Slot}
 use Rattle.fd_prob.specs.declared.slot.Slot.TheVariants as slots
 use Rattle.tpl_ast.specs.declared.template.Atom.{Atom}
-use Rattle.data_goals.specs.declared.accesses.Accesses.{Accesses}
 use Rattle.data_goals.specs.Grounds.{HasAccesses}
 use Rattle.leaf_link.specs.Turns.{Turn}
 use Rattle.leaf_link.specs.Cases.{Shape as AShape, base_domain, may_fetch}
 use Rattle.leaf_link.specs.Controls.{is_old}
 use Rattle.leaf_link.specs.Firsts.{data_pairs}
 use Rattle.leaf_link.specs.Kinds.{nothing_new, vector_alone}
+use Rattle.leaf_stand.specs.Shared.{traces_of}
 use Rattle.leaf_stand.specs.declared.stand.Name.{Name}
 use Rattle.leaf_stand.specs.declared.stand.Stand.{Stand}
 use Rattle.leaf_stand.specs.declared.shape.End.{End}
@@ -63,16 +63,11 @@ turn_of s = record {
   vectors = s.vectors.now;
   names = λ n. value_named (slice_get s.names.now n);
   sets = λ n. set_named (slice_get s.names.now n);
-  others = [];
+  others = traces_of s.others.now;
   sources = λ v. is_in s.sources.now v;
 }
 
--- the accesses are those of the turn, and no hart has a lower number
-pub record IsDataOf (t : Turn) (walk : List Entry) (pa : ℕ) (accesses : Accesses) : Type 0 where
-  pub alone : t.others ≡ []
-  pub has : HasAccesses t walk pa accesses
-
--- the stand tells what a turn is: its pc, privilege, registers and CSRs, the word at the pc, the vectors, the names and the sources, and whether the fetch may be made
+-- the stand tells what a turn is: its pc, privilege, registers and CSRs, the word at the pc, the vectors, the names, the sources and the records of the harts with lower numbers, and whether the fetch may be made
 pub record IsStandOf (s : Stand) (t : Turn) (walk : List Entry) (pa : ℕ) : Type 0 where
   pub pc : t.fixed.pc ≡ s.pc
   pub privilege : t.fixed.privilege ≡ s.privilege
@@ -89,7 +84,8 @@ pub record IsStandOf (s : Stand) (t : Turn) (walk : List Entry) (pa : ℕ) : Typ
   pub satp : t.fixed.satp ≡ s.csrs.satp
   pub number : t.fixed.number ≡ s.csrs.hart
   pub sources : (v : ℕ) → v < 2 ^ 32 → t.sources v ≡ is_in s.sources.now v
-  pub accesses : IfSome s.accesses (IsDataOf t walk pa)
+  pub others : t.others ≡ traces_of s.others.now
+  pub accesses : IfSome s.accesses (HasAccesses t walk pa)
 
 -- HOW A STEP ENDS
 abbrev pub outcome_at : End → ℕ

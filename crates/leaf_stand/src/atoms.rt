@@ -1,8 +1,9 @@
 // What atoms say of the value of one variable.
 
-ghost use Rattle.std.specs.Prelude.{◌≡◌, ℕ, ◌&&◌, ◌==◌, not, true, false, IfOk, slice_get};
+ghost use Rattle.std.specs.Prelude.{◌≡◌, ℕ, ◌&&◌, ◌==◌, not, true, false, Some as SomeOf, IfOk, slice_get};
 ghost use Rattle.dom_set.specs.Elements.{is_in};
 ghost use Rattle.tpl_ast.specs.Leaves.{same_var};
+ghost use Rattle.tpl_admit.specs.Truth.{is_shared};
 ghost use Rattle.leaf_link.specs.Cases.{all_judged, all_tests, is_judged, is_value_named, tests};
 ghost use Rattle.leaf_stand.specs.Relations.{are_between, is_between, speak_of, speaks_of};
 ghost use Rattle.leaf_stand.specs.Sets.{IsSetOf};
@@ -10,6 +11,7 @@ ghost use Rattle.leaf_stand.specs.Stands.{set_named, shape_at, turn_of, value_na
 
 use crate::formats::Spans;
 use crate::shape::{Shape, same_var, slot_of};
+use crate::shared::{is_touched, touched};
 use crate::stand::Stand;
 use dom_set::{OutOfMemory, Set};
 use std::alloc::Global;
@@ -69,6 +71,15 @@ impl Stand<'_> {
         }
     }
 
+    /// The numbers of the set that are addresses near which a hart with a lower number has an access to data.
+    fn shared(&self, alloc: Global, set: &Set) -> Result<Set, OutOfMemory>
+        ensures { IfOk result (IsSetOf (λ v. is_in set.now v && is_shared (turn_of self.now).others (SomeOf v))) }
+    {
+        let touched = touched(alloc, self.others)?;
+        let left = meet(alloc, set, &touched)?;
+        Ok(left)
+    }
+
     /// The numbers of the set that pass an atom on the variable.
     fn passing_one(
         &self,
@@ -83,8 +94,7 @@ impl Stand<'_> {
             Atom::In(of, wanted) if same_var(*of, var) => meet(alloc, &set, wanted),
             Atom::NotIn(of, unwanted) if same_var(*of, var) => less(alloc, &set, unwanted),
             Atom::Is(of, name) if same_var(*of, var) => self.named(alloc, set, *name),
-            // A stand that tells what loads and stores may do is one with no hart of a lower number.
-            Atom::Shared if same_var(Var::Pa, var) => Ok(Set::new(alloc)),
+            Atom::Shared if same_var(Var::Pa, var) => self.shared(alloc, &set),
             _ => Ok(set),
         }
     }
@@ -126,7 +136,7 @@ impl Stand<'_> {
             Atom::In(of, wanted) if same_var(*of, var) => wanted.has(value),
             Atom::NotIn(of, unwanted) if same_var(*of, var) => !unwanted.has(value),
             Atom::Is(of, name) if same_var(*of, var) => self.is_named(*name, value),
-            Atom::Shared if same_var(Var::Pa, var) => false,
+            Atom::Shared if same_var(Var::Pa, var) => is_touched(self.others, value),
             _ => true,
         }
     }

@@ -18,6 +18,7 @@ mod laws;
 mod operations;
 mod relations;
 mod shape;
+mod shared;
 mod stand;
 mod way;
 

@@ -3,6 +3,7 @@
 use data_goals::Accesses;
 use dom_set::Set;
 use rv_csr::{Csrs, Priv};
+use rv_hart::Record;
 
 /// A name of the template: its value, where it is bound, and its set.
 #[derive(Drop)]
@@ -33,4 +34,6 @@ pub struct Stand<'t> {
     pub vectors: &'t Set,
     /// The names, by their places in the template.
     pub names: &'t [Name<'t>],
+    /// The records of the harts with lower numbers.
+    pub others: &'t [&'t [Record]],
 }

@@ -1,9 +1,10 @@
 -- Names of a template in a test, and what a stand tells of a turn.
-use Rattle.std.proofs.Common.{◌≡◌, ℕ, zero, suc, if◌then◌else◌, ◌≤◌, ◌<◌, ◌/◌, ◌%◌, Bool, true, false, not, ◌&&◌, ◌||◌, eqb, List, [], ◌∷◌, length, Option, Some, None, refl, sym, ap, ◌∙◌, inl, inr, arith}
+use Rattle.std.proofs.Common.{◌≡◌, ℕ, zero, suc, if◌then◌else◌, ◌+◌, ◌≤◌, ◌<◌, ◌/◌, ◌%◌, Bool, true, false, not, ◌&&◌, ◌||◌, eqb, List, [], ◌∷◌, ◌++◌, get_or, length, take, Option, Some, None, refl, sym, ap, ◌∙◌, inl, inr, arith}
 use Rattle.std.specs.Prelude.{IfSome, slice_get, slice_index_or}
 use Rattle.std.specs.List.{list_all, list_any}
 use Rattle.std.proofs.lemmas.Bool.{and_from, cases_lt}
-use Rattle.std.proofs.lemmas.List.{get_or_past}
+use Rattle.std.proofs.lemmas.List.{get_or_past, take_more}
+use Rattle.std.specs.Borrow.{Bor}
 use Rattle.std.proofs.lemmas.Option.{slice_get_past}
 use Rattle.tpl_ast.specs.declared.template.Atom.{Atom}
 use Rattle.tpl_ast.specs.declared.template.Atom.TheVariants as atoms
@@ -32,7 +33,10 @@ use Rattle.leaf_link.specs.Cases.{all_tests, is_some_word, is_value_named, tests
 use Rattle.tpl_admit.specs.Truth.{is_shared}
 use Rattle.leaf_stand.specs.declared.stand.Stand.{Stand}
 use Rattle.data_goals.specs.declared.accesses.Accesses.{Accesses}
-use Rattle.leaf_stand.specs.Stands.{IsDataOf, IsStandOf, csr_held, held}
+use Rattle.data_goals.specs.Grounds.{HasAccesses}
+use Rattle.rv_hart.specs.declared.record.Record.{Record}
+use Rattle.leaf_stand.specs.Shared.{traces_of}
+use Rattle.leaf_stand.specs.Stands.{IsStandOf, csr_held, held}
 use Rattle.turn_laws.specs.Given.{Setting, turn_at}
 use Rattle.leaf_turn.specs.Data.{IsDataAt}
 use Rattle.leaf_turn.specs.Entering.{Leads}
@@ -54,6 +58,22 @@ all_names t w names count same length end values sets = record {
   ];
 }
 
+-- ---- the records of harts with lower numbers
+
+traces_append : (xs ys : List (Bor (List Record))) → traces_of (xs ++ ys) ≡ traces_of xs ++ traces_of ys
+traces_append [] ys = refl
+traces_append (x ∷ xs) ys = ap (λ (l : List (List Record)). x.now ∷ l) (traces_append xs ys)
+
+pub next_trace : (old new : List (Bor (List Record))) (records : Bor (List Record)) (traces : List (List Record)) (k : ℕ) → traces_of old ≡ take k traces → new ≡ old ++ records ∷ [] → records.now ≡ slice_index_or traces k [] → k < length traces
+    → traces_of new ≡ take (k + 1) traces
+next_trace old new records traces k before pushed is lt =
+    ap traces_of pushed ∙ traces_append old (records ∷ [])
+    ∙ ap (λ (l : List (List Record)). l ++ records.now ∷ []) before ∙ ap (λ (r : List Record). take k traces ++ r ∷ []) (is ∙ within traces k lt)
+    ∙ sym (take_more traces k [] lt)
+  where
+    within : (ts : List (List Record)) (k : ℕ) → k < length ts → slice_index_or ts k [] ≡ get_or ts k []
+    within ts k lt = refl
+
 -- ---- what a stand tells
 
 held_at : (xs : List (Option ℕ)) (n : ℕ) → slice_index_or xs n None ≡ held (slice_get xs n)
@@ -71,6 +91,7 @@ pub record IsMadeOf (t : Template) (k : ℕ) (w : Whole) (own : List Touch) (pa 
   pub vectors : s.vectors.now ≡ t.vectors
   pub names : AreNamesOf t w s.names.now
   pub footprint : IsFootprint own (footprints_of (λ j. records_of j w))
+  pub others : traces_of s.others.now ≡ take k w.traces
   pub accesses : IfSome s.accesses (IsDataAt t k w pa)
 
 all_free : (t : Turn) (log : List Entry) → ((e : Entry) → HasItem log e → is_free_entry t e ≡ true) → list_all (is_free_entry t) log ≡ true
@@ -81,15 +102,11 @@ behind_true : (a b : Bool) → a ≡ true → (a && b) ≡ b
 behind_true true b h = refl
 behind_true false b h = absurd (cc h)
 
--- no hart is before the first
-pub first_is_alone : (s : Setting) (feet : List Touch) (k : ℕ) (w : Whole) → k ≡ 0 → (turn_at s feet k w).others ≡ []
-first_is_alone s feet k w first = ap (λ (n : ℕ). (turn_at s feet n w).others) first
-
--- what the loads and stores of the first hart may do is so at each of its turns
+-- what the loads and stores of the hart may do is so at each of its turns
 pub data_of_stand : (o : Option Accesses) (t : Template) (s : Setting) (feet : List Touch) (k : ℕ) (w : Whole) (walk : List Entry) (pa : ℕ)
-    → IsSettingOf t s → IsFootprint feet (footprints_of (λ j. records_of j w)) → Leads k w walk pa → IfSome o (IsDataAt t k w pa) → IfSome o (IsDataOf (turn_at s feet k w) walk pa)
+    → IsSettingOf t s → IsFootprint feet (footprints_of (λ j. records_of j w)) → Leads k w walk pa → IfSome o (IsDataAt t k w pa) → IfSome o (HasAccesses (turn_at s feet k w) walk pa)
 data_of_stand None t s feet k w walk pa setting f leads has = has
-data_of_stand (Some a) t s feet k w walk pa setting f leads has = record { alone = first_is_alone s feet k w has.first; has = has.has s feet walk setting f leads }
+data_of_stand (Some a) t s feet k w walk pa setting f leads has = has s feet walk setting f leads
 
 pub stand_tells : (t : Template) (k : ℕ) (w : Whole) (own : List Touch) (st : Stand) (pa : ℕ) (s : Setting) (feet : List Touch) (walk : List Entry) → IsTest w → k < length w.harts → Leads k w walk pa
     → IsMadeOf t k w own pa st → IsSettingOf t s → HasSourceSet s st.sources.now → IsFootprint feet (footprints_of (λ j. records_of j w)) → IsStandOf st (turn_at s feet k w) walk pa
@@ -120,6 +137,7 @@ stand_tells t k w own st pa s feet walk test l leads m setting sources footprint
       satp = ap (λ (b : Bare). b.csrs.satp) is;
       number = ap (λ (b : Bare). b.csrs.hart) is;
       sources = sources;
+      others = sym m.others;
       accesses = data_of_stand st.accesses t s feet k w walk pa setting footprint leads m.accesses;
     }
   where

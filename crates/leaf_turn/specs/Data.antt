@@ -1,5 +1,5 @@
 -- What the loads and stores of a hart of a test may do.
-use Rattle.std.specs.Prelude.{◌≡◌, ℕ, Bool, nat_eq, List}
+use Rattle.std.specs.Prelude.{ℕ, Bool, nat_eq, List}
 use Rattle.std.specs.List.{list_any}
 use Rattle.rv_script.specs.Bytes.{word_address}
 use Rattle.rv_script.specs.Folds.{Entry}
@@ -18,7 +18,6 @@ use Rattle.leaf_turn.specs.Grounds.{IsSettingOf}
 abbrev pub is_read : List (ℕ × ℕ) → ℕ → Bool
 is_read ptes v = list_any (λ e. nat_eq (word_address e.0) (word_address v)) ptes
 
--- what those of the first hart may do, whose fetch is from an address
-pub record IsDataAt (t : Template) (k : ℕ) (w : Whole) (pa : ℕ) (a : Accesses) : Type 0 where
-  pub first : k ≡ 0
-  pub has : (s : Setting) (feet : List Touch) (walk : List Entry) → IsSettingOf t s → IsFootprint feet (footprints_of (λ j. records_of j w)) → Leads k w walk pa → HasAccesses (turn_at s feet k w) walk pa a
+-- what those of a hart may do, whose fetch is from an address
+abbrev pub IsDataAt : Template → ℕ → Whole → ℕ → Accesses → Type 0
+IsDataAt t k w pa a = (s : Setting) (feet : List Touch) (walk : List Entry) → IsSettingOf t s → IsFootprint feet (footprints_of (λ j. records_of j w)) → Leads k w walk pa → HasAccesses (turn_at s feet k w) walk pa a

@@ -39,7 +39,7 @@ use crate::entering::{data_view, pairs_of};
 use crate::known::known_is_words;
 use crate::laws::answers_are_found;
 use crate::memory::accesses_for;
-use crate::stand::{names_of, sources_of, stand_of};
+use crate::stand::{names_of, others_of, sources_of, stand_of};
 use crate::wishes::{biases_of, mandatory_of};
 use fd_prob::Extra;
 use fd_solve::{LeafAnswer, solve_leaf};
@@ -90,9 +90,8 @@ pub fn answer_of(
 }
 
 /// The answer of a `do` leaf where a hart of a test stands and its pc leads to a physical address, with the leaf's biases.
-/// Where the leaf's atoms let loads or stores through, the hart is the first one; the mandatory ones say what an untouched
-/// source may have. The first two draws are for the entries of its fetch, the others
-/// for the variables in their order. Dropped biases are told by their positions among the leaf's biases, from 0.
+/// The mandatory atoms say what an untouched source may have. The first two draws are for the entries of its fetch, the
+/// others for the variables in their order. Dropped biases are told by their positions among the leaf's biases, from 0.
 pub fn leaf_answer(
     alloc: Global,
     part: &Part,
@@ -110,7 +109,6 @@ pub fn leaf_answer(
     requires leads { (walk : List Entry) × Leads hart (here part.now) walk pa }
     requires aligned { pa % 4 ≡ 0 }
     requires plain { AllByRecursion IsPlain (atoms_of wishes.now) }
-    requires loads { lets_data wishes.now ≡ true → hart ≡ 0 }
     requires frames { AreFrames t.now.pool }
     requires apart { (v : ℕ) → in_frames t.now.tables v ≡ true → in_frames t.now.pool v ≡ false }
     requires vectors { AreVectors t.now.vectors }
@@ -127,6 +125,9 @@ pub fn leaf_answer(
     let sources = sources_of(alloc, part, hart, t, &names, &atoms)?;
     let pairs = pairs_of(alloc, data_view(part, hart), t)?;
     let accesses = accesses_for(alloc, part, hart, pa, t, &names, wishes, &atoms)?;
-    let stand = stand_of(part, hart, pa, pairs, t, &names, &sources, accesses);
+    let others = others_of(alloc, part, hart)?;
+    let stand = stand_of(
+        part, hart, pa, pairs, t, &names, &sources, &others, accesses,
+    );
     answer_of(alloc, &stand, &atoms, &biases, draws, nodes)
 }

@@ -1,8 +1,7 @@
 //! A leaf's turn on a test in the making: the answer of its fetch, with the page table entries that it starts; what is
 //! known where its hart then stands, the answer of the leaf, and the step of an answer, with the places that it starts.
-//! Loads and stores are taken in the first hart, of which it tells what they may do. It stands on `fetch_ways`,
-//! `data_bytes`, `data_ways`, `leaf_pose`, `turn_laws`, `part_state` and `fd_solve`. It promises that an answer is that
-//! of the leaf's turn over candidates, and that the step is that of the answer.
+//! It stands on `fetch_ways`, `data_bytes`, `data_ways`, `leaf_pose`, `turn_laws`, `part_state` and `fd_solve`. It
+//! promises that an answer is that of the leaf's turn over candidates, and that the step is that of the answer.
 #![tactic(auto)]
 
 mod answer;

@@ -157,8 +157,7 @@ fn pages_of(
     Ok(pages)
 }
 
-/// What loads and stores may do, where the atoms of a leaf that have to hold let some through; the hart is the first one
-/// then.
+/// What loads and stores may do, where the atoms of a leaf that have to hold let some through.
 pub fn accesses_for(
     alloc: Global,
     part: &Part,
@@ -172,7 +171,6 @@ pub fn accesses_for(
     requires hart { hart < length part.now.now.harts }
     requires aligned { pa % 4 ≡ 0 }
     requires names { AreNamesOf t.now (here part.now) names.now }
-    requires loads { lets_data wishes.now ≡ true → hart ≡ 0 }
     requires frames { AreFrames t.now.pool }
     requires apart { (v : ℕ) → in_frames t.now.tables v ≡ true → in_frames t.now.pool v ≡ false }
     ensures told { IfOk result (λ o. is_some o ≡ lets_data wishes.now) }

@@ -1,5 +1,5 @@
 // What is known where a hart of a test stands.
-ghost use Rattle.std.specs.Prelude.{◌≡◌, ◌<◌, ◌/◌, ◌%◌, ◌^◌, ◌&&◌, ◌||◌, ℕ, List, length, IfOk, IfSome};
+ghost use Rattle.std.specs.Prelude.{◌≡◌, ◌<◌, ◌/◌, ◌%◌, ◌^◌, ◌&&◌, ◌||◌, ℕ, List, length, take, IfOk, IfSome};
 ghost use Rattle.foot_map.specs.declared.touch.Touch.{Touch as ATouch};
 ghost use Rattle.foot_map.specs.Races.{IsFootprint};
 ghost use Rattle.rv_mem.specs.Seen.{known_word};
@@ -11,6 +11,7 @@ ghost use Rattle.part_state.specs.State.{here};
 ghost use Rattle.leaf_link.specs.Turns.{in_frames};
 ghost use Rattle.dom_set.specs.Elements.{is_in};
 ghost use Rattle.leaf_link.specs.Cases.{all_tests, is_some_word};
+ghost use Rattle.leaf_stand.specs.Shared.{traces_of};
 ghost use Rattle.leaf_stand.specs.Stands.{IsStandOf};
 ghost use Rattle.turn_laws.specs.Given.{Setting, turn_at};
 ghost use Rattle.leaf_turn.specs.Data.{IsDataAt};
@@ -23,6 +24,7 @@ use dom_set::Set;
 use foot_map::FootMap;
 use leaf_pose::{Name, Stand};
 use part_state::Part;
+use rv_hart::Record;
 use rv_mem::{Seen, Words};
 use rv_script::Role;
 use std::alloc::Global;
@@ -116,11 +118,30 @@ pub fn bare_stand<'t>(
         sources: none,
         vectors: &t.vectors,
         names,
+        others: &[],
     }
 }
 
+/// The records of the harts with lower numbers.
+pub fn others_of<'p>(
+    alloc: Global,
+    part: &'p Part,
+    hart: u8,
+) -> Result<Vec<&'p [Record]>, OutOfMemory>
+    requires { hart < length part.now.now.harts }
+    ensures { IfOk result (λ others. traces_of others.items ≡ take hart (here part.now).traces) }
+{
+    part.is_test();
+    let mut others = Vec::new(alloc);
+    for k in 0..hart {
+        others.push(part.records(k))?;
+    }
+    Ok(others)
+}
+
 /// What is known where a hart stands whose pc leads to a physical address, the words that an untouched source may be
-/// started with, how many pairs of page table entries a load or store may start, and what those of the first hart may do.
+/// started with, how many pairs of page table entries a load or store may start, the records of the harts with
+/// lower numbers, and what loads and stores may do.
 pub fn stand_of<'t>(
     part: &Part,
     hart: u8,
@@ -129,12 +150,14 @@ pub fn stand_of<'t>(
     t: &'t Template,
     names: &'t [Name<'t>],
     sources: &'t Set,
+    others: &'t [&'t [Record]],
     accesses: Option<Accesses>,
 ) -> Stand<'t>
     requires hart { hart < length part.now.now.harts }
     requires aligned { pa % 4 ≡ 0 }
     requires pairs { (s : Setting) (feet : List ATouch) → IsSettingOf t.now s → data_pairs (turn_at s feet hart (here part.now)) ≡ pairs }
     requires names { AreNamesOf t.now (here part.now) names.now }
+    requires others { traces_of others.now ≡ take hart (here part.now).traces }
     requires accesses { IfSome accesses (IsDataAt t.now hart (here part.now) pa) }
     ensures stand { (s : Setting) (feet : List ATouch) (walk : List AnEntry) → Leads hart (here part.now) walk pa → IsSettingOf t.now s → HasSourceSet s sources.now → IsFootprint feet (footprints_of (λ k. records_of k (here part.now))) → IsStandOf result (turn_at s feet hart (here part.now)) walk pa }
     ensures told { result.accesses ≡ accesses }
@@ -156,6 +179,7 @@ pub fn stand_of<'t>(
         sources,
         vectors: &t.vectors,
         names,
+        others,
     }
 }
 

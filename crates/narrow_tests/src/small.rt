@@ -163,6 +163,15 @@ lw a=0..20,0x80000000..0x80000014 ea=14; sum a a ea => a imm ea
 lw a=0..20 ea=15; sum a a ea => a imm ea
 lw a=5..9,0xfffffff9..0xffffffff ea=16,0xffffffff,0xfffffffe; sum a a ea => a imm ea";
 
+// In few pieces a domain is cut at once.
+const INSIDE: &str = "\
+lw ea=0..10; in ea 3..5,9..20 => ea a imm
+lw ea=3..4; in ea 5..9 => ea a imm
+lw ea=0..10; in ea none => ea a imm
+lw ea=0..40; in ea 0..64/8 => ea a imm
+lw ea=0,2,4,6,8,10; in ea 1..5,9..20 => ea a imm
+lw a=0..3,0xfffffffe..0xffffffff; in a 0xffffffff,1..2 => a ea imm";
+
 /// The assignment that gives three variables a combination of their values, by its number, and the
 /// others their least values.
 fn assignment(domains: &Domains, slots: [Slot; 3], number: u64) -> Option<Assignment> {
@@ -314,6 +323,11 @@ fn writes_keep_what_is_legal(rt: HostRuntime) -> Result<(), Fail> {
 #[test]
 fn rows_keep_what_fits(rt: HostRuntime) -> Result<(), Fail> {
     compare_all(&rt, rt.alloc(), ROWS)
+}
+
+#[test]
+fn sets_keep_what_is_in_them(rt: HostRuntime) -> Result<(), Fail> {
+    compare_all(&rt, rt.alloc(), INSIDE)
 }
 
 #[test]

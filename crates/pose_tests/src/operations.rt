@@ -28,6 +28,7 @@ pub fn stand_with(vectors: &Set, accesses: Option<Accesses>) -> Stand<'_> {
         sources: vectors,
         vectors,
         names: &[],
+        others: &[],
     }
 }
 

@@ -33,6 +33,7 @@ fn ways(alloc: Global, bytes: &[(u32, u32)], cause: Cause) -> Result<Vec<DataWay
         ea: there,
         first: one(alloc, 0)?,
         second: one(alloc, 0)?,
+        apart: false,
         end: DataEnd::At {
             base: 0,
             mask: u32::MAX,
@@ -42,6 +43,7 @@ fn ways(alloc: Global, bytes: &[(u32, u32)], cause: Cause) -> Result<Vec<DataWay
         ea: outside,
         first: one(alloc, 0)?,
         second: one(alloc, 0)?,
+        apart: false,
         end: DataEnd::Fails(cause),
     })?;
     Ok(ways)

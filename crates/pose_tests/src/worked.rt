@@ -159,6 +159,7 @@ fn stand_of<'t>(
         sources: vectors,
         vectors,
         names,
+        others: &[],
     }
 }
 

@@ -186,6 +186,12 @@ fn quads(alloc: Global, text: &str) -> Result<Rel, Fail> {
     Ok(Rel::Rows(quads))
 }
 
+/// A variable, and the set that it is in.
+fn inside(alloc: Global, text: &str) -> Result<Rel, Fail> {
+    let (variable, list) = text.split_once(' ').ok_or("a set")?;
+    Ok(Rel::In(variable_of(variable)?, set_of(alloc, list)?))
+}
+
 /// Whether both variables have one value, or two.
 fn comparison(text: &str, same: bool) -> Result<Rel, Fail> {
     let (one, other) = two(text)?;
@@ -206,6 +212,7 @@ fn spelled(alloc: Global, text: &str) -> Result<Rel, Fail> {
         "holds" => held(alloc, rest),
         "target" => target(alloc, rest),
         "rows" => quads(alloc, rest),
+        "in" => inside(alloc, rest),
         _ => Err(Fail::new("no relation")),
     }
 }

@@ -41,18 +41,23 @@ parts true false false at fails = refl
 parts false one true at fails = refl
 parts false one false at fails = refl
 
-pub reached : (old mid new : List End) (set one inside outside : Bool) (ram : ℕ → Bool) (kind : Kind) (addr pa : ℕ)
-    → mid ≡ old ++ found (inside && one) (Reaches (At pa)) → new ≡ mid ++ found (outside && one) (Reaches (Fails (access_cause kind)))
+-- by whether the address counts
+counted : (counts set one b : Bool) (at fails : Reached) → found (counts && ((set && turned true b) && one)) (Reaches at) ++ found (counts && ((set && turned false b) && one)) (Reaches fails) ≡ found (counts && (set && one)) (Reaches (if (true && b) then at else fails))
+counted true set one b at fails = parts set one b at fails
+counted false set one b at fails = refl
+
+pub reached : (old mid new : List End) (counts set one inside outside : Bool) (ram : ℕ → Bool) (kind : Kind) (addr pa : ℕ)
+    → mid ≡ old ++ found (counts && (inside && one)) (Reaches (At pa)) → new ≡ mid ++ found (counts && (outside && one)) (Reaches (Fails (access_cause kind)))
     → inside ≡ (set && turned true (ram (addr / 4))) → outside ≡ (set && turned false (ram (addr / 4))) → pa ≡ addr → addr < 2 ^ 32
-    → new ≡ old ++ found (set && one) (Reaches (arrived ram kind addr))
-reached old mid new set one inside outside ram kind addr pa first second ins out is small =
-    two old mid new (found (inside && one) (Reaches (At pa))) (found (outside && one) (Reaches (Fails (access_cause kind)))) first second
+    → new ≡ old ++ found (counts && (set && one)) (Reaches (arrived ram kind addr))
+reached old mid new counts set one inside outside ram kind addr pa first second ins out is small =
+    two old mid new (found (counts && (inside && one)) (Reaches (At pa))) (found (counts && (outside && one)) (Reaches (Fails (access_cause kind)))) first second
     ∙ ap (λ (es : List End). old ++ es)
-    (ap (λ (b : Bool). found (b && one) (Reaches (At pa)) ++ found (outside && one) (Reaches (Fails (access_cause kind)))) ins
-    ∙ ap (λ (b : Bool). found ((set && turned true (ram (addr / 4))) && one) (Reaches (At pa)) ++ found (b && one) (Reaches (Fails (access_cause kind)))) out
-    ∙ ap (λ (n : ℕ). found ((set && turned true (ram (addr / 4))) && one) (Reaches (At n)) ++ found ((set && turned false (ram (addr / 4))) && one) (Reaches (Fails (access_cause kind)))) is
-    ∙ parts set one (ram (addr / 4)) (At addr) (Fails (access_cause kind))
-    ∙ ap (λ (t : Bool). found (set && one) (Reaches (if (t && ram (addr / 4)) then At addr else Fails (access_cause kind)))) (sym (small_test addr (2 ^ 32) small)))
+    (ap (λ (b : Bool). found (counts && (b && one)) (Reaches (At pa)) ++ found (counts && (outside && one)) (Reaches (Fails (access_cause kind)))) ins
+    ∙ ap (λ (b : Bool). found (counts && ((set && turned true (ram (addr / 4))) && one)) (Reaches (At pa)) ++ found (counts && (b && one)) (Reaches (Fails (access_cause kind)))) out
+    ∙ ap (λ (n : ℕ). found (counts && ((set && turned true (ram (addr / 4))) && one)) (Reaches (At n)) ++ found (counts && ((set && turned false (ram (addr / 4))) && one)) (Reaches (Fails (access_cause kind)))) is
+    ∙ counted counts set one (ram (addr / 4)) (At addr) (Fails (access_cause kind))
+    ∙ ap (λ (t : Bool). found (counts && (set && one)) (Reaches (if (t && ram (addr / 4)) then At addr else Fails (access_cause kind)))) (sym (small_test addr (2 ^ 32) small)))
 
 pub beyond : (ram : ℕ → Bool) (kind : Kind) (addr : ℕ) → 2 ^ 32 ≤ addr → Fails (access_cause kind) ≡ arrived ram kind addr
 beyond ram kind addr large = ap (λ (t : Bool). if (t && ram (addr / 4)) then At addr else Fails (access_cause kind)) (sym (large_test addr (2 ^ 32) large))

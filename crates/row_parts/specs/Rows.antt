@@ -2,6 +2,7 @@
 use Rattle.std.specs.Prelude.{◌≡◌, ℕ, ◌^◌, ◌<◌, ◌+◌, ◌&&◌, bit_and, Bool, true, false, List, [], ◌∷◌, ◌++◌, Option, Some, None}
 use Rattle.dom_set.specs.Elements.{is_in}
 use Rattle.sv_walk.specs.Translation.{Reached, At, Fails}
+use Rattle.row_parts.specs.Gaps.{counts}
 use Rattle.row_parts.specs.declared.row.Row.{Row}
 use Rattle.row_parts.specs.declared.row.RowEnd.{RowEnd}
 use Rattle.row_parts.specs.declared.row.RowEnd.TheVariants.{Pa, Fault, Outside}
@@ -33,7 +34,7 @@ found b end = when b (end ∷ [])
 
 -- the row has the address with these new words
 abbrev pub has : Row → ℕ → Option ℕ → Option ℕ → Bool
-has row x root leaf = is_in row.ea x && (is_of row.root root && is_of row.leaf leaf)
+has row x root leaf = counts row.apart x && (is_in row.ea x && (is_of row.root root && is_of row.leaf leaf))
 
 -- the ends of the rows that have the address with these new words
 abbrev pub ends_in : List Row → ℕ → Option ℕ → Option ℕ → List End

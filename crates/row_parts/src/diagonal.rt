@@ -1,13 +1,20 @@
 // The addresses whose two indices differ.
 ghost use Rattle.std.specs.Prelude.{◌≡◌, ℕ, ◌/◌, ◌%◌, ◌^◌, ◌<◌, ◌==◌, ◌&&◌, not, IfOk};
 ghost use Rattle.dom_set.specs.Elements.{is_in, is_within};
-ghost use Rattle.row_parts.specs.Gaps.{are_indices_equal, is_in_gap};
+ghost use Rattle.row_parts.specs.Gaps.{are_indices_equal, counts, is_in_gap};
 
 use dom_set::{OutOfMemory, Set, set_laws};
 use std::alloc::Global;
 
 /// How far one page with equal indices is from the next.
 const APART: u32 = 0x0040_1000;
+
+/// Whether an address counts for a row for which the two indices, bits 31:22 and 21:12, may have to differ.
+pub fn counts(apart: bool, addr: u32) -> bool
+    ensures { result ≡ counts apart addr }
+{
+    !apart || addr / 0x40_0000 != addr / 0x1000 % 0x400
+}
 
 /// The ranges between the pages whose indices in the root and in the second table are equal.
 #[tactic(auto, using(crate::proofs::Between::gap_pushed))]

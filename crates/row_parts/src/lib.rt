@@ -16,7 +16,7 @@ mod target;
 pub use alike::{Entries, Group, grouped};
 pub use blocks::{Choice, Cover, chosen};
 pub use classes::{ClassPart, Level, is_same, kinds_of, table_in, word_at};
-pub use diagonal::off_diagonal;
+pub use diagonal::{counts, off_diagonal};
 pub use dom_set::OutOfMemory;
 pub use forms::Forms;
 pub use pages::{Indices, indices_of, page_of};

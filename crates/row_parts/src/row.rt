@@ -26,6 +26,8 @@ pub struct Row {
     pub root: Option<Set>,
     /// The new second entries, where the second entry is new.
     pub leaf: Option<Set>,
+    /// Whether of its addresses only those count whose two indices, bits 31:22 and 21:12, differ.
+    pub apart: bool,
     /// Where they lead.
     pub end: RowEnd,
 }
@@ -35,6 +37,8 @@ pub struct Row {
 pub struct News {
     pub root: Option<Set>,
     pub leaf: Option<Set>,
+    /// Whether of the addresses only those count whose two indices, bits 31:22 and 21:12, differ.
+    pub apart: bool,
 }
 
 /// The same new entries, in memory of their own.

@@ -25,6 +25,7 @@ pub fn row_of(alloc: Global, ea: Set, news: &News, end: RowEnd) -> Result<Row, O
     ensures ea { IfOk result (λ r. r.ea ≡ ea) }
     ensures root { IfOk result (λ r. r.root ≡ news.now.root) }
     ensures leaf { IfOk result (λ r. r.leaf ≡ news.now.leaf) }
+    ensures apart { IfOk result (λ r. r.apart ≡ news.now.apart) }
     ensures end { IfOk result (λ r. r.end ≡ end) }
 {
     let root = copy_of(alloc, &news.root)?;
@@ -33,6 +34,7 @@ pub fn row_of(alloc: Global, ea: Set, news: &News, end: RowEnd) -> Result<Row, O
         ea,
         root,
         leaf,
+        apart: news.apart,
         end,
     })
 }

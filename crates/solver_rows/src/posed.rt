@@ -108,7 +108,7 @@ fn sum(line: &mut Numbers) -> Result<Rel, Stop> {
     Ok(Rel::Sum(first, second, sum))
 }
 
-/// A relation: its place in the order of `Rel`, and its parts.
+/// A relation: its number, and its parts.
 fn relation(alloc: Global, line: &mut Numbers) -> Result<Rel, Stop> {
     match line.take()? {
         0 => Ok(Rel::Same(slot(line)?, slot(line)?)),
@@ -120,6 +120,7 @@ fn relation(alloc: Global, line: &mut Numbers) -> Result<Rel, Stop> {
         6 => target(alloc, line),
         7 => Ok(Rel::Writes),
         8 => Ok(Rel::Rows(rows(alloc, line)?)),
+        9 => Ok(Rel::In(slot(line)?, set(alloc, line)?)),
         _ => Err(Stop::Malformed),
     }
 }

@@ -11,6 +11,7 @@ use Rattle.trace_text.specs.Faults.{fault_text}
 use Rattle.trace_text.specs.Report.{report_text}
 use Rattle.trace_text.specs.Verdicts.{gave_up_text, malformed_text, verdict_text}
 use Rattle.tpl_ast.specs.Laws.{LongTextsAreRefused, TemplatesKeepLimits}
+use Rattle.gen_turn.specs.Laws.{TextsTellWhatIsMade}
 use Rattle.tool_words.specs.declared.command.Command.{Command}
 use Rattle.tool_words.specs.declared.command.Command.TheVariants.{Gen, List as Listing, Replay}
 use Rattle.tool_words.specs.declared.command.Effort.{Effort}
@@ -23,11 +24,11 @@ use Rattle.tool_texts.specs.Replay.{ReplayAnswers}
 use Rattle.tool_texts.specs.Tests.{IsRefusal, IsTemplateLine}
 use Rattle.tool_texts.proofs.Files.{FilesHaveTheirLengths}
 use Rattle.tool_texts.proofs.Replays.{Rests, long_replay, one_replay}
-use Rattle.tool_texts.proofs.Tests.{TextsTell, long_refusal, no_test, one_refusal, one_test, test_short}
+use Rattle.tool_texts.proofs.Tests.{long_refusal, no_test, one_refusal, one_test, test_short}
 
 -- ---- one answer
 
-module _ (tell : TextsTell) (effort : Effort) (bytes : List ℕ) where
+module _ (tell : TextsTellWhatIsMade) (effort : Effort) (bytes : List ℕ) where
   one_gen : (s : ℕ) (o r : List ℕ) → GenAnswers effort bytes s o r → (s' : ℕ) (o' r' : List ℕ) → GenAnswers effort bytes s' o' r' → (s ≡ s') × (o ≡ o') × (r ≡ r')
   one_gen s o r (inl a) s' o' r' (inl b) =
       let same = one_test tell effort bytes a.1.certificate b.1.certificate a.1.test b.1.test in
@@ -44,7 +45,7 @@ module _ (tell : TextsTell) (effort : Effort) (bytes : List ℕ) where
   one_listing s o r (inr a) s' o' r' (inl b) = absurd (no_test tell effort bytes s r b.1.certificate b.1.test a.1)
   one_listing s o r (inr a) s' o' r' (inr b) = let same = one_refusal tell effort bytes s s' r r' a.1 b.1 in (same.0, a.0 ∙ sym b.0, same.1)
 
-pub one_answer : Rests → TextsTell → OneAnswer
+pub one_answer : Rests → TextsTellWhatIsMade → OneAnswer
 one_answer rests tell (Gen effort) bytes fits s o r a s' o' r' b = one_gen tell effort bytes s o r a s' o' r' b
 one_answer rests tell (Listing effort) bytes fits s o r a s' o' r' b = one_listing tell effort bytes s o r a s' o' r' b
 one_answer rests tell Replay bytes fits s o r a s' o' r' b = one_replay rests bytes fits s o r a s' o' r' b
@@ -109,8 +110,7 @@ pub record Lengths : Type 0 where
   pub gave_up : (none_fits spent last_line : ℕ) → length (gave_up_text none_fits spent last_line) ≤ 256
 
 short_line : Lengths → (text line : List ℕ) → IsTemplateLine text line → length line < 16777216
-short_line lengths text line (inl why) = omega (arith, ap length why.2, lengths.fault why.0)
-short_line lengths text line (inr why) = omega (arith, ap length why.3)
+short_line lengths text line why = omega (arith, ap length why.2, lengths.fault why.0)
 
 short_refusal : Lengths → (effort : Effort) (text : List ℕ) (status : ℕ) (line : List ℕ) → IsRefusal effort text status line → length line < 16777216
 short_refusal lengths effort text status line (inl why) = short_line lengths text line why.1

@@ -1,5 +1,5 @@
 -- A text has one test at most, or one line that says why none is given.
-use Rattle.std.proofs.Common.{◌≡◌, ℕ, ◌<◌, ◌≤◌, inl, inr, Bool, true, false, List, length, sym, ◌∙◌, ap, arith, Result, Ok, Err}
+use Rattle.std.proofs.Common.{◌≡◌, ℕ, ◌<◌, ◌≤◌, inl, inr, List, length, sym, ◌∙◌, ap, arith, Result, Ok, Err}
 use Rattle.tpl_ast.specs.declared.fault.Fault.{Fault}
 use Rattle.tpl_ast.specs.declared.template.Template.{Template}
 use Rattle.tpl_ast.specs.Laws.{LongTextsAreRefused, TemplatesKeepLimits}
@@ -8,19 +8,13 @@ use Rattle.tpl_admit.specs.declared.certificate.Cert.{Cert}
 use Rattle.elf_image.specs.File.{file_bytes}
 use Rattle.gen_turn.specs.declared.making.Generated.{Generated}
 use Rattle.gen_turn.specs.declared.making.Generated.TheVariants as made
-use Rattle.gen_turn.specs.Built.{is_template_built}
-use Rattle.gen_turn.specs.Laws.{TextsTellWhatIsBuilt, TextsTellWhatIsMade}
+use Rattle.gen_turn.specs.Laws.{TextsTellWhatIsMade}
 use Rattle.trace_text.specs.Faults.{fault_text}
 use Rattle.trace_text.specs.Report.{report_text}
 use Rattle.trace_text.specs.Verdicts.{gave_up_text}
 use Rattle.tool_words.specs.declared.command.Effort.{Effort}
 use Rattle.tool_texts.specs.Tests.{IsGaveUpLine, IsRefusal, IsTemplateLine, IsTest}
 use Rattle.tool_texts.proofs.Told.{file_same, report_same}
-
--- what a text tells of its template
-pub record TextsTell : Type 0 where
-  pub built : TextsTellWhatIsBuilt
-  pub made : TextsTellWhatIsMade
 
 same_ok : (x y : Said) → ◌≡◌ {A = Result Said Fault} (Ok x) (Ok y) → x ≡ y
 same_ok x y e = cc
@@ -34,12 +28,6 @@ not_both x y e = cc
 said_same : (text : List ℕ) (t u : Template) → Parses text t → Parses text u → said_by t ≡ said_by u
 said_same text t u p q = same_ok _ _ (sym p.says ∙ q.says)
 
-true_or_false : (b : Bool) → b ≡ true → b ≡ false → ⊥
-true_or_false b h k = true_false (sym h ∙ k)
-  where
-    true_false : true ≡ false → ⊥
-    true_false e = absurd (cc e)
-
 same_done : (c d : Cert) → made.Done c ≡ made.Done d → c ≡ d
 same_done c d e = cc
 
@@ -52,11 +40,11 @@ numbers_of (made.GaveUp n s l) = (n, s, l)
 
 -- ---- one answer
 
-module _ (tell : TextsTell) (effort : Effort) (text : List ℕ) where
+module _ (tell : TextsTellWhatIsMade) (effort : Effort) (text : List ℕ) where
   pub one_test : (a b : Cert) → IsTest effort text a → IsTest effort text b → (file_bytes a ≡ file_bytes b) × (report_text a ≡ report_text b)
   one_test a b p q =
       let said : said_by a.template ≡ said_by b.template = said_same text a.template b.template p.parses q.parses in
-      let same = same_done _ b (tell.made text a.template b.template effort.seed effort.nodes effort.turns (made.Done a) (made.Done b) p.parses q.parses q.built p.found q.found) in (
+      let same = same_done _ b (tell text a.template b.template effort.seed effort.nodes effort.turns (made.Done a) (made.Done b) p.parses q.parses p.found q.found) in (
         file_same a b.template (p.parses.text ∙ sym q.parses.text) ∙ ap file_bytes same,
         report_same a b.template (ap (λ (s : Said). s.names) said) ∙ ap report_text same,
       )
@@ -64,32 +52,28 @@ module _ (tell : TextsTell) (effort : Effort) (text : List ℕ) where
   done_or_not : (line : List ℕ) (c : Cert) → IsTest effort text c → IsGaveUpLine effort text line → ⊥
   done_or_not line c test up =
       not_done _ up.none_fits up.spent up.last_line
-      (tell.made text c.template up.template effort.seed effort.nodes effort.turns (made.Done c) (made.GaveUp up.none_fits up.spent up.last_line) test.parses up.parses up.built test.found up.given_up)
+      (tell text c.template up.template effort.seed effort.nodes effort.turns (made.Done c) (made.GaveUp up.none_fits up.spent up.last_line) test.parses up.parses test.found up.given_up)
 
-  parsed_or_not : (t : Template) (line : List ℕ) → Parses text t → is_template_built t ≡ true → IsTemplateLine text line → ⊥
-  parsed_or_not t line parses built (inl why) = not_both _ _ (sym parses.says ∙ why.1)
-  parsed_or_not t line parses built (inr why) = true_or_false (is_template_built why.0) (tell.built text why.0 t why.1 parses ∙ built) why.2
+  parsed_or_not : (t : Template) (line : List ℕ) → Parses text t → IsTemplateLine text line → ⊥
+  parsed_or_not t line parses why = not_both _ _ (sym parses.says ∙ why.1)
 
   pub no_test : (status : ℕ) (line : List ℕ) (c : Cert) → IsTest effort text c → IsRefusal effort text status line → ⊥
-  no_test status line c test (inl why) = parsed_or_not c.template line test.parses test.built why.1
+  no_test status line c test (inl why) = parsed_or_not c.template line test.parses why.1
   no_test status line c test (inr up) = done_or_not line c test up.1
 
   one_line : (l m : List ℕ) → IsTemplateLine text l → IsTemplateLine text m → l ≡ m
-  one_line l m (inl v) (inl w) = v.2 ∙ ap fault_text (same_fault _ _ (sym v.1 ∙ w.1)) ∙ sym w.2
-  one_line l m (inl v) (inr w) = absurd (not_both _ _ (sym w.1.says ∙ v.1))
-  one_line l m (inr v) (inl w) = absurd (not_both _ _ (sym v.1.says ∙ w.1))
-  one_line l m (inr v) (inr w) = v.3 ∙ sym w.3
+  one_line l m v w = v.2 ∙ ap fault_text (same_fault _ _ (sym v.1 ∙ w.1)) ∙ sym w.2
 
   one_end : (l m : List ℕ) → IsGaveUpLine effort text l → IsGaveUpLine effort text m → l ≡ m
   one_end l m a b =
       let same : made.GaveUp a.none_fits a.spent a.last_line ≡ made.GaveUp b.none_fits b.spent b.last_line =
-      tell.made text a.template b.template effort.seed effort.nodes effort.turns (made.GaveUp a.none_fits a.spent a.last_line) (made.GaveUp b.none_fits b.spent b.last_line) a.parses b.parses b.built a.given_up b.given_up in
+      tell text a.template b.template effort.seed effort.nodes effort.turns (made.GaveUp a.none_fits a.spent a.last_line) (made.GaveUp b.none_fits b.spent b.last_line) a.parses b.parses a.given_up b.given_up in
       a.line_is ∙ ap (λ (g : Generated). gave_up_text (numbers_of g).0 (numbers_of g).1 (numbers_of g).2) same ∙ sym b.line_is
 
   pub one_refusal : (s s' : ℕ) (l m : List ℕ) → IsRefusal effort text s l → IsRefusal effort text s' m → (s ≡ s') × (l ≡ m)
   one_refusal s s' l m (inl a) (inl b) = (a.0 ∙ sym b.0, one_line l m a.1 b.1)
-  one_refusal s s' l m (inl a) (inr b) = absurd (parsed_or_not b.1.template l b.1.parses b.1.built a.1)
-  one_refusal s s' l m (inr a) (inl b) = absurd (parsed_or_not a.1.template m a.1.parses a.1.built b.1)
+  one_refusal s s' l m (inl a) (inr b) = absurd (parsed_or_not b.1.template l b.1.parses a.1)
+  one_refusal s s' l m (inr a) (inl b) = absurd (parsed_or_not a.1.template m a.1.parses b.1)
   one_refusal s s' l m (inr a) (inr b) = (a.0 ∙ sym b.0, one_end l m a.1 b.1)
 
 -- ---- texts that are too long
@@ -101,10 +85,9 @@ pub test_short : TemplatesKeepLimits → (effort : Effort) (text : List ℕ) (c 
 test_short keep effort text c test = parsed_short keep text c.template test.parses
 
 long_line : LongTextsAreRefused → (a b line : List ℕ) → 65537 ≤ length a → 65537 ≤ length b → IsTemplateLine a line → IsTemplateLine b line
-long_line refused a b line long long' (inl why) =
+long_line refused a b line long long' why =
     let same : parses b ≡ parses a = refused b (omega (arith, long')) ∙ sym (refused a (omega (arith, long))) in
-    inl (why.0, same ∙ why.1, why.2)
-long_line refused a b line long long' (inr why) = absurd (not_both _ _ (sym why.1.says ∙ refused a (omega (arith, long))))
+    (why.0, same ∙ why.1, why.2)
 
 pub long_refusal : TemplatesKeepLimits → LongTextsAreRefused → (effort : Effort) (a b : List ℕ) (status : ℕ) (line : List ℕ) → 65537 ≤ length a → 65537 ≤ length b → IsRefusal effort a status line → IsRefusal effort b status line
 long_refusal keep refused effort a b status line long long' (inl why) = inl (why.0, long_line refused a b line long long' why.1)

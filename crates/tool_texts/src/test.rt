@@ -4,7 +4,6 @@ ghost use Rattle.tpl_admit.specs.WellFormed.{IsWellFormed};
 ghost use Rattle.trace_text.specs.Report.{report_text};
 ghost use Rattle.tpl_ast.specs.declared.template.Template.{Template as ATemplate};
 ghost use Rattle.tpl_ast.specs.Parsing.{Parses, parses};
-ghost use Rattle.gen_turn.specs.Built.{is_template_built};
 ghost use Rattle.gen_turn.specs.Generating.{IsGivenUp};
 ghost use Rattle.tool_words.specs.declared.command.Effort.{Effort as AnEffort};
 ghost use Rattle.tool_texts.specs.Answers.{number_of};
@@ -13,7 +12,7 @@ ghost use Rattle.tool_texts.specs.Reasons.{TellsNone};
 
 use crate::OutOfMemory;
 use crate::answer::{Answer, Status};
-use gen_turn::{Generated, generate, is_template_built};
+use gen_turn::{Generated, generate};
 use std::alloc::Global;
 use tool_words::Effort;
 use tpl_admit::Cert;
@@ -21,13 +20,10 @@ use tpl_ast::{Fault, Template};
 use tpl_parse::{ParseError, parse};
 use trace_text::{fault_text, gave_up, report};
 
-/// What is said of a template that this build doesn't generate from.
-const NOT_BUILT: &[u8] = b"template line 0: not built\n";
-
 /// Why no test of a text is given.
 #[derive(Drop)]
 pub(crate) enum NoTest {
-    /// The text is no template that this build generates from, or the search gave up: the status, and the line that says why.
+    /// The text is no template, or the search gave up: the status, and the line that says why.
     Refused(Status, Vec<u8>),
     OutOfMemory,
 }
@@ -61,9 +57,6 @@ fn searched(alloc: Global, effort: &Effort, template: Template) -> Result<Cert, 
     ensures test { IfOk result (IsTest effort.now template.text) }
     ensures none { IfErr result (TellsNone effort.now template.text) }
 {
-    if !is_template_built(&template) {
-        return Err(not_built(alloc));
-    }
     match generate(alloc, template, effort.seed, effort.nodes, effort.turns) {
         Ok(Generated::Done(certificate)) => Ok(certificate),
         Ok(
@@ -87,19 +80,9 @@ fn faulty(alloc: Global, fault: &Fault) -> NoTest
     }
 }
 
-/// That this build doesn't generate from the template of the bytes, with the line that tells so.
-fn not_built(alloc: Global) -> NoTest
-    ensures { (by : AnEffort) (bytes : List ℕ) (t : ATemplate) → Parses bytes t → is_template_built t ≡ false → TellsNone by bytes result }
-{
-    match Vec::from_slice(alloc, NOT_BUILT) {
-        Ok(line) => NoTest::Refused(Status::NoTemplate, line),
-        Err(_) => NoTest::OutOfMemory,
-    }
-}
-
 /// That the search for a test of the template of the bytes gave up, with the line that tells its numbers.
 fn given_up(alloc: Global, none_fits: u64, spent: u64, last_line: u32) -> NoTest
-    ensures { (by : AnEffort) (bytes : List ℕ) (t : ATemplate) → Parses bytes t → is_template_built t ≡ true
+    ensures { (by : AnEffort) (bytes : List ℕ) (t : ATemplate) → Parses bytes t
         → IsGivenUp t by.seed by.nodes by.turns none_fits spent last_line → TellsNone by bytes result }
 {
     match gave_up(alloc, none_fits, spent, last_line) {

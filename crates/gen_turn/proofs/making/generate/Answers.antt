@@ -9,7 +9,7 @@ finish-requires-clause-ram c = same_ram c.args.template c.args.seed c.args.nodes
 
 pub returns-in-Ok : goal.returns-in-Ok
 returns-in-Ok c =
-    made c.args.template c.args.seed c.args.nodes c.args.turns c.in_ok-part.field-0 c.in_ok-part.ensures c.in-Ok.certificate c.requires.parses c.requires.built c.done_tests_are_certified.ensures.admitted c.done_tests_are_certified.ensures.fit c.sound_certificates_are_faithful.ensures.faithful c.in-Ok.ensures.tells c.in-Ok.ensures.sound (c.in-Ok.ensures.well_formed c.requires.parses) c.in-Done.is
+    made c.args.template c.args.seed c.args.nodes c.args.turns c.in_ok-part.field-0 c.in_ok-part.ensures c.in-Ok.certificate c.requires c.done_tests_are_certified.ensures.admitted c.done_tests_are_certified.ensures.fit c.sound_certificates_are_faithful.ensures.faithful c.in-Ok.ensures.tells c.in-Ok.ensures.sound (c.in-Ok.ensures.well_formed c.requires) c.in-Done.is
 
 pub returns : goal.returns
 returns c = given_up c.args.template c.args.seed c.args.nodes c.args.turns c.in_ok-part.field-0 c.in_ok-part.ensures c.in-GaveUp.none_fits c.in-GaveUp.spent c.in-GaveUp.last_line c.in-GaveUp.is

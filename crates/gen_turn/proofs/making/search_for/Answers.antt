@@ -12,13 +12,13 @@ use Rattle.gen_turn.proofs.making.search_for.Goals as goal
 
 pub search-requires-clause-few : goal.search-requires-clause-few
 search-requires-clause-few c =
-    let few = (c.template_law.ensures c.args.template.now.text c.args.template.now c.requires.parses).harts in
+    let few = (c.template_law.ensures c.args.template.now.text c.args.template.now c.requires).harts in
     subst (λ (hs : List HartDecl). length hs < 2 ^ 32) (sym c.as_slice.ensures) (omega (arith, few))
 
 pub search-requires-clause-ready : goal.search-requires-clause-ready
 search-requires-clause-ready c =
     let t = c.args.template.now in
-    let ready = c.built_templates_are_ready.ensures t c.args.nodes (here c.in_ok-draft.draft.part) c.requires.parses c.requires.built c.in_ok-draft.ensures.begun c.in_ok-draft.ensures.test in
+    let ready = c.templates_are_ready.ensures t c.args.nodes (here c.in_ok-draft.draft.part) c.requires c.in_ok-draft.ensures.begun c.in_ok-draft.ensures.test in
     let own = subst (λ (u : Template). BodiesAreReady (CanTake (drafted u c.args.nodes (here c.in_ok-draft.draft.part))) t.harts) (sym c.in_ok-draft.ensures.template) ready in
     let budget = subst (λ (n : ℕ). BodiesAreReady (CanTake (drafted c.in_ok-draft.draft.template.now n (here c.in_ok-draft.draft.part))) t.harts) (sym c.in_ok-draft.ensures.nodes) own in
     subst (λ (hs : List HartDecl). BodiesAreReady (CanTake (drafted c.in_ok-draft.draft.template.now c.in_ok-draft.draft.nodes (here c.in_ok-draft.draft.part))) hs) (sym c.as_slice.ensures) budget

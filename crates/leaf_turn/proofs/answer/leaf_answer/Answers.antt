@@ -25,15 +25,15 @@ stand_of-stand-requires-clause-pairs c = λ s feet setting.
 
 pub answer_of-requires-clause-between : goal.answer_of-requires-clause-between
 answer_of-requires-clause-between c =
-    subst (λ (l : List Atom). are_between l ≡ true) (sym c.deref-6.ensures.value) (subst (λ (l : List Atom). are_between l ≡ true) (sym c.in_ok-atoms.ensures) (c.leaves_are_between.ensures _ (plain_mandatory c.args.wishes.now c.requires.plain)))
+    subst (λ (l : List Atom). are_between l ≡ true) (sym c.deref-7.ensures.value) (subst (λ (l : List Atom). are_between l ≡ true) (sym c.in_ok-atoms.ensures) (c.leaves_are_between.ensures _ (plain_mandatory c.args.wishes.now c.requires.plain)))
 
 pub answer_of-requires-clause-biases : goal.answer_of-requires-clause-biases
 answer_of-requires-clause-biases c =
-    subst (λ (bs : List (Vec Atom Global)). All (λ b. are_between b.items ≡ true) bs) (sym c.deref-7.ensures.value) (biases_between c.leaves_are_between.ensures c.args.wishes.now c.in_ok-biases.biases.items c.requires.plain c.in_ok-biases.ensures)
+    subst (λ (bs : List (Vec Atom Global)). All (λ b. are_between b.items ≡ true) bs) (sym c.deref-8.ensures.value) (biases_between c.leaves_are_between.ensures c.args.wishes.now c.in_ok-biases.biases.items c.requires.plain c.in_ok-biases.ensures)
 
 pub answer_of-requires-clause-posable : goal.answer_of-requires-clause-posable
 answer_of-requires-clause-posable c =
-    subst (λ (l : List Atom). are_posable c.stand_of-stand.result l ≡ true) (sym (c.deref-6.ensures.value ∙ c.in_ok-atoms.ensures))
+    subst (λ (l : List Atom). are_posable c.stand_of-stand.result l ≡ true) (sym (c.deref-7.ensures.value ∙ c.in_ok-atoms.ensures))
     (c.leaves_with_accesses_are_posable.ensures c.args.wishes.now c.stand_of-stand.result
     (λ lets. ap (λ (o : Option Accesses). is_some o) c.stand_of-stand.ensures.told ∙ c.in_ok-accesses.ensures.told ∙ lets))
 
@@ -41,11 +41,11 @@ pub returns-clause-answer : goal.returns-clause-answer
 returns-clause-answer c = IfOk-weaker c.answer_of.result _ _
     (λ answer answers s feet setting has footprint.
     let leads = c.requires.leads in
-    answered c.stand_of-stand.result c.args.hart (here c.args.part.now) s feet leads.0 c.args.pa c.args.wishes.now c.deref-6.result.now (map (λ b. b.items) c.deref-7.result.now) c.args.draws.now c.args.nodes answer
-    (c.deref-6.ensures.value ∙ c.in_ok-atoms.ensures) (ap (λ (bs : List (Vec Atom Global)). map (λ b. b.items) bs) c.deref-7.ensures.value ∙ c.in_ok-biases.ensures)
+    answered c.stand_of-stand.result c.args.hart (here c.args.part.now) s feet leads.0 c.args.pa c.args.wishes.now c.deref-7.result.now (map (λ b. b.items) c.deref-8.result.now) c.args.draws.now c.args.nodes answer
+    (c.deref-7.ensures.value ∙ c.in_ok-atoms.ensures) (ap (λ (bs : List (Vec Atom Global)). map (λ b. b.items) bs) c.deref-8.ensures.value ∙ c.in_ok-biases.ensures)
     c.requires.plain leads.1
     (c.stand_of-stand.ensures.stand s feet leads.0 leads.1 setting (λ v small. has v ∙ ap (λ (l : List Atom). all_tests (turn_at s feet c.args.hart (here c.args.part.now)) l vars.A v) (sym (c.deref-2.ensures.value ∙ c.in_ok-atoms.ensures)) ∙ c.in_ok-sources.ensures s feet setting v small) footprint)
-    (pages_of_stand c.args.t.now c.in_ok-accesses.accesses c.stand_of-stand.result.accesses c.args.hart (here c.args.part.now) c.deref-4.result.now c.deref-6.result.now c.stand_of-stand.ensures.told (c.deref-4.ensures.value ∙ sym c.deref-6.ensures.value) c.in_ok-accesses.ensures.pages s feet setting) c.known_is_words.ensures.fixed c.known_is_words.ensures.words answers)
+    (pages_of_stand c.args.t.now c.in_ok-accesses.accesses c.stand_of-stand.result.accesses c.args.hart (here c.args.part.now) c.deref-4.result.now c.deref-7.result.now c.stand_of-stand.ensures.told (c.deref-4.ensures.value ∙ sym c.deref-7.ensures.value) c.in_ok-accesses.ensures.pages s feet setting) c.known_is_words.ensures.fixed c.known_is_words.ensures.words answers)
     c.answer_of.ensures
 
 pub returns-clause-found : goal.returns-clause-found
@@ -59,8 +59,8 @@ returns-clause-found c = IfOk-weaker c.answer_of.result _ _
     let stands = c.stand_of-stand.ensures.stand s feet.0 leads.0 leads.1 setting (λ v small. refl) feet.1 in
     found_by c.args.hart w s feet.0 leads.0 c.args.pa c.args.wishes.now c.args.draws.now c.args.nodes answer x c.answers_are_found.ensures c.requires.plain c.requires.vectors feet.1
     (posed_at c.args.hart w s feet.0 leads.0 c.args.pa _ leads.1 c.known_is_words.ensures.fixed c.known_is_words.ensures.words (each_plain _ (plain_mandatory c.args.wishes.now c.requires.plain)))
-    (answered c.stand_of-stand.result c.args.hart w s feet.0 leads.0 c.args.pa c.args.wishes.now c.deref-6.result.now (map (λ b. b.items) c.deref-7.result.now) c.args.draws.now c.args.nodes answer
-    (c.deref-6.ensures.value ∙ c.in_ok-atoms.ensures) (ap (λ (bs : List (Vec Atom Global)). map (λ b. b.items) bs) c.deref-7.ensures.value ∙ c.in_ok-biases.ensures)
-    c.requires.plain leads.1 stands (pages_of_stand c.args.t.now c.in_ok-accesses.accesses c.stand_of-stand.result.accesses c.args.hart (here c.args.part.now) c.deref-4.result.now c.deref-6.result.now c.stand_of-stand.ensures.told (c.deref-4.ensures.value ∙ sym c.deref-6.ensures.value) c.in_ok-accesses.ensures.pages s feet.0 setting) c.known_is_words.ensures.fixed c.known_is_words.ensures.words answers)
+    (answered c.stand_of-stand.result c.args.hart w s feet.0 leads.0 c.args.pa c.args.wishes.now c.deref-7.result.now (map (λ b. b.items) c.deref-8.result.now) c.args.draws.now c.args.nodes answer
+    (c.deref-7.ensures.value ∙ c.in_ok-atoms.ensures) (ap (λ (bs : List (Vec Atom Global)). map (λ b. b.items) bs) c.deref-8.ensures.value ∙ c.in_ok-biases.ensures)
+    c.requires.plain leads.1 stands (pages_of_stand c.args.t.now c.in_ok-accesses.accesses c.stand_of-stand.result.accesses c.args.hart (here c.args.part.now) c.deref-4.result.now c.deref-7.result.now c.stand_of-stand.ensures.told (c.deref-4.ensures.value ∙ sym c.deref-7.ensures.value) c.in_ok-accesses.ensures.pages s feet.0 setting) c.known_is_words.ensures.fixed c.known_is_words.ensures.words answers)
     found)
     c.answer_of.ensures

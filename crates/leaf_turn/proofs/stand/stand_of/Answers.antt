@@ -17,6 +17,7 @@ returns-clause-stand c = λ s feet walk leads setting sources footprint.
       vectors = refl;
       names = c.requires.names;
       footprint = c.feet.ensures;
+      others = c.requires.others;
       accesses = c.requires.accesses;
     }) setting sources footprint
 

@@ -3,6 +3,7 @@ use Rattle.std.proofs.lemmas.Nat.{and_mask, mod_below, pow_pos}
 use Rattle.dom_set.specs.Elements.{is_in}
 use Rattle.rv_mem.specs.Ram.{in_ram}
 use Rattle.sv_walk.specs.Translation.{Reached, At}
+use Rattle.row_parts.specs.Gaps.{counts}
 use Rattle.row_parts.specs.Rows.{End, Reaches, found, ends_in, is_of}
 use Rattle.row_parts.proofs.Reaching.{arrives, within}
 use Rattle.row_parts.proofs.splitting.push_reached.Goals as goal
@@ -12,7 +13,7 @@ returns-in_ok-push_all-in-All c = λ x root leaf small.
     let old : List End = ends_in c.args.rows.now.items x root leaf in
     let width : ℕ = c.args.width in
     let addr : ℕ = c.args.frame * 4096 + x % 2 ^ width in
-    let one : Bool = is_in c.args.set.now x && (is_of c.args.news.now.root root && is_of c.args.news.now.leaf leaf) in
+    let one : Bool = counts c.args.news.now.apart x && (is_in c.args.set.now x && (is_of c.args.news.now.root root && is_of c.args.news.now.leaf leaf)) in
     let low : x % 2 ^ width < 2 ^ width = mod_below x (2 ^ width) (pow_pos width) in
     let there : in_ram c.args.ram.now (addr / 4) ≡ true = c.in-All.ensures.all refl (x % 2 ^ width) (omega arith) (omega (arith, low)) in
     let pa : c.args.frame * 4096 + bit_and x c.mask_of-mask.result ≡ addr =

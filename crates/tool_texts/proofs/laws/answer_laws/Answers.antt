@@ -10,7 +10,7 @@ returns-clause-one c = one_answer (record {
   failure = c.one_verdict.ensures.one;
   decides = c.said_law.ensures;
   layouts = c.layout_law.ensures;
-}) (record { built = c.texts_tell_what_is_made.ensures.built; made = c.texts_tell_what_is_made.ensures.made })
+}) c.texts_tell_what_is_made.ensures
 
 pub returns-clause-limits : goal.returns-clause-limits
 returns-clause-limits c = limits_lose_nothing (record {
