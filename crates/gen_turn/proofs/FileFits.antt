@@ -42,7 +42,7 @@ fit_write : (rd : Option (ℕ × ℕ)) → IsFitWrite rd → IsWritten rd
 fit_write None fit = tt
 fit_write (Some rd) fit = fit
 
-fit_record : (r : Record) → IsFitRecord r → IsRecord r
+pub fit_record : (r : Record) → IsFitRecord r → IsRecord r
 fit_record r fit = record { pc = fit.pc; word = fit.word; next_pc = fit.next_pc; outcome = fit_outcome r.outcome fit.outcome; rd = fit_write r.rd fit.rd; accesses = fit.accesses; count = fit.count }
 
 abbrev pub AreRecords : List (List Record) → Type 0

@@ -3,6 +3,7 @@ ghost use Rattle.std.specs.Prelude.{◌<◌};
 ghost use Rattle.tpl_admit.specs.WellFormed.{IsWellFormed};
 
 use crate::row::{Pace, Row};
+use crate::runs::run_by;
 use crate::stop::Stop;
 use elf_image::{ReadError, read, write};
 use std::alloc::Global;
@@ -121,21 +122,26 @@ fn admission_of(alloc: Global, cert: &Cert) -> Result<Answer, Stop>
     })
 }
 
+/// What a file's certificate gives by one of the words `file`, `admits` and `run`.
+fn told_of(alloc: Global, cert: &Cert, call: &[String], word: &str) -> Result<Answer, Stop>
+    requires { IsWellFormed cert.now }
+{
+    match word {
+        "file" => file_of(alloc, cert),
+        "admits" => admission_of(alloc, cert),
+        _ => run_by(alloc, cert, call.get(1..).unwrap_or(&[])),
+    }
+}
+
 /// What the row's call gives for this input: `file` reads it, writes what was read, and reports it; `admits` says
-/// whether its template admits its trace; any other words are those of the program.
+/// whether its template admits its trace; `run` runs a schedule from its start; any other words are those of the program.
 pub fn answer_of(alloc: Global, row: &Row, input: &[u8]) -> Result<Answer, Stop> {
     let word = row.call.first().map(|word| word.as_str()).unwrap_or("");
-    if word != "file" && word != "admits" {
+    if word != "file" && word != "admits" && word != "run" {
         return run_of(alloc, row, input);
     }
     match read(alloc, input) {
-        Ok(cert) => {
-            if word == "file" {
-                file_of(alloc, &cert)
-            } else {
-                admission_of(alloc, &cert)
-            }
-        }
+        Ok(cert) => told_of(alloc, &cert, &row.call, word),
         Err(stop) => no_file(alloc, stop),
     }
 }

@@ -14,6 +14,38 @@ fn lines_in(bytes: &[u8]) -> usize {
     bytes.iter().filter(|byte| **byte == b'\n').count()
 }
 
+/// The lines of the steps of one hart in a text.
+fn steps_of(alloc: Global, text: &str, hart: u8) -> Result<Vec<u8>, Stop> {
+    let head = format!(in alloc; "step {hart} ")?;
+    let mut steps = Vec::new(alloc);
+    for line in text.lines() {
+        if line.starts_with(head.as_str()) {
+            steps.extend_from_slice(line.as_bytes())?;
+            steps.push(b'\n')?;
+        }
+    }
+    Ok(steps)
+}
+
+/// Whether a text is that of steps alone, and has those of a report, each hart's in their order.
+fn are_steps(alloc: Global, bytes: &[u8], report: &[u8]) -> Result<bool, Stop> {
+    let Ok(text) = str::from_utf8(bytes) else {
+        return Err(Stop::Value);
+    };
+    let Ok(report) = str::from_utf8(report) else {
+        return Err(Stop::Value);
+    };
+    let mut count = 0usize;
+    for hart in 0..4 {
+        let steps = steps_of(alloc, text, hart)?;
+        if steps != steps_of(alloc, report, hart)? {
+            return Ok(false);
+        }
+        count = count.wrapping_add(steps.len());
+    }
+    Ok(count == bytes.len())
+}
+
 /// Whether the bytes are those that have to stand in a sink.
 fn is_wanted(
     alloc: Global,
@@ -31,6 +63,8 @@ fn is_wanted(
         Wanted::Front(count) => Ok(is_front(bytes, count, &told.text)),
         Wanted::File => Ok(bytes == row.parts.file(alloc)?.as_slice()),
         Wanted::FileFront(count) => Ok(is_front(bytes, count, &row.parts.file(alloc)?)),
+        Wanted::Steps => are_steps(alloc, bytes, &row.before),
+        Wanted::Report => Ok(bytes == row.before.as_slice()),
     }
 }
 
@@ -44,9 +78,8 @@ fn is_right(alloc: Global, row: &Row, input: &[u8], given: &Answer) -> Result<bo
 }
 
 /// What is said of an answer that is another one, or nothing.
-fn told_of(alloc: Global, row: &Row, input: &[u8]) -> Result<Option<String>, Stop> {
-    let given = answer_of(alloc, row, input)?;
-    if is_right(alloc, row, input, &given)? {
+fn said_of(alloc: Global, row: &Row, input: &[u8], given: &Answer) -> Result<Option<String>, Stop> {
+    if is_right(alloc, row, input, given)? {
         return Ok(None);
     }
     let out = String::from_utf8_lossy(alloc, &given.out)?;
@@ -55,6 +88,11 @@ fn told_of(alloc: Global, row: &Row, input: &[u8]) -> Result<Option<String>, Sto
         "row {}: status {}, out {out:?}, report {report:?}",
         row.name, given.status
     )?))
+}
+
+fn told_of(alloc: Global, row: &Row, input: &[u8]) -> Result<Option<String>, Stop> {
+    let given = answer_of(alloc, row, input)?;
+    said_of(alloc, row, input, &given)
 }
 
 /// What is said of the row with one of the inputs that it is run with, or nothing.
@@ -109,12 +147,30 @@ fn told_of_flips(
     Ok(None)
 }
 
-/// What is said of a row that gives something else than it has to, or nothing.
-pub fn wrong(alloc: Global, row: &Row) -> Result<Option<String>, Stop> {
+/// What came of a row.
+#[derive(Drop)]
+pub struct Outcome {
+    /// What is said of it where it gives something else than it has to.
+    pub wrong: Option<String>,
+    /// What it gave, where it is run once.
+    pub given: Option<Answer>,
+}
+
+fn outcome_of(alloc: Global, row: &Row, input: &[u8]) -> Result<Outcome, Stop> {
+    let given = answer_of(alloc, row, input)?;
+    Ok(Outcome {
+        wrong: said_of(alloc, row, input, &given)?,
+        given: Some(given),
+    })
+}
+
+/// Runs a row.
+pub fn run(alloc: Global, row: &Row) -> Result<Outcome, Stop> {
     let input = row.whole_input(alloc)?;
-    match row.each {
-        Each::Whole => told_of(alloc, row, &input),
-        Each::Fronts(from, to) => told_of_fronts(alloc, row, &input, from, to),
-        Each::Flips(from, to) => told_of_flips(alloc, row, &input, from, to),
-    }
+    let wrong = match row.each {
+        Each::Whole => return outcome_of(alloc, row, &input),
+        Each::Fronts(from, to) => told_of_fronts(alloc, row, &input, from, to)?,
+        Each::Flips(from, to) => told_of_flips(alloc, row, &input, from, to)?,
+    };
+    Ok(Outcome { wrong, given: None })
 }

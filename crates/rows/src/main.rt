@@ -8,6 +8,7 @@ mod hex;
 mod parts;
 mod reader;
 mod row;
+mod runs;
 mod stop;
 
 use crate::reader::Reader;

@@ -1,5 +1,6 @@
 // The lines of a file, one after another.
-use crate::compare::wrong;
+use crate::answer::Answer;
+use crate::compare::{Outcome, run};
 use crate::hex::{decimal, hex, push_numbers, push_word};
 use crate::parts::Run;
 use crate::row::{Each, Input, Pace, Row, Wanted};
@@ -35,6 +36,8 @@ pub struct Reader {
     rows: u32,
     /// What is said of the rows that gave something else.
     told: Vec<String>,
+    /// What the last row gave whose input wasn't made by another one.
+    made: Option<Answer>,
 }
 
 /// A text's first word, and what stands behind the blank.
@@ -94,6 +97,8 @@ fn wanted_of(text: &str) -> Result<Wanted, Stop> {
         "any" if rest.is_empty() => Ok(Wanted::Any),
         "file" if rest.is_empty() => Ok(Wanted::File),
         "input" if rest.is_empty() => Ok(Wanted::Input),
+        "steps" if rest.is_empty() => Ok(Wanted::Steps),
+        "report" if rest.is_empty() => Ok(Wanted::Report),
         "size" => Ok(Wanted::Size(place(rest)?)),
         "lines" => Ok(Wanted::Lines(place(rest)?)),
         "front" => Ok(Wanted::Front(place(rest)?)),
@@ -122,6 +127,7 @@ impl Reader {
             line: 0,
             rows: 0,
             told: Vec::new(alloc),
+            made: None,
         }
     }
 
@@ -150,8 +156,12 @@ impl Reader {
         if !self.is_row {
             return Ok(());
         }
-        if let Some(told) = wrong(alloc, &self.row)? {
+        let Outcome { wrong, given } = run(alloc, &self.row)?;
+        if let Some(told) = wrong {
             self.told.push(told)?;
+        }
+        if !self.row.is_made() {
+            self.made = given;
         }
         self.rows = self.rows.wrapping_add(1);
         Ok(())
@@ -306,9 +316,21 @@ impl Reader {
         }
     }
 
+    /// The input is what the last row with another input wrote to `out`.
+    fn input_made(&mut self, alloc: Global) -> Result<(), Stop> {
+        let Some(made) = &self.made else {
+            return Err(Stop::Value);
+        };
+        self.row.bytes = made.out.to_vec(alloc)?;
+        self.row.before = made.report.to_vec(alloc)?;
+        self.row.input = Input::Made;
+        Ok(())
+    }
+
     /// A line that says something of the input.
     fn input(&mut self, alloc: Global, key: &str, text: &str) -> Result<(), Stop> {
         match key {
+            "input" if text == "made" => self.input_made(alloc),
             "input" => {
                 self.row.input = input_of(text)?;
                 Ok(())

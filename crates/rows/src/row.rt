@@ -12,6 +12,8 @@ pub enum Input {
     Template,
     /// The row's bytes.
     Bytes,
+    /// What the last row with another input wrote to `out`.
+    Made,
 }
 
 /// Which inputs are made of the one that the row says.
@@ -53,6 +55,10 @@ pub enum Wanted {
     Front(usize),
     /// So many first bytes of the file of the row's parts.
     FileFront(usize),
+    /// The steps of the report that was given beside the input, those of each hart in their order.
+    Steps,
+    /// That report.
+    Report,
 }
 
 /// A sink's pace, what has to stand in it, and the row's text for it.
@@ -71,6 +77,8 @@ pub struct Row {
     pub parts: Parts,
     pub input: Input,
     pub bytes: Vec<u8>,
+    /// The report that was given beside `out` where that is the input.
+    pub before: Vec<u8>,
     /// What stands behind the input.
     pub behind: Vec<u8>,
     /// Places of the input, and the bytes there.
@@ -131,6 +139,7 @@ impl Row {
             parts: Parts::new(alloc),
             input: Input::File,
             bytes: Vec::new(alloc),
+            before: Vec::new(alloc),
             behind: Vec::new(alloc),
             changes: Vec::new(alloc),
             each: Each::Whole,
@@ -149,6 +158,7 @@ impl Row {
             parts: self.parts.copy(alloc)?,
             input: self.input,
             bytes: self.bytes.clone()?,
+            before: self.before.clone()?,
             behind: self.behind.clone()?,
             changes: self.changes.clone()?,
             each: self.each,
@@ -159,11 +169,19 @@ impl Row {
         })
     }
 
+    /// Whether its input is what another row wrote.
+    pub fn is_made(&self) -> bool {
+        match self.input {
+            Input::File | Input::Template | Input::Bytes => false,
+            Input::Made => true,
+        }
+    }
+
     fn given(&self, alloc: Global) -> Result<Vec<u8>, Stop> {
         match self.input {
             Input::File => self.parts.file(alloc),
             Input::Template => Ok(self.parts.template.clone()?),
-            Input::Bytes => Ok(self.bytes.clone()?),
+            Input::Bytes | Input::Made => Ok(self.bytes.clone()?),
         }
     }
 

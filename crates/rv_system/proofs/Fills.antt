@@ -1,20 +1,18 @@
 -- A system for each fill of what a start leaves open.
-use Rattle.std.proofs.Common.{◌≡◌, ℕ, zero, suc, ◌+◌, ◌*◌, ◌%◌, ◌^◌, ◌<◌, Bool, true, false, eqb, leb, ltb, ◌&&◌, List, [], ◌∷◌, length, Option, Some, None, refl, sym, ap, ◌∙◌, subst, inl, inr, arith}
+use Rattle.std.proofs.Common.{◌≡◌, ℕ, zero, suc, ◌+◌, ◌*◌, ◌^◌, ◌<◌, true, false, eqb, leb, ltb, ◌&&◌, List, [], ◌∷◌, length, Option, Some, None, refl, sym, ap, ◌∙◌, subst, inl, inr, arith}
 use Rattle.std.specs.Prelude.{nat_eq, slice_index_or}
 use Rattle.std.specs.List.{AllByRecursion, list_any}
 use Rattle.std.specs.Option.{unwrap_or}
 use Rattle.std.proofs.lemmas.Bool.{cases_Bool, eqb-true, and_right, or_cases}
-use Rattle.rv_csr.specs.Table.{csr_key, is_legal_at, lazy_csrs}
-use Rattle.rv_hart.specs.Whole.{WholeHart}
+use Rattle.rv_csr.specs.Table.{csr_key, lazy_csrs}
 use Rattle.tpl_ast.specs.declared.template.HartState.{HartState}
-use Rattle.tpl_ast.specs.declared.template.Region.{Region}
 use Rattle.tpl_ast.specs.States.{ArePlaces, AreStartWords, IsState, IsWord, is_key, is_legal_place}
 use Rattle.tpl_admit.specs.declared.certificate.Cert.{Cert}
 use Rattle.tpl_admit.specs.System.{System}
 use Rattle.tpl_admit.specs.Starts.{found, no_state, start_of, word_of, first_system, AgreesWith}
 use Rattle.tpl_admit.specs.Validity.{IsSound}
 use Rattle.tpl_admit.specs.WellFormed.{IsWellFormed}
-use Rattle.rv_system.specs.Fills.{Fill, filled, filled_system, no_fill, fill_of, IsFilledBy, IsSameFor, AreLegalPlaces, IsLegalFill, IsLegalHart, IsLegalSystem}
+use Rattle.rv_system.specs.Fills.{Fill, even_place, evenly, filled, filled_system, no_fill, fill_of, IsFilledBy, IsSameFor, AreLegalPlaces, IsLegalFill, IsLegalHart, IsLegalSystem}
 use Rattle.rv_system.proofs.Law.{start_word}
 
 -- ---- values that are given, and others
@@ -47,12 +45,16 @@ memory_words : (c : Cert) (fill : Fill) → AreStartWords c.template.ram 0 c.wor
 memory_words c fill words small n =
     filled_has (λ n v. IsWord v) (word_of c) fill.words (λ m v is. (start_word c.template.ram 0 c.words words (m * 4) v is).1) n (small n)
 
-pub fills_agree : (c : Cert) (fill : Fill) → IsSound c → ((n : ℕ) → IsWord (fill.words n)) → AgreesWith c (filled_system c fill)
-fills_agree c fill sound small = record {
+-- what is given of memory are words
+pub words_agree : (c : Cert) (fill : Fill) → AreStartWords c.template.ram 0 c.words → ((n : ℕ) → IsWord (fill.words n)) → AgreesWith c (filled_system c fill)
+words_agree c fill words small = record {
   harts = λ k l. record { fixed = refl; places = λ key v is. given_at (found (start_of c k).places) (fill.places k) key v is };
   words = λ n v is. given_at (word_of c) fill.words n v is;
-  memory = λ n. memory_words c fill sound.words small n;
+  memory = λ n. memory_words c fill words small n;
 }
+
+pub fills_agree : (c : Cert) (fill : Fill) → IsSound c → ((n : ℕ) → IsWord (fill.words n)) → AgreesWith c (filled_system c fill)
+fills_agree c fill sound small = words_agree c fill sound.words small
 
 pub fills_are_kept : (c : Cert) (fill : Fill) → IsFilledBy c fill (filled_system c fill)
 fills_are_kept c fill = record {
@@ -80,7 +82,7 @@ given_legal from (e ∷ es) are legal key v is = elim (cases_Bool (eqb e.0 key))
   | inr other ↦ given_legal (e.0 + 1) es are.3 legal.1 key v (rw other at is)
 ]
 
-state_at : (ss : List HartState) (k : ℕ) → AllByRecursion IsState ss → k < length ss → IsState (slice_index_or ss k no_state)
+pub state_at : (ss : List HartState) (k : ℕ) → AllByRecursion IsState ss → k < length ss → IsState (slice_index_or ss k no_state)
 state_at [] k are within = absurd (omega (arith, within))
 state_at (s ∷ ss) zero are within = are.0
 state_at (s ∷ ss) (suc k) are within = state_at ss k are.1 (omega (arith, within))
@@ -114,7 +116,7 @@ listed_legal (addr ∷ addrs) key are is = elim (or_cases (nat_eq key (csr_key a
   | inr later ↦ listed_legal addrs key are.1 later
 ]
 
-zero_legal : (key : ℕ) → is_key key ≡ true → is_legal_place (key, 0) ≡ true
+pub zero_legal : (key : ℕ) → is_key key ≡ true → is_legal_place (key, 0) ≡ true
 zero_legal key place = elim (or_cases (leb 1 key && ltb key 32) (list_any (λ (a : ℕ). nat_eq key (csr_key a)) lazy_csrs) place) [
   | inl register ↦ elim (cases_Bool (ltb key 32)) [
     | inl below ↦ rw below refl
@@ -128,3 +130,17 @@ zero_legal key place = elim (or_cases (leb 1 key && ltb key 32) (list_any (λ (a
 
 pub zero_is_a_fill : ((count : ℕ) → IsLegalFill count no_fill) × ((c : Cert) → first_system c ≡ filled_system c no_fill)
 zero_is_a_fill = (λ count. record { places = λ k within key place. (omega arith, zero_legal key place); words = λ n. omega arith }, λ c. refl)
+
+-- ---- an even fill
+
+even_legal : (fill : ℕ) → IsWord fill → AreLegalPlaces (even_place fill)
+even_legal fill small key place = elim (cases_Bool (ltb key 32)) [
+  | inl below ↦ rw below (small, refl)
+  | inr past ↦ even_zero key past (zero_legal key place)
+]
+  where
+    even_zero : (key : ℕ) → ltb key 32 ≡ false → is_legal_place (key, 0) ≡ true → IsWord (even_place fill key) × (is_legal_place (key, even_place fill key) ≡ true)
+    even_zero key past legal = let none : even_place fill key ≡ 0 = rw past refl in rw none (omega arith, legal)
+
+pub evenly_legal : (count fill : ℕ) → IsWord fill → IsLegalFill count (evenly fill)
+evenly_legal count fill small = record { places = λ k within. even_legal fill small; words = λ n. small }

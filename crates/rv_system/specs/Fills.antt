@@ -1,5 +1,5 @@
 -- The whole systems that begin as a certificate says: one for each fill of the places that its start doesn't give.
-use Rattle.std.specs.Prelude.{◌≡◌, ℕ, ◌%◌, ◌<◌, true, length, Option, None}
+use Rattle.std.specs.Prelude.{◌≡◌, ℕ, ◌%◌, ◌<◌, true, nat_lt, if◌then◌else◌, length, Option, None}
 use Rattle.std.specs.Option.{unwrap_or}
 use Rattle.rv_csr.specs.Table.{is_legal_at}
 use Rattle.rv_hart.specs.Whole.{WholeHart}
@@ -29,6 +29,14 @@ filled_system c fill = record { harts = filled_hart c fill; memory = filled (wor
 -- zero everywhere
 abbrev pub no_fill : Fill
 no_fill = record { places = λ k key. 0; words = λ n. 0 }
+
+-- this value for each register, and zero for each lazy CSR
+abbrev pub even_place : ℕ → ℕ → ℕ
+even_place fill key = if nat_lt key 32 then fill else 0
+
+-- so for each hart, and this value for each word
+abbrev pub evenly : ℕ → Fill
+evenly fill = record { places = λ k. even_place fill; words = λ n. fill }
 
 -- the values of a system
 abbrev pub fill_of : System → Fill

@@ -1,1 +1,4 @@
 pub mod Fills
+pub mod Systems
+pub mod Starting
+pub mod Runs

@@ -1,30 +1,15 @@
-//! Systems of harts over one memory, and the law that a sound certificate is faithful: whatever the order of the
-//! harts' steps, each hart does what it does alone.
+//! Systems of harts over one memory: the system of a certificate's start, the run of a schedule, and the law that a sound
+//! certificate is faithful: whatever the order of the harts' steps, each hart does what it does alone.
 #![tactic(auto)]
 
-ghost use Rattle.tpl_admit.specs.declared.certificate.Cert.{Cert};
-ghost use Rattle.tpl_admit.specs.Starts.{AgreesWith, first_system};
-ghost use Rattle.tpl_admit.specs.Validity.{IsSound};
-ghost use Rattle.tpl_admit.specs.Faithfulness.{IsFaithful};
-ghost use Rattle.rv_system.specs.Fills.{FillsAgree, FillsAreAll, FillsAreKept, FillsAreLegal, MachinesFill, ZeroIsAFill};
+mod error;
+mod executing;
+mod filling;
+mod laws;
+mod starting;
+mod system;
 
-/// From every system that agrees with the start of a sound certificate, of any number of harts, under every order of
-/// whole steps in which no hart exceeds its records, each hart's steps are its printed records, and the printed end
-/// holds when all are taken. There is such a system for each fill of the registers, lazy CSRs and words that the start
-/// doesn't give, and no other; one is that with zero wherever nothing is given.
-pub fn sound_certificates_are_faithful()
-    ensures faithful { (c : Cert) → IsSound c → IsFaithful c }
-    ensures agreed { (c : Cert) → IsSound c → AgreesWith c (first_system c) }
-
-    // A system for each fill.
-    ensures filled { FillsAgree }
-    ensures kept { FillsAreKept }
-
-    // There are no others.
-    ensures all { FillsAreAll }
-
-    // Where values of CSRs are to be legal, as in a machine.
-    ensures legal { FillsAreLegal }
-    ensures machines { MachinesFill }
-    ensures zero { ZeroIsAFill }
-{}
+pub use error::{OutOfMemory, Stop};
+pub use executing::{Execution, execute};
+pub use laws::sound_certificates_are_faithful;
+pub use system::System;

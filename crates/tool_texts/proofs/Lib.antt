@@ -3,5 +3,10 @@ pub mod Told
 pub mod Tests
 pub mod Files
 pub mod Replays
+pub mod Runs
+pub mod Executed
+pub mod Execs
+pub mod Shows
+pub mod Demos
 pub mod ByCommand
 pub mod Refusals

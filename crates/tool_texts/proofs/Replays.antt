@@ -33,7 +33,7 @@ pub record Rests : Type 0 where
   pub layouts : LinesTellLayouts
 
 -- certificates of one file fail alike
-failure_moved : Rests → (bytes : List ℕ) (a b : Cert) → IsFileOf bytes a → IsFileOf bytes b → (kind hart step : ℕ) → IsFirstFailure a kind hart step → IsFirstFailure b kind hart step
+pub failure_moved : Rests → (bytes : List ℕ) (a b : Cert) → IsFileOf bytes a → IsFileOf bytes b → (kind hart step : ℕ) → IsFirstFailure a kind hart step → IsFirstFailure b kind hart step
 failure_moved rests bytes a b f g kind hart step is =
     let same : told a ≡ told b = one_told rests.spelling bytes a b f g in
     subst (λ (c : Cert). IsFirstFailure c kind hart step) (told_same a b same) (failure_same rests.layouts a b.template (ap (λ (x : Told). x.said) same) kind hart step is)

@@ -5,6 +5,7 @@ use Rattle.tpl_ast.specs.declared.template.Template.{Template}
 use Rattle.tpl_ast.specs.Laws.{LongTextsAreRefused, TemplatesKeepLimits}
 use Rattle.tpl_ast.specs.Parsing.{Parses, Said, parses, said_by}
 use Rattle.tpl_admit.specs.declared.certificate.Cert.{Cert}
+use Rattle.tpl_admit.specs.Laws.{with_template}
 use Rattle.elf_image.specs.File.{file_bytes}
 use Rattle.gen_turn.specs.declared.making.Generated.{Generated}
 use Rattle.gen_turn.specs.declared.making.Generated.TheVariants as made
@@ -22,7 +23,7 @@ same_ok x y e = cc
 same_fault : (x y : Fault) → ◌≡◌ {A = Result Said Fault} (Err x) (Err y) → x ≡ y
 same_fault x y e = cc
 
-not_both : (x : Said) (y : Fault) → ◌≡◌ {A = Result Said Fault} (Ok x) (Err y) → ⊥
+pub not_both : (x : Said) (y : Fault) → ◌≡◌ {A = Result Said Fault} (Ok x) (Err y) → ⊥
 not_both x y e = cc
 
 said_same : (text : List ℕ) (t u : Template) → Parses text t → Parses text u → said_by t ≡ said_by u
@@ -41,10 +42,13 @@ numbers_of (made.GaveUp n s l) = (n, s, l)
 -- ---- one answer
 
 module _ (tell : TextsTellWhatIsMade) (effort : Effort) (text : List ℕ) where
+  pub one_certificate : (a b : Cert) → IsTest effort text a → IsTest effort text b → with_template a b.template ≡ b
+  one_certificate a b p q = same_done _ b (tell text a.template b.template effort.seed effort.nodes effort.turns (made.Done a) (made.Done b) p.parses q.parses p.found q.found)
+
   pub one_test : (a b : Cert) → IsTest effort text a → IsTest effort text b → (file_bytes a ≡ file_bytes b) × (report_text a ≡ report_text b)
   one_test a b p q =
       let said : said_by a.template ≡ said_by b.template = said_same text a.template b.template p.parses q.parses in
-      let same = same_done _ b (tell text a.template b.template effort.seed effort.nodes effort.turns (made.Done a) (made.Done b) p.parses q.parses p.found q.found) in (
+      let same = one_certificate a b p q in (
         file_same a b.template (p.parses.text ∙ sym q.parses.text) ∙ ap file_bytes same,
         report_same a b.template (ap (λ (s : Said). s.names) said) ∙ ap report_text same,
       )

@@ -1,8 +1,10 @@
 pub mod Answers
 pub mod Commands
 pub mod Gen
-pub mod Listing
 pub mod Replay
+pub mod Exec
+pub mod Show
+pub mod Demo
 pub mod Tests
 pub mod Files
 pub mod Reasons

@@ -1,6 +1,7 @@
 // Laws of answers.
 ghost use Rattle.tool_texts.specs.Laws.{OneAnswer, LimitsLoseNothing, RefusalsAreReported, TextsAreShort};
 
+use cover_sweep::demo_laws;
 use elf_image::{file_lengths, one_first_wrong, one_spelling};
 use gen_turn::texts_tell_what_is_made;
 use replay_check::one_verdict;
@@ -26,4 +27,5 @@ pub fn answer_laws()
     template_law();
     language_laws();
     length_laws();
+    demo_laws();
 }

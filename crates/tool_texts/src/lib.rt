@@ -3,15 +3,18 @@
 
 mod answer;
 mod command;
+mod demonstrating;
 mod error;
 mod generating;
 mod laws;
-mod listing;
+mod lines;
 mod replaying;
+mod running;
+mod showing;
 mod test;
 
 pub use answer::{Answer, Status};
 pub use command::answer_to;
 pub use error::OutOfMemory;
 pub use laws::answer_laws;
-pub use tool_words::{Command, Effort};
+pub use tool_words::{Command, Effort, NoCommand, words_law};

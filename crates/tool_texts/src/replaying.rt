@@ -1,22 +1,19 @@
 // What `replay` answers.
 ghost use Rattle.std.specs.Prelude.{◌≡◌, List, ℕ, [], IfOk};
-ghost use Rattle.tpl_admit.specs.declared.certificate.Cert.{Cert as ACert};
 ghost use Rattle.tpl_admit.specs.WellFormed.{IsWellFormed};
 ghost use Rattle.replay_check.specs.declared.verdict.Verdict.TheVariants.{Yes, No};
-ghost use Rattle.elf_image.specs.Parts.{IsFirstWrong};
 ghost use Rattle.trace_text.specs.Verdicts.{verdict_text};
-ghost use Rattle.tool_texts.specs.declared.answer.Status.TheVariants.{Done, Invalid};
 ghost use Rattle.tool_texts.specs.Answers.{number_of};
 ghost use Rattle.tool_texts.specs.Files.{IsFileOf};
 ghost use Rattle.tool_texts.specs.Replay.{ReplayAnswers};
 
 use crate::OutOfMemory;
-use crate::answer::{Answer, Status};
+use crate::answer::Answer;
+use crate::lines::{no_file, status_of, verdict_line};
 use elf_image::{ReadError, read};
 use replay_check::{Verdict, check};
 use std::alloc::Global;
 use tpl_admit::Cert;
-use trace_text::{malformed, verdict};
 
 /// What `replay` answers to the bytes that it read.
 pub(crate) fn replay_answer(alloc: Global, bytes: &[u8]) -> Result<Answer, OutOfMemory>
@@ -49,38 +46,6 @@ fn told(alloc: Global, answer: &Verdict) -> Result<Answer, OutOfMemory>
 {
     match verdict_line(alloc, answer) {
         Ok(line) => Ok(Answer::to_out(alloc, status_of(answer), line)),
-        Err(_) => Err(OutOfMemory),
-    }
-}
-
-/// The status of a verdict.
-fn status_of(answer: &Verdict) -> Status
-    ensures yes { answer.now ≡ Yes → result ≡ Done }
-    ensures no { (kind hart step : ℕ) → answer.now ≡ No kind hart step → result ≡ Invalid }
-{
-    match *answer {
-        Verdict::Yes => Status::Done,
-        Verdict::No { .. } => Status::Invalid,
-    }
-}
-
-/// The line of a verdict.
-fn verdict_line(alloc: Global, answer: &Verdict) -> Result<Vec<u8>, OutOfMemory>
-    ensures { IfOk result (λ v. v.items ≡ verdict_text answer.now) }
-{
-    match verdict(alloc, answer) {
-        Ok(line) => Ok(line.into_bytes()),
-        Err(_) => Err(OutOfMemory),
-    }
-}
-
-/// That bytes are no file, with the line that tells their first wrong part.
-fn no_file(alloc: Global, part: u8) -> Result<Answer, OutOfMemory>
-    ensures { (bytes : List ℕ) → IsFirstWrong bytes part → ((c : ACert) → IsFileOf bytes c → ⊥)
-        → IfOk result (λ a. ReplayAnswers bytes (number_of a.status) a.out.items a.report.items) }
-{
-    match malformed(alloc, part) {
-        Ok(line) => Ok(Answer::to_report(alloc, Status::Malformed, line.into_bytes())),
         Err(_) => Err(OutOfMemory),
     }
 }

@@ -7,7 +7,7 @@ use Rattle.tool_texts.specs.Answers.{is_answer}
 use Rattle.tool_words.specs.Commands.{limit_of, IsCommand}
 use Rattle.tool_texts.specs.Commands.{Answers}
 use Rattle.tool_top.specs.Promise.{AreGiven, IsAllRead, IsAnswered, IsComplete, IsRefused}
-use Rattle.tool_top.proofs.Reading.{Reads, are_taken, given_taken, read_all, reads_of, same_some}
+use Rattle.tool_top.proofs.Reading.{Reads, are_taken, given_taken, read_all, reads_of}
 
 -- a command answered so many bytes that were read, and the program ends with a status: the answer's, or 7 where that is 0
 pub record Ends (words : List (List ℕ)) (command : Command) (old new : Option (List ℕ)) (bytes : List ℕ) (number : ℕ) (out report : List ℕ) (status : ℕ) : Type 0 where
@@ -19,14 +19,13 @@ pub record Ends (words : List (List ℕ)) (command : Command) (old new : Option 
   pub end : (status ≡ number) ⊎ ((status ≡ 7) × (number ≡ 0))
   pub cut : status ≡ 7 → number ≡ 0
 
-pub ends_of : (words : List (List ℕ)) (command : Command) (old new : Option (List ℕ)) (read bytes : List ℕ) (limit number : ℕ) (out report : List ℕ) (status : ℕ) (found : Option Command)
-    → IsCommand words command → ((other : Command) → IsCommand words other → found ≡ Some other) → found ≡ Some command
-    → limit ≡ limit_of command → bytes ≡ read → Consumes old new read → (length read < limit → IsAtEnd new) → length read ≤ limit
+pub ends_of : (words : List (List ℕ)) (command : Command) (old new : Option (List ℕ)) (read bytes : List ℕ) (limit number : ℕ) (out report : List ℕ) (status : ℕ)
+    → IsCommand words command → ((other : Command) → IsCommand words other → command ≡ other) → limit ≡ limit_of command → bytes ≡ read → Consumes old new read → (length read < limit → IsAtEnd new) → length read ≤ limit
     → Answers command bytes number out report → ((s : ℕ) (o r : List ℕ) → Answers command bytes s o r → s ≡ number) → (status ≡ number) ⊎ ((status ≡ 7) × (number ≡ 0)) → (status ≡ 7 → number ≡ 0)
     → Ends words command old new bytes number out report status
-ends_of words command old new read bytes limit number out report status found asked one is same value taken whole bound answer only end cut = record {
+ends_of words command old new read bytes limit number out report status asked one same value taken whole bound answer only end cut = record {
   asked = asked;
-  one = λ other asks. same_some other command (sym (one other asks) ∙ is);
+  one = λ other asks. sym (one other asks);
   reads = reads_of old new read bytes limit (limit_of command) same value taken whole bound;
   answer = answer;
   only = only;
@@ -44,6 +43,13 @@ answered words command old new bytes number out report status s e same = record 
   report = report;
   answer = subst (λ (n : ℕ). Answers command bytes n out report) same e.answer;
 }
+
+-- where no command is asked for, nothing is owed of one
+pub complete_none : (words : List (List ℕ)) (old : Option (List ℕ)) (failed : Type 0) (status : ℕ) → ((command : Command) → IsCommand words command → ⊥) → IsComplete words old failed status
+complete_none words old failed status none = λ other given o r asked there answer whole. absurd (none other asked)
+
+pub refused_none : (words : List (List ℕ)) (old : Option (List ℕ)) (failed : Type 0) (status : ℕ) → ((command : Command) → IsCommand words command → ⊥) → IsRefused words old failed status
+refused_none words old failed status none = λ other given o r why asked there answer some whole. absurd (none other asked)
 
 -- a status of answers is the answer's
 pub same_end : (status number : ℕ) → (status ≡ number) ⊎ ((status ≡ 7) × (number ≡ 0)) → is_answer status ≡ true → number ≡ status

@@ -13,7 +13,7 @@ use crate::words::ArgList;
 use crate::writing::write_answer;
 use std::alloc::Global;
 use streams::{ReadStop, Sink, Source, read_up_to, write_whole};
-use tool_texts::{answer_laws, answer_to};
+use tool_texts::{NoCommand, answer_laws, answer_to, words_law};
 
 const USAGE: &[u8] =
     b"usage: testgen gen --seed N [--nodes N] [--turns N] | replay | exec --order N | show | demo N\n";
@@ -21,17 +21,20 @@ const USAGE: &[u8] =
 /// Does what the words ask for, and answers the status:
 ///
 /// - 0: on `gen` the file of a test of the template that was read was written to `out`, and its report to `report`; on
-///   `list` the report to `out`; on `replay` the file of a valid certificate was read, and `yes` was written to `out`;
-/// - 2: the words are none of `gen --seed N [--nodes N] [--turns N]`, `list` with the same and `replay`; the usage line was
-///   written to `report`;
-/// - 3: what was read is no template, or none that this build generates from; a line that says why was written to
+///   `replay` the file of a valid certificate was read, and `yes` was written to `out`; on `exec` such a file was read,
+///   and the steps of its run were written to `out`; on `show` a file was read, and its report was written to `out`; on
+///   `demo` a test of the number's template was made and checked, and its summary was written to `out`;
+/// - 2: the words are none of `gen --seed N [--nodes N] [--turns N]`, `replay`, `exec --order N`, `show` and `demo N`, or
+///   of the other forms of these that are accepted; the usage line was written to `report`;
+/// - 3: what was read is no template; a line that says why was written to `report`;
+/// - 5: the search for a test of the template that was read or made gave up; a line with its numbers was written to
 ///   `report`;
-/// - 5: the search for a test of the template that was read gave up; a line with its numbers was written to `report`;
 /// - 6: a read failed; a line that says so was written to `report`;
 /// - 7: a write of the texts of a command that was done failed;
 /// - 8: memory ran out;
 /// - 9: what was read is no file; a line with its first wrong part was written to `report`;
-/// - 10: the file of a certificate that is not valid was read; its first failure was written to `out`.
+/// - 10: the file of a certificate that is not valid was read; its first failure was written to `out`, on `exec` behind the
+///   steps of its run.
 pub fn run<S: Source, K: Sink, R: Sink>(
     alloc: Global,
     words: &ArgList,
@@ -42,10 +45,11 @@ pub fn run<S: Source, K: Sink, R: Sink>(
     requires out_room { HasRoom (K.room out.old) text_room }
     requires report_room { HasRoom (R.room report.old) text_room }
 
-    // Which statuses there are, and that 2 comes exactly where the words are those of no command.
+    // Which statuses there are, and that 2 comes exactly where the words are those of no command, unless there was no
+    // memory to read them.
     ensures status { IsTrue (is_status result) }
     ensures usage { result ≡ 2 → (command : ACommand) → IsCommand words.now command → ⊥ }
-    ensures words { result ≢ 2 → (command : ACommand) × IsCommand words.now command }
+    ensures words { result ≢ 2 → result ≢ 8 → (command : ACommand) × IsCommand words.now command }
 
     // A status that is no fault of the words, of a device or of memory is what the command answers to the bytes that
     // were taken, and the texts of the answer were written.
@@ -87,11 +91,17 @@ pub fn run<S: Source, K: Sink, R: Sink>(
     ensures out_later { K.faults out.old ≤ K.faults out.new }
     ensures report_later { R.faults report.old ≤ R.faults report.new }
 {
-    // The laws that a command has one answer at most, and tells refusals to `report`.
+    // The laws that a command has one answer at most, and tells refusals to `report`; and that its numbers lie in their
+    // ranges.
     answer_laws();
-    let Some(command) = words.command() else {
-        let _ = write_whole(report, USAGE);
-        return 2;
+    words_law();
+    let command = match words.command(alloc) {
+        Ok(command) => command,
+        Err(NoCommand::OutOfMemory) => return 8,
+        Err(NoCommand::Usage) => {
+            let _ = write_whole(report, USAGE);
+            return 2;
+        }
     };
     let bytes = match read_up_to(alloc, source, command.limit()) {
         Ok(bytes) => bytes,

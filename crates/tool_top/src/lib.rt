@@ -6,5 +6,5 @@ mod words;
 mod writing;
 
 pub use command::run;
-pub use tool_texts::{Command, Effort};
+pub use tool_texts::{Command, Effort, NoCommand};
 pub use words::{ArgList, words_of};

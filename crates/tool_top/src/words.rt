@@ -1,5 +1,5 @@
 // The words of the command line.
-ghost use Rattle.std.specs.Prelude.{◌≡◌, ◌≢◌, ℕ, Some, [], ◌∷◌, ◌++◌, drop, map, string_bytes, IfOk, IfErr, OnOk, OnErr, IfSome, MatchResult};
+ghost use Rattle.std.specs.Prelude.{◌≡◌, ◌≢◌, ℕ, [], ◌∷◌, ◌++◌, drop, map, string_bytes, IfOk, IfErr, OnOk, OnErr, MatchResult};
 ghost use Rattle.std.specs.Vec.Iter.{into_iter_items};
 ghost use Rattle.std.specs.IoError.{error_kind};
 ghost use Rattle.tool_words.specs.declared.command.Command.{Command as ACommand};
@@ -11,7 +11,7 @@ use std::env::Args;
 use std::io;
 use std::io::ErrorKind;
 use std::marker::Model;
-use tool_texts::Command;
+use tool_texts::{Command, NoCommand};
 
 /// The words after the program's name, which a contract sees as the list of their bytes.
 #[derive(Drop)]
@@ -58,12 +58,13 @@ impl ArgList {
         Ok(())
     }
 
-    /// What the words ask for, where they are those of a command.
-    pub fn command(&self) -> Option<Command>
-        ensures found { IfSome result (λ c. IsCommand self.now c) }
-        ensures only { (command : ACommand) → IsCommand self.now command → result ≡ Some command }
+    /// What the words ask for. `Usage` comes where they ask for nothing.
+    pub fn command(&self, alloc: Global) -> Result<Command, NoCommand>
+        ensures found { IfOk result (λ c. IsCommand self.now c) }
+        ensures only { IfOk result (λ c. (other : ACommand) → IsCommand self.now other → c ≡ other) }
+        ensures usage { IfErr result (λ e. e ≡ NoCommand.Usage → (command : ACommand) → IsCommand self.now command → ⊥) }
     {
-        Command::asked(self.texts.as_slice())
+        Command::asked(alloc, self.texts.as_slice())
     }
 }
 

@@ -1,1 +1,7 @@
-pub mod Asking
+mod Numbers
+mod Walking
+mod Leaves
+mod Top
+mod Plain
+mod Forms
+mod Asking

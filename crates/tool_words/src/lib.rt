@@ -2,5 +2,10 @@
 #![tactic(auto)]
 
 mod command;
+mod error;
+mod laws;
+mod reading;
 
 pub use command::{Command, Effort};
+pub use error::NoCommand;
+pub use laws::words_law;

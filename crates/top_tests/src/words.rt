@@ -1,7 +1,7 @@
 // The words of the command line, as the system hands them over.
 use std::io::{Error, ErrorKind};
 use std::test::Fail;
-use tool_top::{Command, Effort, words_of};
+use tool_top::{Command, Effort, NoCommand, words_of};
 
 #[test]
 fn the_words_stand_behind_the_program_s_name(rt: HostRuntime) -> Result<(), Fail> {
@@ -12,8 +12,8 @@ fn the_words_stand_behind_the_program_s_name(rt: HostRuntime) -> Result<(), Fail
     }
     let words = words_of(alloc, Ok(arguments.into_iter()))?;
     assert_eq!(rt;
-        words.command(),
-        Some(Command::Gen(Effort {
+        words.command(alloc),
+        Ok(Command::Gen(Effort {
             seed: 7,
             nodes: 67_108_864,
             turns: 65_536
@@ -24,8 +24,9 @@ fn the_words_stand_behind_the_program_s_name(rt: HostRuntime) -> Result<(), Fail
 
 #[test]
 fn arguments_that_are_not_utf8_are_no_words(rt: HostRuntime) -> Result<(), Fail> {
-    let words = words_of(rt.alloc(), Err(Error::from(ErrorKind::InvalidData)))?;
-    assert!(rt; words.command().is_none());
+    let alloc = rt.alloc();
+    let words = words_of(alloc, Err(Error::from(ErrorKind::InvalidData)))?;
+    assert_eq!(rt; words.command(alloc), Err(NoCommand::Usage));
     Ok(())
 }
 

@@ -2,3 +2,5 @@ pub mod Numbered
 pub mod Parts
 pub mod Lengths
 pub mod Reports
+mod Counted
+mod Told

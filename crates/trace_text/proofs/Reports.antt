@@ -108,7 +108,7 @@ step_end_short : (pc : ℕ) → IsWord pc → length (step_end pc) ≤ 15
 unfolding step_end
 step_end_short pc is = simp length-append (omega (arith, hex_short pc is))
 
-step_short : (hart step : ℕ) (r : Record) → IsRecord r → length (step_line hart step r) ≤ 539
+pub step_short : (hart step : ℕ) (r : Record) → IsRecord r → length (step_line hart step r) ≤ 539
 unfolding step_line
 step_short hart step r is =
     simp length-append (omega (arith, step_head_short hart step r.pc is.pc, fetched_short r.privilege r.word is.word, outcome_short r.outcome is.outcome, rd_short r.rd is.rd, accesses_short r.accesses is.accesses is.count, step_end_short r.next_pc is.next_pc))

@@ -4,3 +4,4 @@ pub mod Rest
 pub mod Report
 pub mod Verdicts
 pub mod Faults
+pub mod Events

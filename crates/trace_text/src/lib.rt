@@ -9,6 +9,7 @@ mod laws;
 mod names;
 mod printing;
 mod rest;
+mod runs;
 mod steps;
 mod verdicts;
 
@@ -16,4 +17,5 @@ pub use error::OutOfMemory;
 pub use faults::fault_text;
 pub use laws::length_laws;
 pub use printing::report;
+pub use runs::events;
 pub use verdicts::{gave_up, malformed, verdict};

@@ -72,7 +72,12 @@ fn push_next(text: &mut String, next: u32) -> Result<(), AllocError>
 }
 
 #[tactic(auto, unfolding(crate::specs::Steps::step_line))]
-fn push_step(text: &mut String, hart: usize, step: usize, did: &Record) -> Result<(), AllocError>
+pub(crate) fn push_step(
+    text: &mut String,
+    hart: usize,
+    step: usize,
+    did: &Record,
+) -> Result<(), AllocError>
     ensures { OnOk result (string_bytes text.new ≡ string_bytes text.old ++ step_line hart step did.now) }
 {
     push_step_head(text, hart, step, did.pc)?;

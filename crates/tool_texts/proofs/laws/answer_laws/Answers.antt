@@ -34,4 +34,5 @@ returns-clause-short c = texts_are_short (record {
   malformed = c.length_laws.ensures.malformed;
   verdict = c.length_laws.ensures.verdict;
   gave_up = c.length_laws.ensures.gave_up;
+  summary = c.demo_laws.ensures.short;
 })

@@ -1,5 +1,6 @@
 use Rattle.trace_text.proofs.Lengths.{fault_short, gave_up_short, malformed_short, verdict_short}
 use Rattle.trace_text.proofs.Reports.{report_short}
+use Rattle.trace_text.proofs.Told.{events_short}
 use Rattle.trace_text.proofs.laws.length_laws.Goals as goal
 
 pub returns-clause-report : goal.returns-clause-report
@@ -16,3 +17,6 @@ returns-clause-verdict c = verdict_short
 
 pub returns-clause-gave_up : goal.returns-clause-gave_up
 returns-clause-gave_up c = gave_up_short
+
+pub returns-clause-events : goal.returns-clause-events
+returns-clause-events c = events_short

@@ -1,0 +1,5 @@
+pub mod Template
+pub mod Said
+pub mod Counts
+pub mod Summary
+pub mod Laws

@@ -1,0 +1,20 @@
+use Rattle.std.proofs.Common.{◌≡◌, []}
+use Rattle.tool_texts.specs.declared.answer.Answer.{Answer}
+use Rattle.tool_texts.specs.Answers.{number_of}
+use Rattle.tool_texts.specs.Files.{IsMalformed}
+use Rattle.tool_texts.specs.Show.{IsReportOfFile}
+use Rattle.tool_texts.proofs.Refusals.{last_answers}
+use Rattle.tool_texts.proofs.Shows.{shown_answers}
+use Rattle.tool_texts.proofs.showing.show_answer.Goals as goal
+
+pub returns-in-Err-Malformed : goal.returns-in-Err-Malformed
+returns-in-Err-Malformed c =
+    last_answers (λ (a : Answer). (number_of a.status ≡ 0) × IsReportOfFile c.args.bytes.now a.out.items × (a.report.items ≡ []))
+    (λ (a : Answer). (number_of a.status ≡ 9) × (a.out.items ≡ []) × IsMalformed c.args.bytes.now a.report.items) c.no_file.result
+    (c.no_file.ensures c.args.bytes.now (c.in-Err-Malformed.ensures.wrong c.in-Err-Malformed.part (cc)) (λ certificate file.
+    let none = c.in-Err-Malformed.ensures.only certificate file.well_formed file.is_file in
+    absurd (cc (none, c.in-Err-Malformed.field-0-is))))
+
+pub returns-in-Ok : goal.returns-in-Ok
+returns-in-Ok c =
+    shown_answers c.args.bytes.now c.in-Ok.certificate c.shown.result (record { well_formed = c.in-Ok.ensures.found.0; is_file = c.in-Ok.ensures.found.1 }) c.shown.ensures.status c.shown.ensures.out c.shown.ensures.report
