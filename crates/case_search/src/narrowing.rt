@@ -10,13 +10,38 @@ use fd_narrow::{Domains, Losses};
 use fd_prob::{Case, Items, Rel};
 use std::alloc::Global;
 
+/// The case without rows that have nothing of its domains.
+fn with_possible_rows(alloc: Global, case: &Case) -> Result<Case, OutOfMemory>
+    requires { IsCase case.now }
+    ensures { IfOk result (IsEquivalent case.now) }
+{
+    let doms = Domains::of(alloc, case)?;
+    let rels = doms.possible_relations(alloc, case.rels.as_slice())?;
+    Ok(Case {
+        op: case.op,
+        doms: Items::from_vec(doms.into_sets()),
+        rels: Items::from_vec(rels),
+    })
+}
+
+/// The case with its relations of rows as one. As many rows are made of two lists as pairs of them meet, so those that have
+/// nothing of the domains are left out before.
+pub(crate) fn with_joined_rows(alloc: Global, case: &Case) -> Result<Case, OutOfMemory>
+    requires { IsCase case.now }
+    ensures { IfOk result (IsEquivalent case.now) }
+{
+    let possible = with_possible_rows(alloc, case)?;
+    let joined = possible.joined(alloc)?;
+    Ok(joined)
+}
+
 /// A case with at most one relation of rows.
 fn with_one_row(alloc: Global, case: &Case) -> Result<Case, OutOfMemory>
     requires { IsCase case.now }
     ensures { IfOk result (IsEquivalent case.now) }
 {
     if case.has_several_rows() {
-        let joined = case.joined(alloc)?;
+        let joined = with_joined_rows(alloc, case)?;
         return Ok(joined);
     }
     let same = case.copy(alloc)?;

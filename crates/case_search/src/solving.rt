@@ -4,7 +4,7 @@ ghost use Rattle.fd_prob.specs.Fitting.{IsCase};
 ghost use Rattle.case_search.specs.Search.{IsMadeOf, LeastOrNone};
 
 use crate::classes::are_contradictory;
-use crate::narrowing::known_others;
+use crate::narrowing::{known_others, with_joined_rows};
 use crate::search::{search, with_value};
 use crate::stronger::{can_be_stronger, stronger};
 use dom_set::OutOfMemory;
@@ -68,7 +68,7 @@ pub fn solve_case(
     ensures { IfOk result (LeastOrNone pivots.now (IsMadeOf case.now)) }
 {
     if case.has_several_rows() {
-        let joined = case.joined(alloc)?;
+        let joined = with_joined_rows(alloc, case)?;
         let least = solve_joined(alloc, &joined, pivots)?;
         return Ok(least);
     }
@@ -92,7 +92,7 @@ pub fn solve_again(
     }
     if case.has_several_rows() {
         let others = known_others(case.rels.as_slice(), known);
-        let joined = case.joined(alloc)?;
+        let joined = with_joined_rows(alloc, case)?;
         let least = least_of(alloc, &joined, pivots, others, losses)?;
         return Ok(least);
     }

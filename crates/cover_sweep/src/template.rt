@@ -44,7 +44,7 @@ fn push_template(text: &mut String, n: u32) -> Result<(), AllocError>
     Ok(())
 }
 
-/// The text of the demo template of a number: its tests take so many steps, whatever is drawn.
+/// The text of the demo template of a number, which lays one step out so many times.
 pub fn make(alloc: Global, n: u32) -> Result<Vec<u8>, OutOfMemory>
     requires { n ≤ 2000 }
     ensures { IfOk result (λ text. text.items ≡ demo_template n) }

@@ -1,14 +1,18 @@
 -- Sets of addresses by the tables that their walks read.
-use Rattle.std.proofs.Common.{◌≡◌, ℕ, ◌+◌, ◌*◌, ◌/◌, ◌%◌, ◌^◌, ◌<◌, ◌≤◌, ◌-◌, if◌then◌else◌, bit_and, Bool, true, false, not, ◌&&◌, ◌||◌, ◌==◌, nat_eq, nat_le, nat_lt, List, [], ◌∷◌, ◌++◌, map, length, get_or, drop, append_assoc, refl, sym, ap, ◌∙◌, subst, inl, inr, arith}
+use Rattle.std.proofs.Common.{◌≡◌, ℕ, ◌+◌, ◌*◌, ◌/◌, ◌%◌, ◌^◌, ◌<◌, ◌≤◌, ◌-◌, if◌then◌else◌, bit_and, Bool, true, false, not, ◌&&◌, ◌||◌, ◌==◌, nat_eq, nat_le, nat_lt, List, [], ◌∷◌, ◌++◌, map, length, get_or, drop, take, append_assoc, refl, sym, ap, ◌∙◌, subst, inl, inr, arith}
 use Rattle.std.specs.List.{filter, list_any}
 use Rattle.std.proofs.lemmas.Bool.{and_from, and_parts, eq-eqb, eqb-true, leb-true, lt-ltb, ltb-true, or_cases, or_left, or_right}
 use Rattle.std.proofs.lemmas.Bool.Decides.{nat_tests}
 use Rattle.std.proofs.lemmas.List.{drop_more, map-append}
+use Rattle.std.proofs.lemmas.List.Folds.{list_any_more}
 use Rattle.dom_set.specs.Elements.{elements_of, is_in, is_matching}
 use Rattle.row_parts.specs.Blocks.{is_in_block}
 use Rattle.row_parts.specs.declared.classes.Level.{Level}
 use Rattle.row_parts.specs.declared.classes.Level.TheVariants.{Root, Second}
-use Rattle.row_parts.specs.Classes.{TableOf, entry_at, has_class, same as seen_alike, seen_at}
+use Rattle.row_parts.specs.Classes.{TableOf, any_seen, entry_at, has_class, same as seen_alike, seen_at}
+use Rattle.row_parts.specs.Items.{GivesEach, by_kind}
+use Rattle.row_parts.specs.Rows.{End, Leaves, when}
+use Rattle.row_parts.proofs.SeenOnce.{same_is}
 use Rattle.addr_rows.proofs.Fresh.{class_is}
 use Rattle.row_parts.proofs.Cuts.{pattern_test}
 use Rattle.row_parts.proofs.Lists.{or_false}
@@ -222,17 +226,67 @@ same_untouched (Known w) = refl
 same_untouched Untouched = refl
 same_untouched Vacant = refl
 
-pub untouched_is : (at : ℕ → Seen) (frame : ℕ) (table : List Seen) (all set : List ℕ) → TableOf at frame table → all ≡ elements_of (λ x. true)
-    → ((x : ℕ) → x < 2 ^ 32 → is_in set x ≡ (is_in all x && has_class table Untouched (x % 2 ^ 32 / 2 ^ 22))) → IsSetOf (λ ea. is_untouched (entry_at at frame (ea / 2 ^ 22))) set
-untouched_is at frame table all set is whole chosen ea small =
+-- the addresses whose root entry is seen so
+pub seen_is : (table : List Seen) (seen : Seen) (all set : List ℕ) → all ≡ elements_of (λ x. true)
+    → ((x : ℕ) → x < 2 ^ 32 → is_in set x ≡ (is_in all x && has_class table seen (x % 2 ^ 32 / 2 ^ 22))) → IsSetOf (λ ea. has_class table seen (ea / 2 ^ 22)) set
+seen_is table seen all set whole chosen ea small =
     let stays : ea % 2 ^ 32 ≡ ea = omega (arith, small) in
     chosen ea small
-    ∙ ap (λ (b : Bool). b && has_class table Untouched (ea % 2 ^ 32 / 2 ^ 22)) (elements_are (λ x. true) all whole ea small)
-    ∙ ap (λ (n : ℕ). has_class table Untouched (n / 2 ^ 22)) stays
+    ∙ ap (λ (b : Bool). b && has_class table seen (ea % 2 ^ 32 / 2 ^ 22)) (elements_are (λ x. true) all whole ea small)
+    ∙ ap (λ (n : ℕ). has_class table seen (n / 2 ^ 22)) stays
+
+pub untouched_is : (at : ℕ → Seen) (frame : ℕ) (table : List Seen) (set : List ℕ) → TableOf at frame table → IsSetOf (λ ea. has_class table Untouched (ea / 2 ^ 22)) set
+    → IsSetOf (λ ea. is_untouched (entry_at at frame (ea / 2 ^ 22))) set
+untouched_is at frame table set is seen ea small =
+    seen ea small
     ∙ class_is at frame table Untouched (ea / 2 ^ 22) is (omega (arith, small))
     ∙ same_untouched (entry_at at frame (ea / 2 ^ 22))
 
 -- POINTERS
+nothing_given : (kinds : List Seen) (e : Seen) (ends : List End) → any_seen kinds e ≡ false → by_kind kinds e (λ k. ends) ≡ []
+nothing_given [] e ends none = refl
+nothing_given (k ∷ ks) e ends none = go (seen_alike k e) (any_seen ks e) (by_kind ks e (λ k. ends)) none (nothing_given ks e ends)
+  where
+    go : (here more : Bool) (rest : List End) → (here || more) ≡ false → (more ≡ false → rest ≡ []) → (when here ends ++ rest) ≡ []
+    go true more rest h k = absurd (cc h)
+    go false more rest h k = k h
+
+-- what is seen in a table is one of the things that are seen in it
+kind_there : (kinds : List Seen) (e : Seen) → ((f : Seen → List End) → by_kind kinds e f ≡ f e) → any_seen kinds e ≡ true
+kind_there kinds e gives = go (any_seen kinds e) refl
+  where
+    go : (b : Bool) → any_seen kinds e ≡ b → b ≡ true
+    go true h = refl
+    go false h = let none : (Leaves ∷ []) ≡ [] = sym (gives (λ k. Leaves ∷ [])) ∙ nothing_given kinds e (Leaves ∷ []) h in absurd (cc none)
+
+-- a loop over them has come one further
+pub kinds_further : (leads : Seen → Bool) (kinds : List Seen) (i : ℕ) (d : Seen) (old new : Bool) → new ≡ (old || leads (get_or kinds i d)) → old ≡ list_any leads (take i kinds) → i < length kinds → new ≡ list_any leads (take (i + 1) kinds)
+kinds_further leads kinds i d old new one before lt = one ∙ ap (λ (b : Bool). b || leads (get_or kinds i d)) before ∙ sym (list_any_more leads kinds i d lt)
+
+led_more : (s a p q r : Bool) → (s ≡ true → q ≡ p) → r ≡ (a && p) → ((s && q) || r) ≡ ((s || a) && p)
+led_more true a p q r one two = ap (λ (b : Bool). b || r) (one refl) ∙ ap (λ (b : Bool). p || b) two ∙ taken a p
+  where
+    taken : (a p : Bool) → (p || (a && p)) ≡ p
+    taken true true = refl
+    taken true false = refl
+    taken false true = refl
+    taken false false = refl
+led_more false a p q r one two = two
+
+-- a root entry leads on where one of the things that are seen in the table does which it is
+pub pointed : (at : ℕ → Seen) (frame : ℕ) (table kinds : List Seen) (test : ℕ → Bool) (i : ℕ) → TableOf at frame table → GivesEach table kinds → i < 1024
+    → list_any (λ k. has_class table k i && leads_on k test) kinds ≡ leads_on (entry_at at frame i) test
+pointed at frame table kinds test i is gives small = led kinds ∙ ap (λ (b : Bool). b && leads_on e test) (kind_there kinds e (λ f. gives i e f (is.entries i small)))
+  where
+    e : Seen
+    e = entry_at at frame i
+
+    led : (ks : List Seen) → list_any (λ k. has_class table k i && leads_on k test) ks ≡ (any_seen ks e && leads_on e test)
+    led [] = refl
+    led (k ∷ ks) =
+        ap (λ (s : Bool). (s && leads_on k test) || list_any (λ k. has_class table k i && leads_on k test) ks) (class_is at frame table k i is small)
+        ∙ led_more (seen_alike k e) (any_seen ks e) (leads_on e test) (leads_on k test) (list_any (λ k. has_class table k i && leads_on k test) ks) (λ h. ap (λ (s : Seen). leads_on s test) (same_is k e h)) (led ks)
+
 -- the loop over pointers has come one further
 pub pointer_further : (old new here own t rest more all : Bool) → new ≡ (old || here) → here ≡ (t && own) → rest ≡ ((own && t) || more) → (old || rest) ≡ all → (new || more) ≡ all
 pointer_further old new here own t rest more all a b c d =

@@ -1,13 +1,13 @@
 // The known root entries that lead to tables.
 ghost use Rattle.std.specs.Prelude.{◌≡◌, ℕ, ◌+◌, ◌*◌, ◌/◌, ◌%◌, ◌^◌, ◌<◌, ◌==◌, ◌&&◌, ◌||◌, Bool, IfOk, OnOk};
+ghost use Rattle.std.specs.List.{list_any};
 ghost use Rattle.rv_mem.specs.Seen.{is_untouched};
-ghost use Rattle.row_parts.specs.Classes.{entry_at};
+ghost use Rattle.row_parts.specs.Classes.{entry_at, has_class};
 ghost use Rattle.data_bytes.specs.Sets.{IsSetOf};
 ghost use Rattle.data_ways.specs.Tables.{any_pointer, leads_on};
 
-use crate::walker::{ENTRIES, slice};
 use dom_set::{OutOfMemory, Set};
-use row_parts::{ClassPart, Level, chosen, table_in, word_at};
+use row_parts::{ClassPart, Level, chosen, kinds_of, table_in};
 use rv_mem::{Seen, Words};
 use std::alloc::Global;
 use sv_walk::{is_invalid, is_pointer};
@@ -21,26 +21,38 @@ pub struct Pointer {
     pub frame: u32,
 }
 
-/// Appends the root entry with an index, if it is known and leads to a table.
-fn push_pointer<M: Words>(
+/// The addresses whose entry in the root table is seen so.
+fn seen_so(alloc: Global, table: &[Seen], seen: Seen) -> Result<Set, OutOfMemory>
+    ensures { IfOk result (IsSetOf (λ ea. has_class table.now seen (ea / 2 ^ 22))) }
+{
+    let part = ClassPart {
+        table,
+        seen,
+        level: Level::Root,
+    };
+    let all = Set::all(alloc)?;
+    let class = chosen(alloc, &all, &part, 32)?;
+    Ok(class)
+}
+
+/// Appends a root entry that is seen so, with all addresses that have it, if it is known and leads to a table.
+fn push_pointer(
     alloc: Global,
-    m: &M,
+    table: &[Seen],
     pointers: &mut Vec<Pointer>,
-    root: u32,
-    index: u32,
+    seen: Seen,
 ) -> Result<(), OutOfMemory>
-    requires { index < 1024 }
     ensures { OnOk result ((test : ℕ → Bool) (ea : ℕ) → ea < 2 ^ 32 →
         any_pointer pointers.new.items test ea
-        ≡ (any_pointer pointers.old.items test ea || (ea / 2 ^ 22 == index && leads_on (entry_at (M.at m.now) root index) test))) }
+        ≡ (any_pointer pointers.old.items test ea || (has_class table.now seen (ea / 2 ^ 22) && leads_on seen test))) }
 {
-    let Seen::Known(entry) = word_at(m, u64::from(root) * 4096 + u64::from(index) * 4) else {
+    let Seen::Known(entry) = seen else {
         return Ok(());
     };
     if is_invalid(entry) || !is_pointer(entry) {
         return Ok(());
     }
-    let ea = slice(alloc, Level::Root, index)?;
+    let ea = seen_so(alloc, table, seen)?;
     pointers.push(Pointer {
         ea,
         frame: entry >> 10,
@@ -48,15 +60,27 @@ fn push_pointer<M: Words>(
     Ok(())
 }
 
-/// The known root entries that lead to tables.
+/// Those of the root entries that are known and lead to tables, where these are what is seen in the root table.
+fn pointers_of(alloc: Global, table: &[Seen], kinds: &[Seen]) -> Result<Vec<Pointer>, OutOfMemory>
+    ensures { IfOk result (λ ps. (test : ℕ → Bool) (ea : ℕ) → ea < 2 ^ 32 →
+        any_pointer ps.items test ea ≡ list_any (λ k. has_class table.now k (ea / 2 ^ 22) && leads_on k test) kinds.now) }
+{
+    let mut pointers = Vec::new(alloc);
+    for seen in kinds {
+        push_pointer(alloc, table, &mut pointers, *seen)?;
+    }
+    Ok(pointers)
+}
+
+/// The known root entries that lead to tables, each with all addresses that have it.
 pub fn pointers<M: Words>(alloc: Global, m: &M, root: u32) -> Result<Vec<Pointer>, OutOfMemory>
+    requires { root < 2 ^ 22 }
     ensures { IfOk result (λ ps. (test : ℕ → Bool) (ea : ℕ) → ea < 2 ^ 32 →
         any_pointer ps.items test ea ≡ leads_on (entry_at (M.at m.now) root (ea / 2 ^ 22)) test) }
 {
-    let mut pointers = Vec::new(alloc);
-    for index in 0..ENTRIES {
-        push_pointer(alloc, m, &mut pointers, root, index)?;
-    }
+    let table = table_in(alloc, m, root)?;
+    let kinds = kinds_of(alloc, &table)?;
+    let pointers = pointers_of(alloc, &table, &kinds)?;
     Ok(pointers)
 }
 
@@ -66,12 +90,6 @@ pub fn untouched<M: Words>(alloc: Global, m: &M, root: u32) -> Result<Set, OutOf
     ensures { IfOk result (IsSetOf (λ ea. is_untouched (entry_at (M.at m.now) root (ea / 2 ^ 22)))) }
 {
     let table = table_in(alloc, m, root)?;
-    let part = ClassPart {
-        table: &table,
-        seen: Seen::Untouched,
-        level: Level::Root,
-    };
-    let all = Set::all(alloc)?;
-    let untouched = chosen(alloc, &all, &part, 32)?;
+    let untouched = seen_so(alloc, &table, Seen::Untouched)?;
     Ok(untouched)
 }

@@ -1,7 +1,9 @@
 -- What rows say of variables.
-use Rattle.std.proofs.Common.{◌≡◌, ℕ, ◌+◌, ◌<◌, ◌&&◌, ◌||◌, ◌⊎◌, inl, inr, ⊎_elim, not, Bool, true, false, List, [], ◌∷◌, length, get_or, take, IsTrue, refl, sym, ap, ◌∙◌, subst}
-use Rattle.std.specs.List.{list_any}
-use Rattle.std.proofs.lemmas.List.Folds.{list_any_more}
+use Rattle.std.proofs.Common.{◌≡◌, ℕ, ◌+◌, ◌<◌, ◌&&◌, ◌||◌, ◌⊎◌, inl, inr, ⊎_elim, not, Bool, true, false, List, [], ◌∷◌, ◌++◌, length, get_or, take, IsTrue, refl, sym, ap, ◌∙◌, subst}
+use Rattle.std.specs.List.{list_all, list_any}
+use Rattle.std.proofs.lemmas.List.Folds.{list_all-append, list_all_more, list_any-append, list_any_more}
+use Rattle.rv_isa.specs.declared.operation.Op.{Op}
+use Rattle.fd_prob.specs.declared.relation.Rel.{Rel}
 use Rattle.fd_narrow.specs.Narrowing.{IsInside}
 use Rattle.fd_narrow.specs.Steps.{IsValueOutside, Leaves}
 use Rattle.std.specs.List.{filter}
@@ -10,7 +12,7 @@ use Rattle.fd_prob.specs.declared.problem.Assignment.{Assignment}
 use Rattle.fd_prob.specs.declared.relation.Quad.{Quad}
 use Rattle.fd_prob.specs.declared.slot.Slot.{Slot}
 use Rattle.fd_prob.specs.declared.slot.Slot.TheVariants as slots
-use Rattle.fd_prob.specs.Relations.{is_in_row, value_of}
+use Rattle.fd_prob.specs.Relations.{holds, is_in_row, value_of}
 use Rattle.fd_narrow.specs.declared.rows.Part.{Part}
 use Rattle.fd_narrow.specs.declared.rows.Part.TheVariants.{Address, Root, Leaf, Word}
 use Rattle.fd_narrow.specs.Parts.{IsLess, IsMissed, part_of, slot_of}
@@ -81,3 +83,32 @@ pub part_taken : (doms now new : List (List ℕ)) (part : Part) (rows : List Qua
 part_taken doms now new part rows rest slot set slot_is set_is before missed taken =
     rest_taken doms now new part rows (part_of part rest) before (missed part)
     (subst (λ (s : Slot). Leaves (IsValueOutside s (part_of part rest)) now new) slot_is (subst (λ (d : List ℕ). Leaves (IsValueOutside slot d) now new) set_is taken))
+
+-- a further row at the end
+pub one_more : (x : Assignment) (rows : List Quad) (copy row : Quad) → copy ≡ row → list_any (is_in_row x) (rows ++ copy ∷ []) ≡ (list_any (is_in_row x) rows || is_in_row x row)
+one_more x rows copy row is =
+    list_any-append (is_in_row x) rows (copy ∷ [])
+    ∙ ap (λ (b : Bool). list_any (is_in_row x) rows || b) (or_none (is_in_row x copy) ∙ ap (is_in_row x) is)
+  where
+    or_none : (b : Bool) → (b || false) ≡ b
+    or_none true = refl
+    or_none false = refl
+
+-- one that can't hold is not missed
+pub none_more : (before row may : Bool) → may ≡ false → (IsTrue row → may ≡ true) → before ≡ (before || row)
+none_more true row may not_may holds = refl
+none_more false true may not_may holds = absurd (cc (not_may, holds refl))
+none_more false false may not_may holds = refl
+
+-- relations of which one was looked at more
+pub relations_more : (op : Op) (x : Assignment) (rels made : List Rel) (i : ℕ) (rel new : Rel) → i < length rels → rel ≡ get_or rels i rel → holds op x new ≡ holds op x rel
+    → list_all (holds op x) made ≡ list_all (holds op x) (take i rels) → list_all (holds op x) (made ++ new ∷ []) ≡ list_all (holds op x) (take (i + 1) rels)
+relations_more op x rels made i rel new lt is same before =
+    list_all-append (holds op x) made (new ∷ [])
+    ∙ ap (λ (b : Bool). list_all (holds op x) made && b) (and_none (holds op x new) ∙ same ∙ ap (holds op x) is)
+    ∙ ap (λ (b : Bool). b && holds op x (get_or rels i rel)) before
+    ∙ sym (list_all_more (holds op x) rels i rel lt)
+  where
+    and_none : (b : Bool) → (b && true) ≡ b
+    and_none true = refl
+    and_none false = refl

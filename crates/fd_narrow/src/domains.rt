@@ -10,10 +10,25 @@ use fd_prob::{Case, Slot, copy_sets};
 use std::alloc::Global;
 use std::marker::Model;
 
+/// What was counted of a domain since it was put in its place. Counting takes as long as a domain has pieces.
+#[derive(Clone, Copy)]
+struct Counts {
+    size: Option<u64>,
+    pieces: Option<usize>,
+}
+
+/// Where nothing was counted yet.
+const UNCOUNTED: Counts = Counts {
+    size: None,
+    pieces: None,
+};
+
 /// The domains of the variables of a case, in their order.
 #[derive(Drop)]
 pub struct Domains {
     sets: Vec<Set>,
+    /// What was counted of each of them.
+    counts: [Counts; 14],
 }
 
 impl Model for Domains {
@@ -44,7 +59,10 @@ impl Domains {
         ensures { IfOk result (λ d. d ≡ case.now.doms) }
     {
         let sets = copy_sets(alloc, case.doms.as_slice())?;
-        Ok(Domains { sets })
+        Ok(Domains {
+            sets,
+            counts: [UNCOUNTED; 14],
+        })
     }
 
     /// The same domains, in memory of their own.
@@ -52,7 +70,10 @@ impl Domains {
         ensures { IfOk result (λ d. d ≡ self.now) }
     {
         let sets = copy_sets(alloc, &self.sets)?;
-        Ok(Domains { sets })
+        Ok(Domains {
+            sets,
+            counts: self.counts,
+        })
     }
 
     /// The domains as sets, in the order of the variables.
@@ -83,6 +104,31 @@ impl Domains {
         ensures { self.new ≡ slice_set self.old (slot_number slot) set }
     {
         self.sets[slot.number()] = set;
+        self.counts[slot.number()] = UNCOUNTED;
+    }
+
+    /// How many values a variable has.
+    pub(crate) fn size(&mut self, slot: Slot) -> u64
+        ensures { self.new ≡ self.old }
+    {
+        if let Some(size) = self.counts[slot.number()].size {
+            return size;
+        }
+        let size = self.domain(slot).size();
+        self.counts[slot.number()].size = Some(size);
+        size
+    }
+
+    /// In how many pieces a variable's domain is.
+    pub(crate) fn pieces(&mut self, alloc: Global, slot: Slot) -> Result<usize, OutOfMemory>
+        ensures { self.new ≡ self.old }
+    {
+        if let Some(pieces) = self.counts[slot.number()].pieces {
+            return Ok(pieces);
+        }
+        let pieces = self.domain(slot).spans(alloc)?.len();
+        self.counts[slot.number()].pieces = Some(pieces);
+        Ok(pieces)
     }
 
     /// Whether a variable has no value left.

@@ -1,7 +1,9 @@
 // Sets that variables are in beside their domains.
-ghost use Rattle.std.specs.Prelude.{IsTrue, OnOk};
+ghost use Rattle.std.specs.Prelude.{◌≡◌, IsTrue, OnOk};
 ghost use Rattle.dom_set.specs.Elements.{is_in};
 ghost use Rattle.fd_prob.specs.Relations.{value_of};
+ghost use Rattle.fd_prob.specs.declared.problem.Assignment.{Assignment};
+ghost use Rattle.fd_narrow.specs.Narrowing.{IsInside};
 ghost use Rattle.fd_narrow.specs.Steps.{Leaves};
 
 use crate::domains::Domains;
@@ -15,17 +17,49 @@ const FEW: usize = 4;
 /// How many pairs of pieces of a domain and a set are looked at.
 const PAIRS: usize = 2048;
 
-/// Whether what two sets have in common is told soon, and in no more pieces than are soon gone through.
-fn meet_soon(alloc: Global, domain: &Set, set: &Set) -> Result<bool, OutOfMemory> {
-    let pieces = domain.spans(alloc)?.len();
-    if pieces <= FEW {
-        return Ok(true);
-    }
-    let others = set.spans(alloc)?.len();
-    Ok(pieces.saturating_mul(others) <= PAIRS)
-}
+/// The lowest bits that are looked at.
+const LOW: u32 = 3;
 
 impl Domains {
+    /// Whether the lowest bits of all values of a variable are known to be others than those of all numbers of a set.
+    fn is_apart(&self, slot: Slot, set: &Set) -> bool
+        ensures { IsTrue result → (x : Assignment) → IsInside self.now x → IsTrue (is_in set.now (value_of x slot)) → ⊥ }
+    {
+        let Some(bits) = self.domain(slot).bits_under(LOW) else {
+            return false;
+        };
+        match set.bits_under(LOW) {
+            Some(others) => bits != others,
+            None => false,
+        }
+    }
+
+    /// Empties a variable's domain, if that is known to have nothing of the set by the lowest bits.
+    fn empty_apart(&mut self, alloc: Global, slot: Slot, set: &Set)
+        ensures { Leaves (λ x. IsTrue (is_in set.now (value_of x slot))) self.old self.new }
+    {
+        if self.is_apart(slot, set) {
+            self.empty(alloc, slot);
+        }
+    }
+
+    /// Whether what a variable's domain and a set have in common is told soon, and in no more pieces than are soon gone
+    /// through.
+    fn meets_soon(&mut self, alloc: Global, slot: Slot, set: &Set) -> Result<bool, OutOfMemory>
+        ensures { self.new ≡ self.old }
+    {
+        let pieces = self.pieces(alloc, slot)?;
+        if pieces <= FEW {
+            return Ok(true);
+        }
+        // A set with a number has a piece.
+        if pieces > PAIRS {
+            return Ok(set.is_empty());
+        }
+        let others = set.spans(alloc)?.len();
+        Ok(pieces.saturating_mul(others) <= PAIRS)
+    }
+
     /// The variable's value is in the set. Where the domain would fall into many pieces it is left as it is: a search tests
     /// each value, and cuts the domain where it has become small.
     pub(crate) fn narrow_in(
@@ -36,7 +70,8 @@ impl Domains {
     ) -> Result<(), OutOfMemory>
         ensures { OnOk result (Leaves (λ x. IsTrue (is_in set.now (value_of x slot))) self.old self.new) }
     {
-        if !meet_soon(alloc, self.domain(slot), set)? {
+        if !self.meets_soon(alloc, slot, set)? {
+            self.empty_apart(alloc, slot, set);
             return Ok(());
         }
         self.cut(alloc, slot, set)

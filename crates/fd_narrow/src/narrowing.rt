@@ -1,5 +1,5 @@
 // What the relations of a case leave of its variables' domains.
-ghost use Rattle.std.specs.Prelude.{IfOk, IsTrue, OnOk};
+ghost use Rattle.std.specs.Prelude.{◌≡◌, IfOk, IsTrue, OnOk};
 ghost use Rattle.fd_prob.specs.Relations.{holds};
 ghost use Rattle.fd_narrow.specs.Narrowing.{Narrows};
 ghost use Rattle.fd_narrow.specs.Steps.{Leaves};
@@ -280,16 +280,19 @@ impl Domains {
         }
         let before = self.sizes(rel);
         self.narrow_by(alloc, op, rel, times.is_left_alone(rel, number))?;
-        times.note(rel, number, &before, &self.sizes(rel));
+        let after = self.sizes(rel);
+        times.note(rel, number, &before, &after);
         Ok(())
     }
 
     /// The sizes of the domains of the variables at which the relation may look, and 0 for the others.
-    fn sizes(&self, rel: &Rel) -> [u64; 14] {
+    fn sizes(&mut self, rel: &Rel) -> [u64; 14]
+        ensures { self.new ≡ self.old }
+    {
         let mut sizes = [0; 14];
         for place in 0..14 {
             if mentions(rel, SLOTS[place]) {
-                sizes[place] = self.domain(SLOTS[place]).size();
+                sizes[place] = self.size(SLOTS[place]);
             }
         }
         sizes

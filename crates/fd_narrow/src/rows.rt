@@ -1,8 +1,9 @@
 // Rows of an address and words of memory, of which one has to hold.
-ghost use Rattle.std.specs.Prelude.{◌≡◌, ℕ, true, false, IfOk, IsTrue, OnOk};
-ghost use Rattle.std.specs.List.{list_any};
+ghost use Rattle.std.specs.Prelude.{◌≡◌, ◌||◌, ℕ, true, false, IfOk, IsTrue, OnOk};
+ghost use Rattle.std.specs.List.{list_all, list_any};
+ghost use Rattle.rv_isa.specs.declared.operation.Op.{Op};
 ghost use Rattle.dom_set.specs.Elements.{is_in};
-ghost use Rattle.fd_prob.specs.Relations.{is_in_row, value_of};
+ghost use Rattle.fd_prob.specs.Relations.{holds, is_in_row, value_of};
 ghost use Rattle.fd_narrow.specs.Narrowing.{IsInside, domain_in};
 ghost use Rattle.fd_narrow.specs.Parts.{IsLess, IsMissed, part_of, slot_of};
 ghost use Rattle.fd_narrow.specs.Steps.{Leaves};
@@ -10,7 +11,7 @@ ghost use Rattle.fd_prob.specs.declared.problem.Assignment.{Assignment};
 
 use crate::domains::Domains;
 use dom_set::{OutOfMemory, Set};
-use fd_prob::{Quad, Slot};
+use fd_prob::{Items, Quad, Rel, Slot};
 use set_sums::meet;
 use std::alloc::Global;
 
@@ -108,6 +109,60 @@ impl Domains {
             rest = self.less_row(alloc, row, rest)?;
         }
         Ok(rest)
+    }
+
+    /// Puts a row at the end, if it may hold.
+    fn push_possible(
+        &self,
+        alloc: Global,
+        made: &mut Vec<Quad>,
+        row: &Quad,
+    ) -> Result<(), OutOfMemory>
+        ensures { OnOk result ((x : Assignment) → IsInside self.now x → list_any (is_in_row x) made.new.items ≡ (list_any (is_in_row x) made.old.items || is_in_row x row.now)) }
+    {
+        let may = self.may_hold(alloc, row)?;
+        if may {
+            made.push(row.copy(alloc)?)?;
+        }
+        Ok(())
+    }
+
+    /// The rows that may hold.
+    fn possible_rows(&self, alloc: Global, rows: &[Quad]) -> Result<Vec<Quad>, OutOfMemory>
+        ensures { IfOk result (λ made. (x : Assignment) → IsInside self.now x → list_any (is_in_row x) made.items ≡ list_any (is_in_row x) rows.now) }
+    {
+        let mut made = Vec::new(alloc);
+        for row in rows {
+            self.push_possible(alloc, &mut made, row)?;
+        }
+        Ok(made)
+    }
+
+    /// The relation, if it is one of rows with those alone that may hold.
+    fn possible(&self, alloc: Global, rel: &Rel) -> Result<Rel, OutOfMemory>
+        ensures { IfOk result (λ made. (op : Op) (x : Assignment) → IsInside self.now x → holds op x made ≡ holds op x rel.now) }
+    {
+        match rel {
+            Rel::Rows(rows) => {
+                let made = self.possible_rows(alloc, rows.as_slice())?;
+                Ok(Rel::Rows(Items::from_vec(made)))
+            }
+            _ => {
+                let same = rel.copy(alloc)?;
+                Ok(same)
+            }
+        }
+    }
+
+    /// The relations, those of rows without rows of which a set has no value of its variable.
+    pub fn possible_relations(&self, alloc: Global, rels: &[Rel]) -> Result<Vec<Rel>, OutOfMemory>
+        ensures { IfOk result (λ made. (op : Op) (x : Assignment) → IsInside self.now x → list_all (holds op x) made.items ≡ list_all (holds op x) rels.now) }
+    {
+        let mut made = Vec::new(alloc);
+        for rel in rels {
+            made.push(self.possible(alloc, rel)?)?;
+        }
+        Ok(made)
     }
 
     /// One of the rows has the address and the words.

@@ -32,16 +32,18 @@ impl Domains {
     /// variable, and then the variable has its one value; what is left of it until then may be in far more pieces than the sum.
     /// What is left of a variable that may have any value tells little where the sum is in many pieces.
     fn is_left_alone(
-        &self,
+        &mut self,
         alloc: Global,
         s: Slot,
         t: Slot,
         sum: Slot,
-    ) -> Result<bool, OutOfMemory> {
+    ) -> Result<bool, OutOfMemory>
+        ensures { self.new ≡ self.old }
+    {
         if self.is_whole(t) {
             return Ok(true);
         }
-        let pieces = self.domain(sum).spans(alloc)?.len();
+        let pieces = self.pieces(alloc, sum)?;
         if self.domain(t).is_single() {
             return Ok(pieces > FEW && s.number() > sum.number());
         }

@@ -47,7 +47,7 @@ none_large (v ∷ vs) fits w large = go (v == w) (is_in vs w) (λ h. let e : v �
     go true b h k = absurd (h refl)
     go false b h k = k
 
-one_step : (w : ℕ) (b : Bool) → ((w % 1 == 0) && b) ≡ b
+pub one_step : (w : ℕ) (b : Bool) → ((w % 1 == 0) && b) ≡ b
 one_step w b = let e : w % 1 ≡ 0 = omega arith in let t : (w % 1 == 0) ≡ true = eq-eqb _ _ e in ap (λ (c : Bool). c && b) t
 
 pub from_singles : ElementsPass → IsInTests → (vs s : List ℕ) (rs : List (ℕ × ℕ)) (w : ℕ) → ((k : ℕ) → slice_index vs k < 2 ^ 32) → s ≡ elements_of (λ x. x % 1 == 0 && is_within rs x) → is_within rs w ≡ is_in vs w → is_in s w ≡ is_in vs w

@@ -1,6 +1,6 @@
 // Numbers of a set whose lowest bits pass a test, by blocks of numbers.
 ghost use Rattle.std.specs.Prelude.{◌≡◌, ℕ, ◌+◌, ◌-◌, ◌%◌, ◌^◌, ◌<◌, ◌≤◌, ◌&&◌, ◌||◌, IfOk, OnOk};
-ghost use Rattle.dom_set.specs.Elements.{is_in, is_matching};
+ghost use Rattle.dom_set.specs.Elements.{is_in, is_within};
 ghost use Rattle.row_parts.specs.Blocks.{is_in_block, AllPass, NonePass};
 ghost use Rattle.row_parts.specs.declared.blocks.Cover.TheVariants.{All, Nothing, Some as SomePass};
 
@@ -45,13 +45,21 @@ pub fn power(bits: u32) -> u64
     1u64 << bits
 }
 
-/// The mask of the bits from one up to, not including, another.
-fn mask_between(low: u32, end: u32) -> u32
-    requires order { low ≤ end }
-    requires end { end ≤ 32 }
-    ensures { result ≡ 2 ^ end - 2 ^ low }
+/// The mask of so many lowest bits.
+pub fn mask_of(width: u32) -> u32
+    requires { width ≤ 32 }
+    ensures { result ≡ 2 ^ width - 1 }
 {
-    (power(end) - power(low)) as u32
+    (power(width) - 1) as u32
+}
+
+/// The last number of a block.
+fn last_of(start: u32, bits: u32) -> u32
+    requires bits { bits ≤ 32 }
+    requires within { start + 2 ^ bits ≤ 2 ^ 32 }
+    ensures { result + 1 ≡ start + 2 ^ bits }
+{
+    start + (power(bits) - 1) as u32
 }
 
 /// How a block is halved.
@@ -82,36 +90,32 @@ fn halved(start: u32, bits: u32) -> Halves
     }
 }
 
-/// Appends patterns of the numbers whose lowest bits are in the block and pass.
+/// Appends ranges of the numbers in the block that pass.
 #[tactic(auto, using(crate::proofs::Cuts::halved, crate::proofs::Cuts::with_none))]
 fn push_blocks<C: Choice>(
     choice: &C,
-    width: u32,
     start: u32,
     bits: u32,
-    patterns: &mut Vec<(u32, u32)>,
+    ranges: &mut Vec<(u32, u32)>,
 ) -> Result<(), OutOfMemory>
-    requires width { width ≤ 32 }
-    requires bits { bits ≤ width }
+    requires bits { bits ≤ 32 }
     requires grain { C.grain choice.now ≤ bits }
     requires aligned { start % 2 ^ bits ≡ 0 }
-    requires within { start + 2 ^ bits ≤ 2 ^ width }
-    requires words { 2 ^ width ≤ 2 ^ 32 }
-    ensures { OnOk result ((x : ℕ) → x < 2 ^ 32 →
-        is_matching patterns.new.items x
-        ≡ (is_matching patterns.old.items x
-        || (is_in_block start bits (x % 2 ^ width) && C.test choice.now (x % 2 ^ width)))) }
+    requires within { start + 2 ^ bits ≤ 2 ^ 32 }
+    ensures { OnOk result ((x : ℕ) →
+        is_within ranges.new.items x
+        ≡ (is_within ranges.old.items x || (is_in_block start bits x && C.test choice.now x))) }
 {
     match choice.judge(start, bits) {
         Cover::All => {
-            patterns.push((mask_between(bits, width), start))?;
+            ranges.push((start, last_of(start, bits)))?;
             Ok(())
         }
         Cover::Nothing => Ok(()),
         Cover::Some => {
             let halves = halved(start, bits);
-            push_blocks(choice, width, start, halves.bits, patterns)?;
-            push_blocks(choice, width, halves.upper, halves.bits, patterns)
+            push_blocks(choice, start, halves.bits, ranges)?;
+            push_blocks(choice, halves.upper, halves.bits, ranges)
         }
     }
 }
@@ -129,9 +133,11 @@ pub fn chosen<C: Choice>(
 {
     set_laws();
     let _words = power(width);
-    let mut patterns = Vec::new(alloc);
-    push_blocks(choice, width, 0, width, &mut patterns)?;
-    let passing = Set::from_patterns(alloc, &patterns)?;
+    let mut ranges = Vec::new(alloc);
+    push_blocks(choice, 0, width, &mut ranges)?;
+    // Neighbouring blocks are one range. Where the lowest bits are not all, its numbers come again.
+    let low = Set::from_ranges(alloc, &ranges, 1)?;
+    let passing = low.masked(alloc, mask_of(width))?;
     let chosen = set.and(alloc, &passing)?;
     Ok(chosen)
 }

@@ -4,21 +4,13 @@ ghost use Rattle.dom_set.specs.Elements.{is_in};
 ghost use Rattle.rv_mem.specs.Ram.{in_ram};
 ghost use Rattle.row_parts.specs.Reached.{AddsAll, AddsReached};
 
-use crate::blocks::{Choice, Cover, chosen, power};
+use crate::blocks::{Choice, Cover, chosen, mask_of, power};
 use crate::ram_part::RamPart;
 use crate::row::{News, Row, RowEnd, copy_of, push_row, push_some};
 use dom_set::{OutOfMemory, Set};
 use rv_mem::Ram;
 use std::alloc::Global;
 use sv_walk::Kind;
-
-/// The mask of so many lowest bits.
-fn mask_of(width: u32) -> u32
-    requires { width ≤ 32 }
-    ensures { result ≡ 2 ^ width - 1 }
-{
-    (power(width) - 1) as u32
-}
 
 /// A row of these addresses.
 pub fn row_of(alloc: Global, ea: Set, news: &News, end: RowEnd) -> Result<Row, OutOfMemory>

@@ -10,7 +10,6 @@ use Rattle.tpl_ast.specs.States.{ArePlaces, AreStartWords, IsState, IsWord, is_k
 use Rattle.tpl_admit.specs.declared.certificate.Cert.{Cert}
 use Rattle.tpl_admit.specs.System.{System}
 use Rattle.tpl_admit.specs.Starts.{found, no_state, start_of, word_of, first_system, AgreesWith}
-use Rattle.tpl_admit.specs.Validity.{IsSound}
 use Rattle.tpl_admit.specs.WellFormed.{IsWellFormed}
 use Rattle.rv_system.specs.Fills.{Fill, even_place, evenly, filled, filled_system, no_fill, fill_of, IsFilledBy, IsSameFor, AreLegalPlaces, IsLegalFill, IsLegalHart, IsLegalSystem}
 use Rattle.rv_system.proofs.Law.{start_word}
@@ -46,15 +45,12 @@ memory_words c fill words small n =
     filled_has (λ n v. IsWord v) (word_of c) fill.words (λ m v is. (start_word c.template.ram 0 c.words words (m * 4) v is).1) n (small n)
 
 -- what is given of memory are words
-pub words_agree : (c : Cert) (fill : Fill) → AreStartWords c.template.ram 0 c.words → ((n : ℕ) → IsWord (fill.words n)) → AgreesWith c (filled_system c fill)
-words_agree c fill words small = record {
+pub fills_agree : (c : Cert) (fill : Fill) → AreStartWords c.template.ram 0 c.words → ((n : ℕ) → IsWord (fill.words n)) → AgreesWith c (filled_system c fill)
+fills_agree c fill words small = record {
   harts = λ k l. record { fixed = refl; places = λ key v is. given_at (found (start_of c k).places) (fill.places k) key v is };
   words = λ n v is. given_at (word_of c) fill.words n v is;
   memory = λ n. memory_words c fill words small n;
 }
-
-pub fills_agree : (c : Cert) (fill : Fill) → IsSound c → ((n : ℕ) → IsWord (fill.words n)) → AgreesWith c (filled_system c fill)
-fills_agree c fill sound small = words_agree c fill sound.words small
 
 pub fills_are_kept : (c : Cert) (fill : Fill) → IsFilledBy c fill (filled_system c fill)
 fills_are_kept c fill = record {

@@ -3,11 +3,10 @@ use Rattle.std.specs.Prelude.{◌≡◌, ℕ, ◌%◌, ◌<◌, true, nat_lt, if
 use Rattle.std.specs.Option.{unwrap_or}
 use Rattle.rv_csr.specs.Table.{is_legal_at}
 use Rattle.rv_hart.specs.Whole.{WholeHart}
-use Rattle.tpl_ast.specs.States.{IsWord, is_key, is_legal_place}
+use Rattle.tpl_ast.specs.States.{AreStartWords, IsWord, is_key, is_legal_place}
 use Rattle.tpl_admit.specs.declared.certificate.Cert.{Cert}
 use Rattle.tpl_admit.specs.System.{System}
 use Rattle.tpl_admit.specs.Starts.{found, start_of, word_of, fixed_in, first_system, AgreesWith}
-use Rattle.tpl_admit.specs.Validity.{IsSound}
 use Rattle.tpl_admit.specs.WellFormed.{IsWellFormed}
 
 -- a value for each register and lazy CSR of each hart, by the hart's number and the key of the place, and for each word of memory, by its number
@@ -78,9 +77,9 @@ pub record IsLegalSystem (count : ℕ) (sys : System) : Type 0 where
   pub harts : (k : ℕ) → k < count → IsLegalHart (sys.harts k)
   pub words : (n : ℕ) → IsWord (sys.memory n)
 
--- with each fill of words the system begins as the certificate says
+-- where what is given of memory are words, the system begins as the certificate says with each fill of words
 abbrev pub FillsAgree : Type 0
-FillsAgree = (c : Cert) (fill : Fill) → IsSound c → ((n : ℕ) → IsWord (fill.words n)) → AgreesWith c (filled_system c fill)
+FillsAgree = (c : Cert) (fill : Fill) → AreStartWords c.template.ram 0 c.words → ((n : ℕ) → IsWord (fill.words n)) → AgreesWith c (filled_system c fill)
 
 -- and has the fill wherever nothing is given
 abbrev pub FillsAreKept : Type 0

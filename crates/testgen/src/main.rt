@@ -1,5 +1,5 @@
-//! The program testgen: from a template on standard input to an ELF file on standard output and its report on standard error, and from a file to the verdict on it. It hands its words and the
-//! standard streams to `run` of `tool_top`, which carries the promise of the whole tool, and ends with the status that `run` answers.
+//! The program testgen: from a template on standard input to an ELF file on standard output and its report on standard error, from a file to the verdict on it, to a run of it or to its report,
+//! and a demo. It hands its words and the standard streams to `run` of `tool_top`, which carries the promise of the whole tool, and ends with the status that `run` answers.
 #![tactic(auto)]
 
 use std::env;

@@ -8,7 +8,7 @@ use std::alloc::Global;
 #[derive(Clone, Copy, Debug, PartialEq, Eq)]
 pub enum Status {
     Done,
-    /// The bytes are no template that this build generates from.
+    /// The bytes are no template.
     NoTemplate,
     /// All leaf turns were made, and a further one was needed.
     GaveUp,

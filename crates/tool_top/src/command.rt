@@ -84,6 +84,7 @@ pub fn run<S: Source, K: Sink, R: Sink>(
         → TakesAtMost (S.left source.old) (S.left source.new) (S.reads source.old) (S.reads source.new) (S.empty source.old) (S.empty source.new) (limit_of command) }
     ensures input { (command : ACommand) → IsCommand words.now command → IsAllRead command (S.left source.old) (S.left source.new) result }
     ensures unread { result ≡ 2 → source.new ≡ source.old }
+    ensures unasked { (command : ACommand) → IsCommand words.now command → limit_of command ≡ 0 → source.new ≡ source.old }
     ensures out { result ≢ 0 → result ≢ 7 → result ≢ 10 → out.new ≡ out.old }
     ensures silent { result ≡ 8 → report.new ≡ report.old }
     ensures told { IsTrue (tells result) → Tells (R.held report.old) (R.held report.new) (told_line result) (R.fault_at report.new) (R.faults report.old) (R.faults report.new) }

@@ -1,4 +1,4 @@
--- Laws of the words of commands, in which nothing of a parser of command lines occurs.
+-- Laws of the words of commands. Plain words and ranges are said in their own terms, without a parser of command lines.
 use Rattle.std.specs.Prelude.{◌≡◌, ℕ, ◌^◌, ◌<◌, ◌≤◌, ◌⊎◌, ◌↔◌, ⊤, List, [], ◌∷◌, codes}
 use Rattle.std.specs.Str.Parse.{IsNumeral, digits_value}
 use Rattle.clap.specs.Words.{fault_of}

@@ -111,7 +111,8 @@ fn number<'a>(alloc: Global, id: &'a str, least: u64, most: u64) -> Arg<'a>
 
 /// Why the words were refused.
 fn refusal(error: &Error) -> NoCommand
-    ensures { result ≡ NoCommand.Usage → kind_of error.now ≡ ErrorKind.OutOfMemory → ⊥ }
+    ensures memory { result ≡ NoCommand.Usage → kind_of error.now ≡ ErrorKind.OutOfMemory → ⊥ }
+    ensures usage { (kind_of error.now ≡ ErrorKind.OutOfMemory → ⊥) → result ≡ NoCommand.Usage }
 {
     if error.kind() == ErrorKind::OutOfMemory {
         NoCommand::OutOfMemory

@@ -1,12 +1,8 @@
-use Rattle.case_search.proofs.Joining.{case_alike, least_alike, restated}
+use Rattle.case_search.proofs.Equivalence.{least_equivalent}
 use Rattle.case_search.proofs.solving.solve_case.Goals as goal
 
 pub solve_joined-requires : goal.solve_joined-requires
-solve_joined-requires c =
-    let made = c.in_ok-joined.joined in
-    case_alike c.args.case.now made (restated c.args.case.now made c.in_ok-joined.ensures) c.requires
+solve_joined-requires c = c.in_ok-joined.ensures.whole
 
 pub returns-then-has_several_rows : goal.returns-then-has_several_rows
-returns-then-has_several_rows c =
-    let made = c.in_ok-joined.joined in
-    least_alike c.args.case.now made (restated c.args.case.now made c.in_ok-joined.ensures) c.args.pivots.now c.in_ok-least.least c.in_ok-least.ensures
+returns-then-has_several_rows c = least_equivalent c.args.case.now c.in_ok-joined.joined c.in_ok-joined.ensures c.args.pivots.now c.in_ok-least.least c.in_ok-least.ensures

@@ -1,15 +1,16 @@
-use Rattle.std.proofs.Common.{◌/◌, ◌^◌, ◌∙◌, arith}
-use Rattle.row_parts.specs.declared.classes.Level.TheVariants.{Root}
-use Rattle.row_parts.specs.Classes.{entry_at}
-use Rattle.data_ways.specs.Tables.{any_pointer, leads_on}
-use Rattle.data_ways.proofs.Parted.{index_further, index_small, indices_through}
+use Rattle.std.proofs.Common.{ℕ, ◌≡◌, ◌/◌, ◌^◌, ◌∙◌, ◌&&◌, List, ap, sym, subst, arith}
+use Rattle.std.specs.List.{list_any}
+use Rattle.rv_mem.specs.declared.words.Seen.{Seen}
+use Rattle.row_parts.specs.Classes.{TableOf, has_class}
+use Rattle.row_parts.specs.Items.{GivesEach}
+use Rattle.data_ways.specs.Tables.{leads_on}
+use Rattle.data_ways.proofs.Parted.{pointed}
 use Rattle.data_ways.proofs.pointers.pointers.Goals as goal
-
-pub loop-index-preserved : goal.loop-index-preserved
-loop-index-preserved g c = λ test ea small.
-    index_further (λ k. leads_on (entry_at (g.M.Words.at c.args.m.now) c.args.root k) test) c.loop-index.index (ea / 2 ^ 22) (any_pointer c.loop-index.pointers.items test ea) (any_pointer c.push_pointer.new.pointers.items test ea)
-    (c.in_ok-push_pointer.ensures test ea small) (c.loop-index.invariant test ea small)
 
 pub returns : goal.returns
 returns g c = λ test ea small.
-    c.loop-index.invariant test ea small ∙ indices_through (λ k. leads_on (entry_at (g.M.Words.at c.args.m.now) c.args.root k) test) c.loop-index.index (ea / 2 ^ 22) (index_small Root ea small) (omega arith)
+    c.in_ok-pointers.ensures test ea small
+    ∙ pointed (g.M.Words.at c.args.m.now) c.args.root c.deref-2.result.now c.deref-3.result.now test (ea / 2 ^ 22)
+    (subst (λ (t : List Seen). TableOf (g.M.Words.at c.args.m.now) c.args.root t) (sym c.deref-2.ensures.value) c.in_ok-table.ensures)
+    (subst (λ (ks : List Seen). GivesEach c.deref-2.result.now ks) (sym c.deref-3.ensures.value) (subst (λ (t : List Seen). GivesEach t c.in_ok-kinds.kinds.items) (c.deref.ensures.value ∙ sym c.deref-2.ensures.value) c.in_ok-kinds.ensures))
+    (omega (arith, small))
