@@ -14,4 +14,4 @@ mod JoinedTargets
 mod Strengthening
 mod Joining
 mod Made
-mod Equivalence
+pub mod Equivalence

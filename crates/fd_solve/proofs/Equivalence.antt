@@ -1,6 +1,7 @@
 -- Cases that the same assignments fit, one by one and with what marked biases add to them.
-use Rattle.std.proofs.Common.{◌≡◌, ℕ, zero, suc, ◌+◌, ◌<◌, ◌≤◌, Bool, ◌&&◌, List, [], ◌∷◌, ◌++◌, Option, length, drop, get_or, All, inl, inr, refl, sym, ap, ◌∙◌, subst, arith}
-use Rattle.std.specs.Prelude.{slice_set}
+use Rattle.std.proofs.Common.{◌≡◌, ℕ, zero, suc, ◌+◌, ◌<◌, ◌≤◌, Bool, ◌&&◌, List, [], ◌∷◌, ◌++◌, Option, Some, None, length, drop, get_or, All, inl, inr, refl, sym, ap, ◌∙◌, subst, arith}
+use Rattle.std.specs.Prelude.{IfSome, slice_set, take, true, false}
+use Rattle.std.specs.Option.{is_some}
 use Rattle.std.proofs.Math.Seq.{get_or-append_seam}
 use Rattle.std.proofs.lemmas.Bool.{and_parts, cases_lt}
 use Rattle.std.proofs.lemmas.List.{append_assoc, append-nil, get_or_append_left}
@@ -14,10 +15,11 @@ use Rattle.fd_prob.specs.Fitting.{IsCase, IsProblem, fits_case}
 use Rattle.fd_prob.proofs.Fitted.{fits_its_case, of_case}
 use Rattle.fd_prob.specs.Order.{IsAssignment}
 use Rattle.case_search.specs.Equivalent.{IsEquivalent}
-use Rattle.fd_solve.specs.Equivalent.{AreEquivalent, AreMarked, AreTried, IsTried, StandsIn}
+use Rattle.fd_solve.specs.Equivalent.{AreBrought, AreEquivalent, AreMarked, AreTried, IsTried, StandFor, StandsIn}
 use Rattle.fd_solve.specs.Marks.{marked_case, with_marked}
 use Rattle.fd_solve.specs.Meeting.{meets_marked}
 use Rattle.case_search.specs.Search.{IsMadeOf, LeastOrNone}
+use Rattle.fd_solve.proofs.FirstMarks.{all_begun}
 use Rattle.fd_solve.proofs.FittingMarks.{all_marks}
 use Rattle.fd_solve.proofs.Lists.{any_default, drop_here, drop_past}
 use Rattle.fd_solve.proofs.Marking.{many_marked, marked_at, marked_case_whole, marked_op}
@@ -52,6 +54,29 @@ module _ (marks : List Bool) (es : List Extra) (place : ℕ) (c d : Case) (whole
     op = marked_op marks es place d ∙ is.op ∙ sym (marked_op marks es place c);
     same = same_marked;
   }
+
+-- the same for all assignments
+module _ (marks : List Bool) (es : List Extra) (place : ℕ) (c d : Case) (whole : IsCase c) (is : IsEquivalent c d) where
+  pub equivalent_marked : IsEquivalent (marked_case marks es place c) (marked_case marks es place d)
+  equivalent_marked = record {
+    whole = marked_case_whole marks es place d is.whole;
+    op = marked_op marks es place d ∙ is.op ∙ sym (marked_op marks es place c);
+    same = λ x.
+        all_marks marks es place d x is.whole
+        ∙ ap (λ (n : ℕ). fits_case x d && meets_marked (op_numbered n) x place marks es) is.op
+        ∙ ap (λ (b : Bool). b && meets_marked (op_numbered c.op) x place marks es) (is.same x)
+        ∙ sym (all_marks marks es place c x whole);
+  }
+
+pub equivalent_to_itself : (c : Case) → IsCase c → IsEquivalent c c
+equivalent_to_itself c whole = record { whole = whole; op = refl; same = λ x. refl }
+
+pub equivalent_after : (c d e : Case) → IsEquivalent c d → IsEquivalent d e → IsEquivalent c e
+equivalent_after c d e one two = record { whole = two.whole; op = two.op ∙ one.op; same = λ x. two.same x ∙ one.same x }
+
+-- what is found of the one is found of the other
+pub least_of_equivalent : (c d : Case) → IsCase c → IsEquivalent c d → (ps : List ℕ) (o : Option Assignment) → LeastOrNone ps (IsMadeOf d) o → LeastOrNone ps (IsMadeOf c) o
+least_of_equivalent c d whole is ps o least = least_marked [] [] 0 c d whole (stands_in c d is) ps o least
 
 -- a case stands for itself
 pub itself : (c d : Case) → IsCase c → d ≡ c → StandsIn c d
@@ -159,3 +184,40 @@ put_at [] made n d at are = absurd (omega (arith, at.0))
 put_at (c ∷ cases) [] n d at are = absurd are
 put_at (c ∷ cases) (m ∷ made) zero d at are = (at.1 c, are.1)
 put_at (c ∷ cases) (m ∷ made) (suc n) d at are = (are.0, put_at cases made n d (omega (arith, at.0), at.1) are.1)
+
+-- ---- where there are cases
+
+pub all_stand : (cases : List Case) (narrow : Option (List Case)) → StandFor cases narrow → IfSome narrow (All IsCase)
+all_stand cases None are = tt
+all_stand cases (Some made) are = all_whole cases made are
+
+pub entries_stand : (cases : List Case) (narrow : Option (List Case)) (es : List Extra) → All (λ e. length e.cases ≡ length cases) es → StandFor cases narrow → IfSome narrow (λ made. All (λ e. length e.cases ≡ length made) es)
+entries_stand cases None es entries are = tt
+entries_stand cases (Some made) es entries are = subst (λ (n : ℕ). All (λ e. length e.cases ≡ n) es) (sym (equivalent_count cases made are)) entries
+
+-- brought up to marked biases they stand for those of the problem with them
+pub brought_stand : (marks : List Bool) (es : List Extra) (p : Problem) (narrow made : Option (List Case)) → IsProblem p → All (λ e. length e.cases ≡ length p.cases) es → StandFor p.cases narrow → AreBrought marks es narrow made → StandFor (with_marked marks es p).cases made
+brought_stand marks es p None made problem entries are new = subst (StandFor (with_marked marks es p).cases) (sym new) tt
+brought_stand marks es p (Some cases) None problem entries are new = absurd new
+brought_stand marks es p (Some cases) (Some made) problem entries are new = still_stand marks es p cases made problem entries are new
+
+-- and are none only where there were none
+pub brought_none : (marks : List Bool) (es : List Extra) (narrow made : Option (List Case)) → AreBrought marks es narrow made → made ≡ None → narrow ≡ None
+brought_none marks es None made new none = refl
+brought_none marks es (Some cases) None new none = absurd new
+brought_none marks es (Some cases) (Some made) new none = absurd (cc none)
+
+pub some_cases : (narrow : Option (List Case)) → is_some narrow ≡ true → narrow ≡ None → ⊥
+some_cases None is none = cc is
+some_cases (Some cases) is none = cc none
+
+pub none_cases : (narrow : Option (List Case)) → is_some narrow ≡ false → narrow ≡ None
+none_cases None is = refl
+none_cases (Some cases) is = absurd (cc is)
+
+-- what stands for the cases brought up to all marks, where there are some
+pub all_brought : (p : Problem) (es : List Extra) (marks : List Bool) (n : ℕ) (old new : Option (List Case)) → ((old ≡ None → ⊥) → n ≡ length marks) → (old ≡ None → new ≡ None) → StandFor (with_marked marks es p).cases new → StandFor (with_marked (take n marks) es p).cases new
+all_brought p es marks n None new from none stand = subst (StandFor (with_marked (take n marks) es p).cases) (sym (none refl)) tt
+all_brought p es marks n (Some cases) new from none stand =
+    let is : n ≡ length marks = from (some_cases (Some cases) refl) in
+    subst (λ (q : Problem). StandFor q.cases new) (sym (ap (λ (k : ℕ). with_marked (take k marks) es p) is ∙ all_begun p es marks)) stand

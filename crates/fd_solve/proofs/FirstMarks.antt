@@ -1,19 +1,18 @@
 -- Problems with their first marked biases, and with the others.
-use Rattle.std.proofs.Common.{◌≡◌, ℕ, zero, suc, ◌+◌, ◌-◌, ◌<◌, ◌≤◌, Bool, true, false, not, List, [], ◌∷◌, ◌++◌, length, take, drop, get_or, All, Option, Some, refl, sym, ap, ◌∙◌, subst, length-append, length-drop, arith}
+use Rattle.std.proofs.Common.{◌≡◌, ℕ, zero, suc, ◌+◌, ◌-◌, ◌<◌, ◌≤◌, Bool, true, false, not, List, [], ◌∷◌, ◌++◌, length, take, drop, get_or, All, None, refl, sym, ap, ◌∙◌, subst, length-append, length-drop, arith}
 use Rattle.std.specs.Prelude.{if◌then◌else◌}
 use Rattle.std.specs.List.{list_all}
-use Rattle.std.proofs.lemmas.List.{take-append-le, take_all, take_more}
+use Rattle.std.proofs.lemmas.List.{take-append-le, take_all}
 use Rattle.std.proofs.lemmas.List.Elements.{All-drop}
-use Rattle.fd_prob.specs.declared.problem.Case.{Case}
 use Rattle.fd_prob.specs.declared.problem.Extra.{Extra}
 use Rattle.fd_prob.specs.declared.problem.Problem.{Problem}
 use Rattle.fd_prob.specs.Extras.{extended}
 use Rattle.fd_prob.specs.Fitting.{IsProblem}
 use Rattle.fd_solve.specs.declared.ready.Ready.{Ready}
 use Rattle.fd_solve.specs.Equivalent.{StandFor}
-use Rattle.fd_solve.specs.Marks.{AreSound, HasFirstsOf, base_of, marked_case, with_marked}
+use Rattle.fd_solve.specs.Marks.{with_marked}
 use Rattle.fd_solve.specs.Ready.{IsReady}
-use Rattle.fd_solve.proofs.Marking.{many_marked, marked_at, whole_marked}
+use Rattle.fd_solve.proofs.Marking.{many_marked, whole_marked}
 
 no_biases : (marks : List Bool) (p : Problem) → with_marked marks [] p ≡ p
 no_biases [] p = refl
@@ -44,113 +43,71 @@ unmarked (true ∷ marks) es p is = absurd (cc is)
 unmarked (false ∷ marks) [] p is = refl
 unmarked (false ∷ marks) (e ∷ es) p is = unmarked marks es p is
 
--- the cases are all that biases change
-pub other_parts : (marks : List Bool) (es : List Extra) (p : Problem) → with_marked marks es p ≡ record { cases = (with_marked marks es p).cases; pivots = p.pivots; pairs = p.pairs; fetch = p.fetch }
-other_parts [] es p = refl
-other_parts (m ∷ marks) [] p = refl
-other_parts (true ∷ marks) (e ∷ es) p = other_parts marks es (extended e p)
-other_parts (false ∷ marks) (e ∷ es) p = other_parts marks es p
-
--- one case more
-pub next_case : (marks : List Bool) (es : List Extra) (p : Problem) (i : ℕ) (c made : Case) (before after : List Case) → All (λ e. length e.cases ≡ length p.cases) es → i < length p.cases → c ≡ get_or p.cases i c
-    → before ≡ take i (with_marked marks es p).cases → made ≡ marked_case marks es i c → after ≡ before ++ made ∷ [] → after ≡ take (i + 1) (with_marked marks es p).cases
-next_case marks es p i c made before after entries less here so_far made_is after_is =
-    let cases : List Case = (with_marked marks es p).cases in
-    let many : length cases ≡ length p.cases = many_marked marks es p (length p.cases) entries refl in
-    let case : Case = marked_case marks es i c in
-    after_is
-    ∙ ap (λ (cs : List Case). cs ++ made ∷ []) so_far
-    ∙ ap (λ (k : Case). take i cases ++ k ∷ []) (made_is ∙ marked_at marks es p (length p.cases) i c entries refl less here)
-    ∙ sym (take_more cases i case (omega (arith, less, many)))
-
-pub all_cases : (marks : List Bool) (es : List Extra) (p : Problem) (i : ℕ) → All (λ e. length e.cases ≡ length p.cases) es → length p.cases ≤ i → take i (with_marked marks es p).cases ≡ (with_marked marks es p).cases
-all_cases marks es p i entries end = take_all i (with_marked marks es p).cases (omega (arith, end, many_marked marks es p (length p.cases) entries refl))
-
 -- the slice from a place on
-abbrev from_on : {A : Type 0} → ℕ → List A → List A
+abbrev pub from_on : {A : Type 0} → ℕ → List A → List A
 from_on n xs = take (length xs - n) (drop n xs)
 
 from_on_is : {A : Type 0} (n : ℕ) (xs : List A) → from_on n xs ≡ drop n xs
 from_on_is n xs = take_all (length xs - n) (drop n xs) (omega (arith, length-drop n xs))
 
-module _ (p : Problem) (es : List Extra) (marks : List Bool) (most : ℕ) (ready : Ready) (is : IsReady p es marks most ready) (base : Problem) (base_is : base ≡ base_of ready.problem p) where
-  pub first_is : base ≡ with_marked (take ready.from marks) es p
-  first_is = base_is ∙ is.first
+-- of the problem with its first marked biases the marks and biases that are left
+module _ (p : Problem) (es : List Extra) (marks : List Bool) (n : ℕ) where
+  abbrev pub begun : Problem
+  begun = with_marked (take n marks) es p
 
-  pub whole_base : IsProblem p → IsProblem base
-  whole_base problem = subst IsProblem (sym first_is) (whole_marked (take ready.from marks) es p problem)
+  -- with them it is the same problem
+  pub left_whole : with_marked (from_on n marks) (from_on n es) begun ≡ with_marked marks es p
+  left_whole =
+      ap (λ (ms : List Bool). with_marked ms (from_on n es) begun) (from_on_is n marks)
+      ∙ ap (λ (fs : List Extra). with_marked (drop n marks) fs begun) (from_on_is n es)
+      ∙ first_and_rest n marks es p
 
-  pub entries_left : All (λ e. length e.cases ≡ length p.cases) es → All (λ e. length e.cases ≡ length base.cases) (from_on ready.from es)
-  entries_left entries =
-      let many : length base.cases ≡ length p.cases = ap (λ (q : Problem). length q.cases) first_is ∙ many_marked (take ready.from marks) es p (length p.cases) entries refl in
-      subst (λ (n : ℕ). All (λ e. length e.cases ≡ n) (from_on ready.from es)) (sym many)
-      (subst (All (λ e. length e.cases ≡ length p.cases)) (sym (from_on_is ready.from es)) (All-drop (λ e. length e.cases ≡ length p.cases) ready.from es entries))
+  pub left_entries : All (λ e. length e.cases ≡ length p.cases) es → All (λ e. length e.cases ≡ length begun.cases) (from_on n es)
+  left_entries entries =
+      subst (λ (k : ℕ). All (λ e. length e.cases ≡ k) (from_on n es)) (sym (many_marked (take n marks) es p (length p.cases) entries refl))
+      (subst (All (λ e. length e.cases ≡ length p.cases)) (sym (from_on_is n es)) (All-drop (λ e. length e.cases ≡ length p.cases) n es entries))
 
-  -- the marks from there to a place
-  abbrev pending : ℕ → List Bool
-  pending to = take (to - ready.from) (drop ready.from marks)
+  pub left_room : length marks ≤ length es → length (from_on n marks) ≤ length (from_on n es)
+  left_room room = omega (arith, room, length-drop n marks, length-drop n es, ap length (from_on_is n marks), ap length (from_on_is n es))
 
-  brought : (to : ℕ) (made : Problem) → ready.from ≤ to → made ≡ with_marked (pending to) (drop ready.from es) base → made ≡ with_marked (take to marks) es p
-  brought to made le made_is =
-      made_is
-      ∙ ap (with_marked (pending to) (drop ready.from es)) first_is
-      ∙ first_and_more ready.from (to - ready.from) to (omega (arith, le)) marks es p
+  pub begun_whole : IsProblem p → IsProblem begun
+  begun_whole problem = whole_marked (take n marks) es p problem
 
-  -- it is brought up to more marks
-  pub ready_made : (made : Problem) (new : Ready) → made ≡ with_marked (pending most) (from_on ready.from es) base → new.problem ≡ Some made → StandFor made.cases new.narrow → new.from ≡ most → IsReady p es marks most new
-  ready_made made new made_is problem_is narrow_is from_is = record {
-    within = omega (arith, from_is);
-    first = ap (λ (o : Option Problem). base_of o p) problem_is ∙ brought most made is.within (made_is ∙ ap (λ (fs : List Extra). with_marked (pending most) fs base) (from_on_is ready.from es)) ∙ ap (λ (n : ℕ). with_marked (take n marks) es p) (sym from_is);
-    narrow = subst (λ (o : Option Problem). StandFor (base_of o p).cases new.narrow) (sym problem_is) narrow_is;
-  }
+  -- with the marks from there to a place
+  pub brought : (to : ℕ) → n ≤ to → with_marked (take (to - n) (drop n marks)) (from_on n es) begun ≡ with_marked (take to marks) es p
+  brought to le =
+      ap (λ (fs : List Extra). with_marked (take (to - n) (drop n marks)) fs begun) (from_on_is n es)
+      ∙ first_and_more n (to - n) to (omega (arith, le)) marks es p
 
-  -- with the other marks it is the same problem
-  pub same_whole : with_marked (from_on ready.from marks) (from_on ready.from es) base ≡ with_marked marks es p
-  same_whole =
-      ap (λ (ms : List Bool). with_marked ms (from_on ready.from es) base) (from_on_is ready.from marks)
-      ∙ ap (λ (fs : List Extra). with_marked (drop ready.from marks) fs base) (from_on_is ready.from es)
-      ∙ ap (with_marked (drop ready.from marks) (drop ready.from es)) first_is
-      ∙ first_and_rest ready.from marks es p
+  -- where none of them is marked
+  pub as_it_was : (to : ℕ) → n ≤ to → list_all not (take (to - n) (drop n marks)) ≡ true → begun ≡ with_marked (take to marks) es p
+  as_it_was to le none = sym (unmarked (take (to - n) (drop n marks)) (from_on n es) begun none) ∙ brought to le
 
-  pub sound_rest : (firsts : Problem) → AreSound p es marks firsts → AreSound base (from_on ready.from es) (from_on ready.from marks) firsts
-  sound_rest firsts sound = record {
-    problem = whole_base sound.problem;
-    entries = entries_left sound.entries;
-    room = omega (arith, sound.room, length-drop ready.from marks, length-drop ready.from es, ap length (from_on_is ready.from marks), ap length (from_on_is ready.from es));
-    whole = sound.whole;
-    firsts = subst (λ (q : Problem). HasFirstsOf q firsts) (sym same_whole) sound.firsts;
-  }
+-- with no mark, and with all of them
+pub none_begun : (p : Problem) (es : List Extra) (marks : List Bool) (n : ℕ) → n ≡ 0 → with_marked (take n marks) es p ≡ p
+none_begun p es marks n is = ap (λ (k : ℕ). with_marked (take k marks) es p) is
 
-  -- there is no mark before the place to which it is brought up
-  pub ready_as_it_is : (new : Ready) → new.problem ≡ ready.problem → new.narrow ≡ ready.narrow → new.from ≡ most → list_all not (pending most) ≡ true → IsReady p es marks most new
-  ready_as_it_is new problem_is narrow_is from_is none = record {
-    within = omega (arith, from_is);
-    first = ap (λ (o : Option Problem). base_of o p) problem_is ∙ sym base_is ∙ brought most base is.within (sym (unmarked (pending most) (drop ready.from es) base none)) ∙ ap (λ (n : ℕ). with_marked (take n marks) es p) (sym from_is);
-    narrow = subst (StandFor (base_of new.problem p).cases) (sym narrow_is) (subst (λ (o : Option Problem). StandFor (base_of o p).cases ready.narrow) (sym problem_is) is.narrow);
-  }
-
--- brought up to all marks it is the problem with them
-pub whole_ready : (p : Problem) (es : List Extra) (marks : List Bool) (ready : Ready) → ready.from ≡ length marks → IsReady p es marks (length marks) ready → base_of ready.problem p ≡ with_marked marks es p
-whole_ready p es marks ready from is = is.first ∙ ap (λ (ms : List Bool). with_marked ms es p) (ap (λ (n : ℕ). take n marks) from ∙ take_all (length marks) marks (omega arith))
+pub all_begun : (p : Problem) (es : List Extra) (marks : List Bool) → with_marked (take (length marks) marks) es p ≡ with_marked marks es p
+all_begun p es marks = ap (λ (ms : List Bool). with_marked ms es p) (take_all (length marks) marks (omega arith))
 
 -- a mark more
 pub ready_next : (p : Problem) (es : List Extra) (marks after : List Bool) (mark : Bool) (ready : Ready) → after ≡ marks ++ mark ∷ [] → IsReady p es marks (length marks) ready → IsReady p es after (length after - 1) ready
 ready_next p es marks after mark ready is so_far = record {
   within = omega (arith, so_far.within, ap length is, length-append marks (mark ∷ []));
-  first = so_far.first ∙ ap (λ (ms : List Bool). with_marked ms es p) (sym (take-append-le ready.from marks (mark ∷ []) so_far.within) ∙ ap (take ready.from) (sym is));
-  narrow = so_far.narrow;
+  narrow = subst (λ (ms : List Bool). StandFor (with_marked ms es p).cases ready.narrow) (sym (take-append-le ready.from marks (mark ∷ []) so_far.within) ∙ ap (take ready.from) (sym is)) so_far.narrow;
+  idle = so_far.idle;
 }
 
 -- more marks may count
 pub ready_wider : (p : Problem) (es : List Extra) (marks : List Bool) (n m : ℕ) (ready : Ready) → n ≤ m → IsReady p es marks n ready → IsReady p es marks m ready
-ready_wider p es marks n m ready le is = record { within = omega (arith, le, is.within); first = is.first; narrow = is.narrow }
+ready_wider p es marks n m ready le is = record { within = omega (arith, le, is.within); narrow = is.narrow; idle = is.idle }
 
--- only the narrow cases changed
-pub ready_settled : (p : Problem) (es : List Extra) (marks : List Bool) (n : ℕ) (before after : Ready) → after.problem ≡ before.problem → after.from ≡ before.from → (StandFor (base_of before.problem p).cases before.narrow → StandFor (base_of before.problem p).cases after.narrow) → IsReady p es marks n before → IsReady p es marks n after
-ready_settled p es marks n before after problem_is from_is narrow is = record {
+-- only the cases changed
+pub ready_settled : (p : Problem) (es : List Extra) (marks : List Bool) (n : ℕ) (before after : Ready) → after.from ≡ before.from → (after.narrow ≡ None → before.narrow ≡ None) → StandFor (with_marked (take before.from marks) es p).cases after.narrow → IsReady p es marks n before → IsReady p es marks n after
+ready_settled p es marks n before after from_is idle narrow is = record {
   within = omega (arith, from_is, is.within);
-  first = ap (λ (o : Option Problem). base_of o p) problem_is ∙ is.first ∙ ap (λ (k : ℕ). with_marked (take k marks) es p) (sym from_is);
-  narrow = subst (λ (o : Option Problem). StandFor (base_of o p).cases after.narrow) (sym problem_is) (narrow is.narrow);
+  narrow = subst (λ (k : ℕ). StandFor (with_marked (take k marks) es p).cases after.narrow) (sym from_is) narrow;
+  idle = λ none. from_is ∙ is.idle (idle none);
 }
 
 -- the last mark is another one
@@ -159,8 +116,18 @@ ready_after p es marks tried after mark other ready tried_is after_is so_far =
     let within : ready.from ≤ length marks = omega (arith, so_far.within, ap length tried_is, length-append marks (mark ∷ [])) in
     record {
       within = omega (arith, within, ap length after_is, length-append marks (other ∷ []));
-      first = so_far.first ∙ ap (λ (ms : List Bool). with_marked ms es p) (
-          ap (take ready.from) tried_is ∙ take-append-le ready.from marks (mark ∷ []) within ∙ sym (take-append-le ready.from marks (other ∷ []) within) ∙ ap (take ready.from) (sym after_is)
-          );
-      narrow = so_far.narrow;
+      narrow = subst (λ (ms : List Bool). StandFor (with_marked ms es p).cases ready.narrow)
+          (ap (take ready.from) tried_is ∙ take-append-le ready.from marks (mark ∷ []) within ∙ sym (take-append-le ready.from marks (other ∷ []) within) ∙ ap (take ready.from) (sym after_is)) so_far.narrow;
+      idle = so_far.idle;
     }
+
+-- where one mark is left, and is set, the problem is the one with its bias
+single : (ms : List Bool) (es : List Extra) (q : Problem) (e : Extra) → length ms ≡ 1 → get_or ms 0 false ≡ true → 0 < length es → e ≡ get_or es 0 e → with_marked ms es q ≡ extended e q
+single [] es q e one set some here = absurd (omega (arith, one))
+single (m ∷ ms) [] q e one set some here = absurd (omega (arith, some))
+single (false ∷ ms) (f ∷ es) q e one set some here = absurd (cc set)
+single (true ∷ []) (f ∷ es) q e one set some here = ap (λ (g : Extra). extended g q) (sym here)
+single (true ∷ m ∷ ms) (f ∷ es) q e one set some here = absurd (omega (arith, one))
+
+pub one_left : (p : Problem) (es : List Extra) (marks : List Bool) (n : ℕ) (e : Extra) → length (from_on n marks) ≡ 1 → get_or (from_on n marks) 0 false ≡ true → 0 < length (from_on n es) → e ≡ get_or (from_on n es) 0 e → with_marked marks es p ≡ extended e (begun p es marks n)
+one_left p es marks n e one set some here = sym (left_whole p es marks n) ∙ single (from_on n marks) (from_on n es) (begun p es marks n) e one set some here

@@ -8,6 +8,7 @@ pub mod StrictOrder
 pub mod OneAnswer
 pub mod Extensions
 pub mod Marking
+pub mod MetRows
 pub mod FirstMarks
 pub mod FirstCases
 pub mod Shrinking

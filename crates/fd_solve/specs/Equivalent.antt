@@ -1,5 +1,5 @@
 -- Cases that stand for those of a problem.
-use Rattle.std.specs.Prelude.{◌≡◌, ◌<◌, ℕ, Bool, ⊤, All, List, [], ◌∷◌, length, slice_index_or, Option, IfSome}
+use Rattle.std.specs.Prelude.{◌≡◌, ◌<◌, ℕ, Bool, ⊤, All, List, [], ◌∷◌, length, slice_index_or, Option, None, Some, IfSome}
 use Rattle.fd_prob.specs.declared.problem.Case.{Case}
 use Rattle.fd_prob.specs.declared.problem.Extra.{Extra}
 use Rattle.fd_prob.specs.declared.problem.Assignment.{Assignment}
@@ -23,6 +23,12 @@ AreEquivalent _ _ = ⊥
 pub record AreMarked (marks : List Bool) (biases : List Extra) (cases made : List Case) : Type 0 where
   pub count : length made ≡ length cases
   pub each : (n : ℕ) (c d : Case) → n < length cases → StandsIn (marked_case marks biases n (slice_index_or cases n c)) (slice_index_or made n d)
+
+-- the same where there are cases, and nothing else
+abbrev pub AreBrought : List Bool → List Extra → Option (List Case) → Option (List Case) → Type 0
+AreBrought marks biases None made = made ≡ None
+AreBrought marks biases (Some cases) None = ⊥
+AreBrought marks biases (Some cases) (Some made) = AreMarked marks biases cases made
 
 -- a case that was made stands for the one at its place
 abbrev pub IsTried : List Case → ℕ × Case → Type 0

@@ -1,5 +1,5 @@
 -- Problems with some of their biases.
-use Rattle.std.specs.Prelude.{◌≡◌, ℕ, ◌≤◌, ◌==◌, Bool, false, if◌then◌else◌, List, [], ◌∷◌, All, find, length, option_map, slice_index_or, Option, None, Some}
+use Rattle.std.specs.Prelude.{◌≡◌, ℕ, ◌≤◌, ◌==◌, Bool, false, if◌then◌else◌, List, [], ◌∷◌, All, find, length, option_map, slice_index_or, take, Option, None, Some}
 use Rattle.fd_prob.specs.declared.problem.Case.{Case}
 use Rattle.fd_prob.specs.declared.problem.Extra.{Extra}
 use Rattle.fd_prob.specs.declared.problem.Problem.{Problem}
@@ -46,6 +46,14 @@ base_of (Some made) p = made
 -- the problem with its marked biases
 abbrev pub whole_of : Marked → Problem
 whole_of m = with_marked m.marks.now m.biases.now m.problem.now
+
+-- the problem with the first of them, those that the cases that are searched have already
+abbrev pub begun_of : Marked → Problem
+begun_of m = with_marked (take m.from m.marks.now) m.biases.now m.problem.now
+
+-- the same where the cases have so many
+abbrev pub begun_at : ℕ → Marked → Marked
+begun_at n m = record { problem = m.problem; biases = m.biases; marks = m.marks; from = n; firsts = m.firsts }
 
 -- it is a problem, each bias has an entry for each case, and what stands for the first cases is right
 pub record AreSound (p : Problem) (biases : List Extra) (marks : List Bool) (first : Problem) : Type 0 where

@@ -137,6 +137,7 @@ impl Taken {
             problem: p,
             biases,
             marks: &self.marks,
+            from: 0,
             firsts: &firsts,
         };
         let done = known_next(alloc, &self.known, &mut self.ready, &marked, bias, nodes)?;
@@ -174,6 +175,7 @@ impl Taken {
             problem: p,
             biases,
             marks: &self.marks,
+            from: 0,
             firsts: base_of(&self.firsts, p),
         };
         answer_after(alloc, &self.known, &mut self.ready, &marked, nodes)

@@ -1,16 +1,17 @@
 // A problem with some of its biases.
 ghost use Rattle.std.specs.Prelude.{◌≡◌, ◌<◌, ◌≤◌, ◌==◌, All, IfOk, MatchOption, None, find, if◌then◌else◌, length, slice_index_or, false};
 ghost use Rattle.fd_prob.specs.Extras.{extended_case};
-ghost use Rattle.fd_prob.specs.Fitting.{IsCase, IsProblem};
+ghost use Rattle.fd_prob.specs.Fitting.{IsCase};
 ghost use Rattle.fd_prob.specs.Order.{pivot_of};
 ghost use Rattle.fd_prob.specs.declared.slot.Slot.TheVariants as slots;
-ghost use Rattle.fd_solve.specs.Marks.{IsSound, base_of, marked_case, whole_of, with_marked};
+ghost use Rattle.case_search.specs.Equivalent.{IsEquivalent};
+ghost use Rattle.fd_solve.specs.Marks.{IsSound, base_of, marked_case, whole_of};
 ghost use Rattle.fd_solve.specs.Operations.{ArePivots};
 
 use crate::extended::extended_case;
 use crate::pivots::pivots_of;
 use dom_set::OutOfMemory;
-use fd_prob::{Case, Extra, Items, Problem};
+use fd_prob::{Case, Extra, Problem};
 use std::alloc::Global;
 
 /// A problem with those of its biases that are marked. Its cases get what the biases add only when they are searched.
@@ -20,11 +21,13 @@ pub struct Marked<'a> {
     pub biases: &'a [Extra],
     /// Marks of the first biases; where there are fewer than biases, the others are not marked.
     pub marks: &'a [bool],
+    /// How many of the first marks the cases that are searched have already.
+    pub from: usize,
     /// A problem with the same first cases of operations, as far as their domains go: they give space and pivots.
     pub firsts: &'a Problem,
 }
 
-/// The case with what the bias adds to it, where it is marked.
+/// A case that stands for the case with what the bias adds to it, where it is marked.
 fn with_bias(
     alloc: Global,
     case: Case,
@@ -34,7 +37,7 @@ fn with_bias(
 ) -> Result<Case, OutOfMemory>
     requires case { IsCase case }
     requires entry { place < length bias.now.cases }
-    ensures { IfOk result (λ made. made ≡ (if mark then extended_case bias.now (slice_index_or bias.now.cases place false) case else case)) }
+    ensures { IfOk result (IsEquivalent (if mark then extended_case bias.now (slice_index_or bias.now.cases place false) case else case)) }
 {
     if mark {
         let stays = bias.cases.as_slice()[place];
@@ -44,7 +47,7 @@ fn with_bias(
     Ok(case)
 }
 
-/// The case at a place with what the marked biases add to it.
+/// A case that stands for the one at a place with what the marked biases add to it.
 pub fn marked_case(
     alloc: Global,
     case: &Case,
@@ -55,53 +58,13 @@ pub fn marked_case(
     requires case { IsCase case.now }
     requires entries { All (λ e. place < length e.cases) biases.now }
     requires marks { length marks.now ≤ length biases.now }
-    ensures { IfOk result (λ made. made ≡ marked_case marks.now biases.now place case.now) }
+    ensures { IfOk result (IsEquivalent (marked_case marks.now biases.now place case.now)) }
 {
     let mut made = case.copy(alloc)?;
     for (i, mark) in marks.iter().enumerate() {
         made = with_bias(alloc, made, place, &biases[i], *mark)?;
     }
     Ok(made)
-}
-
-/// The cases of the problem with what the marked biases add to them.
-fn marked_cases(
-    alloc: Global,
-    p: &Problem,
-    biases: &[Extra],
-    marks: &[bool],
-) -> Result<Vec<Case>, OutOfMemory>
-    requires problem { IsProblem p.now }
-    requires entries { All (λ e. length e.cases ≡ length p.now.cases) biases.now }
-    requires room { length marks.now ≤ length biases.now }
-    ensures { IfOk result (λ made. made.items ≡ (with_marked marks.now biases.now p.now).cases) }
-{
-    let mut made = Vec::new(alloc);
-    for (place, case) in p.cases.as_slice().iter().enumerate() {
-        made.push(marked_case(alloc, case, place, biases, marks)?)?;
-    }
-    Ok(made)
-}
-
-/// The problem with what the marked biases add to it.
-pub fn with_marked(
-    alloc: Global,
-    p: &Problem,
-    biases: &[Extra],
-    marks: &[bool],
-) -> Result<Problem, OutOfMemory>
-    requires problem { IsProblem p.now }
-    requires entries { All (λ e. length e.cases ≡ length p.now.cases) biases.now }
-    requires room { length marks.now ≤ length biases.now }
-    ensures { IfOk result (λ made. made ≡ with_marked marks.now biases.now p.now) }
-{
-    let cases = marked_cases(alloc, p, biases, marks)?;
-    Ok(Problem {
-        cases: Items::from_vec(cases),
-        pivots: p.pivots,
-        pairs: p.pairs,
-        fetch: p.fetch,
-    })
 }
 
 /// The problem that was made, or the given one where none was.

@@ -1,5 +1,5 @@
 // The operations, upwards from their pivot and round to it again.
-ghost use Rattle.std.specs.Prelude.{◌≡◌, ◌<◌, ◌≤◌, ◌↔◌, ℕ, IfOk, MatchOption, OnOk};
+ghost use Rattle.std.specs.Prelude.{◌≡◌, ◌<◌, ◌≤◌, ◌↔◌, ℕ, IfOk, MatchOption, None, OnOk, length};
 ghost use Rattle.fd_prob.specs.declared.problem.Assignment.{Assignment};
 ghost use Rattle.fd_prob.specs.declared.slot.Slot.TheVariants as slots;
 ghost use Rattle.fd_prob.specs.Fitting.{IsProblem, fits};
@@ -8,7 +8,7 @@ ghost use Rattle.fd_prob.specs.Spaces.{space};
 ghost use Rattle.fd_solve.specs.declared.answers.Solved.TheVariants.{Found, NoneFits, Spent};
 ghost use Rattle.fd_solve.specs.Answers.{IsAnswer, IsLeast, NothingFits};
 ghost use Rattle.fd_solve.specs.Equivalent.{AreTried, StandFor};
-ghost use Rattle.fd_solve.specs.Marks.{IsSound, whole_of};
+ghost use Rattle.fd_solve.specs.Marks.{IsSound, begun_of, whole_of};
 ghost use Rattle.fd_solve.specs.Operations.{IsLeastFrom, IsMadeOfAny, NoneBetween};
 ghost use Rattle.case_search.specs.Search.{LeastOrNone};
 
@@ -33,13 +33,16 @@ fn solve_operation(
     pivots: &[u32; 14],
 ) -> Result<Option<Assignment>, OutOfMemory>
     requires sound { IsSound marked.now }
-    requires narrow { StandFor marked.now.problem.now.cases narrow.old }
+    requires from { marked.now.from ≤ length marked.now.marks.now }
+    requires idle { narrow.old ≡ None → marked.now.from ≡ 0 }
+    requires narrow { StandFor (begun_of marked.now).cases narrow.old }
     requires tried { AreTried (whole_of marked.now).cases tried.old.items }
     ensures least { IfOk result (LeastOrNone pivots.now (IsMadeOfAny op (whole_of marked.now).cases)) }
-    ensures narrow { OnOk result (StandFor marked.now.problem.now.cases narrow.new) }
+    ensures narrow { OnOk result (StandFor (begun_of marked.now).cases narrow.new) }
+    ensures idle { OnOk result (narrow.new ≡ None → narrow.old ≡ None) }
     ensures tried { OnOk result (AreTried (whole_of marked.now).cases tried.new.items) }
 {
-    settle(narrow, alloc, marked.problem, op, !marked.marks.is_empty())?;
+    settle(narrow, alloc, marked, op)?;
     let sought = sought_of(narrow, marked.problem);
     let least = solve_cases(alloc, marked, &sought, op, pivots, tried)?;
     Ok(least)
@@ -56,11 +59,14 @@ fn solve_between(
     to: u8,
 ) -> Result<Option<Assignment>, OutOfMemory>
     requires sound { IsSound marked.now }
-    requires narrow { StandFor marked.now.problem.now.cases narrow.old }
+    requires from { marked.now.from ≤ length marked.now.marks.now }
+    requires idle { narrow.old ≡ None → marked.now.from ≡ 0 }
+    requires narrow { StandFor (begun_of marked.now).cases narrow.old }
     requires tried { AreTried (whole_of marked.now).cases tried.old.items }
     requires pivot { (op : ℕ) → pivot ≡ pivot_of (whole_of marked.now) op slots.Op }
     ensures least { IfOk result (λ o. MatchOption o (NoneBetween (whole_of marked.now) from to) (IsLeastFrom (whole_of marked.now) from)) }
-    ensures narrow { OnOk result (StandFor marked.now.problem.now.cases narrow.new) }
+    ensures narrow { OnOk result (StandFor (begun_of marked.now).cases narrow.new) }
+    ensures idle { OnOk result (narrow.new ≡ None → narrow.old ≡ None) }
     ensures tried { OnOk result (AreTried (whole_of marked.now).cases tried.new.items) }
 {
     fitting_laws();
@@ -83,11 +89,14 @@ fn least(
     pivot: u8,
 ) -> Result<Option<Assignment>, OutOfMemory>
     requires sound { IsSound marked.now }
-    requires narrow { StandFor marked.now.problem.now.cases narrow.old }
+    requires from { marked.now.from ≤ length marked.now.marks.now }
+    requires idle { narrow.old ≡ None → marked.now.from ≡ 0 }
+    requires narrow { StandFor (begun_of marked.now).cases narrow.old }
     requires tried { AreTried (whole_of marked.now).cases tried.old.items }
     requires pivot { (op : ℕ) → pivot ≡ pivot_of (whole_of marked.now) op slots.Op }
     ensures least { IfOk result (λ o. MatchOption o (NothingFits (whole_of marked.now)) (IsLeast (whole_of marked.now))) }
-    ensures narrow { OnOk result (StandFor marked.now.problem.now.cases narrow.new) }
+    ensures narrow { OnOk result (StandFor (begun_of marked.now).cases narrow.new) }
+    ensures idle { OnOk result (narrow.new ≡ None → narrow.old ≡ None) }
     ensures tried { OnOk result (AreTried (whole_of marked.now).cases tried.new.items) }
 {
     fitting_laws();
@@ -107,10 +116,13 @@ pub fn searched(
     tried: &mut Tried,
 ) -> Result<Solved, OutOfMemory>
     requires sound { IsSound marked.now }
-    requires narrow { StandFor marked.now.problem.now.cases narrow.old }
+    requires from { marked.now.from ≤ length marked.now.marks.now }
+    requires idle { narrow.old ≡ None → marked.now.from ≡ 0 }
+    requires narrow { StandFor (begun_of marked.now).cases narrow.old }
     requires tried { AreTried (whole_of marked.now).cases tried.old.items }
     ensures solved { IfOk result (λ solved. (nodes : ℕ) → space (whole_of marked.now) ≤ nodes → IsAnswer (whole_of marked.now) nodes solved) }
-    ensures narrow { OnOk result (StandFor marked.now.problem.now.cases narrow.new) }
+    ensures narrow { OnOk result (StandFor (begun_of marked.now).cases narrow.new) }
+    ensures idle { OnOk result (narrow.new ≡ None → narrow.old ≡ None) }
     ensures tried { OnOk result (AreTried (whole_of marked.now).cases tried.new.items) }
 {
     let pivot = operation_pivot(alloc, marked.firsts)?;
@@ -122,7 +134,8 @@ pub fn searched(
 
 /// The answer of the problem with its marked biases.
 pub fn answer_of(alloc: Global, marked: &Marked, nodes: u64) -> Result<Solved, OutOfMemory>
-    requires { IsSound marked.now }
+    requires sound { IsSound marked.now }
+    requires from { marked.now.from ≡ 0 }
     ensures { IfOk result (IsAnswer (whole_of marked.now) nodes) }
 {
     if nodes < space(marked.firsts) {
@@ -141,6 +154,7 @@ pub fn answer_alone(alloc: Global, p: &Problem, nodes: u64) -> Result<Solved, Ou
         problem: p,
         biases: &[],
         marks: &[],
+        from: 0,
         firsts: p,
     };
     answer_of(alloc, &marked, nodes)

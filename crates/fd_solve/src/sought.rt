@@ -1,14 +1,14 @@
 // Cases that stand for those of a problem in a search.
-ghost use Rattle.std.specs.Prelude.{◌≡◌, ◌<◌, ◌≤◌, All, IfOk, List, OnOk, length, slice_index_or, slice_set};
+ghost use Rattle.std.specs.Prelude.{◌≡◌, ◌<◌, ◌≤◌, All, IfOk, List, None, OnOk, length, slice_index_or, slice_set};
 ghost use Rattle.fd_prob.specs.declared.problem.Case.{Case};
 ghost use Rattle.fd_prob.specs.Extras.{extended};
 ghost use Rattle.fd_prob.specs.Fitting.{IsCase, IsProblem};
 ghost use Rattle.fd_solve.specs.Answers.{NothingFits};
 ghost use Rattle.fd_solve.specs.Asking.{AsksFor};
 ghost use Rattle.fd_solve.specs.Equivalent.{AreEquivalent, AreMarked, AreTried, StandFor};
-ghost use Rattle.fd_solve.specs.Marks.{with_marked};
+ghost use Rattle.fd_solve.specs.Marks.{IsSound, begun_of, whole_of};
 
-use crate::marked::marked_case;
+use crate::marked::{Marked, marked_case};
 use crate::refused::{asked_by, less, stays};
 use case_search::narrow_again;
 use dom_set::{OutOfMemory, Set};
@@ -244,10 +244,10 @@ impl Narrow {
     }
 
     /// Puts cases that a search made in the places of those that stand for the same.
-    fn put_tried(&mut self, p: &Problem, tried: Tried)
-        requires cases { AreEquivalent p.now.cases self.old }
-        requires tried { AreTried p.now.cases tried.items }
-        ensures { AreEquivalent p.now.cases self.new }
+    fn put_tried(&mut self, marked: &Marked, tried: Tried)
+        requires cases { AreEquivalent (whole_of marked.now).cases self.old }
+        requires tried { AreTried (whole_of marked.now).cases tried.items }
+        ensures { AreEquivalent (whole_of marked.now).cases self.new }
     {
         let mut left = tried;
         while let Some(last) = left.pop() {
@@ -260,19 +260,19 @@ impl Narrow {
     fn refuse_at(
         &mut self,
         alloc: Global,
-        p: &Problem,
+        marked: &Marked,
         bias: &Extra,
         place: usize,
         slot: Slot,
         set: &Set,
     ) -> Result<(), OutOfMemory>
-        requires problem { IsProblem p.now }
-        requires entry { length bias.now.cases ≡ length p.now.cases }
-        requires none { NothingFits (extended bias.now p.now) }
+        requires problem { IsProblem (begun_of marked.now) }
+        requires entry { length bias.now.cases ≡ length (begun_of marked.now).cases }
+        requires none { NothingFits (extended bias.now (begun_of marked.now)) }
         requires asks { AsksFor bias.now slot set.now }
         requires place { place < length self.old }
-        requires cases { AreEquivalent p.now.cases self.old }
-        ensures { OnOk result (AreEquivalent p.now.cases self.new) }
+        requires cases { AreEquivalent (begun_of marked.now).cases self.old }
+        ensures { OnOk result (AreEquivalent (begun_of marked.now).cases self.new) }
     {
         if !stays(bias, place) {
             return Ok(());
@@ -286,18 +286,18 @@ impl Narrow {
     }
 
     /// Takes from cases that stand for those of a problem what they can't have, since nothing fits the problem with the bias.
-    fn refuse(&mut self, alloc: Global, p: &Problem, bias: &Extra) -> Result<(), OutOfMemory>
-        requires problem { IsProblem p.now }
-        requires entry { length bias.now.cases ≡ length p.now.cases }
-        requires none { NothingFits (extended bias.now p.now) }
-        requires cases { AreEquivalent p.now.cases self.old }
-        ensures { OnOk result (AreEquivalent p.now.cases self.new) }
+    fn refuse(&mut self, alloc: Global, marked: &Marked, bias: &Extra) -> Result<(), OutOfMemory>
+        requires problem { IsProblem (begun_of marked.now) }
+        requires entry { length bias.now.cases ≡ length (begun_of marked.now).cases }
+        requires none { NothingFits (extended bias.now (begun_of marked.now)) }
+        requires cases { AreEquivalent (begun_of marked.now).cases self.old }
+        ensures { OnOk result (AreEquivalent (begun_of marked.now).cases self.new) }
     {
         let Some((slot, set)) = asked_by(alloc, bias)? else {
             return Ok(());
         };
         for place in 0..self.count() {
-            self.refuse_at(alloc, p, bias, place, slot, &set)?;
+            self.refuse_at(alloc, marked, bias, place, slot, &set)?;
         }
         Ok(())
     }
@@ -338,44 +338,46 @@ impl Narrow {
     }
 }
 
-/// Takes from cases that stand for a problem's, where there are some, what they can't have, since nothing fits the problem with
-/// the marked biases: where these are one.
+/// Takes from cases that stand for those of the problem with the first marks, where there are some, what they can't have, since
+/// nothing fits the problem with all marks: where one mark is left.
 pub fn refuse(
     narrow: &mut Option<Narrow>,
     alloc: Global,
-    p: &Problem,
-    biases: &[Extra],
-    marks: &[bool],
+    marked: &Marked,
 ) -> Result<(), OutOfMemory>
-    requires problem { IsProblem p.now }
-    requires entries { All (λ e. length e.cases ≡ length p.now.cases) biases.now }
-    requires room { length marks.now ≤ length biases.now }
-    requires none { NothingFits (with_marked marks.now biases.now p.now) }
-    requires narrow { StandFor p.now.cases narrow.old }
-    ensures { OnOk result (StandFor p.now.cases narrow.new) }
+    requires sound { IsSound marked.now }
+    requires from { marked.now.from ≤ length marked.now.marks.now }
+    requires none { NothingFits (whole_of marked.now) }
+    requires narrow { StandFor (begun_of marked.now).cases narrow.old }
+    ensures narrow { OnOk result (StandFor (begun_of marked.now).cases narrow.new) }
+    ensures idle { OnOk result (narrow.new ≡ None → narrow.old ≡ None) }
 {
+    let biases = &marked.biases[marked.from..];
+    let marks = &marked.marks[marked.from..];
     if marks.len() != 1 || !marks[0] {
         return Ok(());
     }
     match narrow {
-        Some(cases) => cases.refuse(alloc, p, &biases[0]),
+        Some(cases) => cases.refuse(alloc, marked, &biases[0]),
         None => Ok(()),
     }
 }
 
 /// Puts narrow cases that a search made in the places of those that stand for a problem's, where there are some.
-pub fn put_tried(narrow: &mut Option<Narrow>, p: &Problem, tried: Tried)
-    requires narrow { StandFor p.now.cases narrow.old }
-    requires tried { AreTried p.now.cases tried.items }
-    ensures { StandFor p.now.cases narrow.new }
+pub fn put_tried(narrow: &mut Option<Narrow>, marked: &Marked, tried: Tried)
+    requires narrow { StandFor (whole_of marked.now).cases narrow.old }
+    requires tried { AreTried (whole_of marked.now).cases tried.items }
+    ensures narrow { StandFor (whole_of marked.now).cases narrow.new }
+    ensures idle { narrow.new ≡ None → narrow.old ≡ None }
+    ensures none { narrow.old ≡ None → narrow.new ≡ None }
 {
     match narrow {
-        Some(cases) => cases.put_tried(p, tried),
+        Some(cases) => cases.put_tried(marked, tried),
         None => {}
     }
 }
 
-/// The cases with what marked biases add to them.
+/// Cases that stand for these with what marked biases add to them.
 fn marked_cases(
     alloc: Global,
     cases: &[Case],
@@ -394,29 +396,28 @@ fn marked_cases(
     Ok(made)
 }
 
-/// Narrows the cases of an operation that stand for those of a problem, where there are some. `tries` says that the search
-/// tries them with further biases.
+/// Narrows the cases of an operation that stand for those of the problem with the first marks, where there are some. Where marks
+/// are left, the search tries them with further biases.
 pub fn settle(
     narrow: &mut Option<Narrow>,
     alloc: Global,
-    p: &Problem,
+    marked: &Marked,
     op: u8,
-    tries: bool,
 ) -> Result<(), OutOfMemory>
-    requires narrow { StandFor p.now.cases narrow.old }
-    ensures { OnOk result (StandFor p.now.cases narrow.new) }
+    requires narrow { StandFor (begun_of marked.now).cases narrow.old }
+    ensures narrow { OnOk result (StandFor (begun_of marked.now).cases narrow.new) }
+    ensures idle { OnOk result (narrow.new ≡ None → narrow.old ≡ None) }
 {
     match narrow {
-        Some(cases) => cases.settle(alloc, op, tries),
+        Some(cases) => cases.settle(alloc, op, marked.from < marked.marks.len()),
         None => Ok(()),
     }
 }
 
 /// The narrow cases where there are some, and else the problem's own.
 pub fn sought_of<'a>(narrow: &'a Option<Narrow>, p: &'a Problem) -> Sought<'a>
-    requires problem { IsProblem p.now }
-    requires narrow { StandFor p.now.cases narrow.now }
-    ensures { AreEquivalent p.now.cases result.cases.now }
+    requires { IsProblem p.now }
+    ensures { (cases : List Case) → (narrow.now ≡ None → cases ≡ p.now.cases) → StandFor cases narrow.now → AreEquivalent cases result.cases.now }
 {
     match narrow {
         Some(narrow) => Sought {

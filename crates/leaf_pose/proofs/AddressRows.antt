@@ -1,9 +1,10 @@
 -- The rows of the addresses that lead where a bias wants the physical one.
-use Rattle.std.proofs.Common.{◌≡◌, ℕ, ◌+◌, ◌%◌, ◌<◌, ◌≤◌, ◌^◌, Bool, true, false, ◌&&◌, ◌||◌, List, [], ◌∷◌, ◌++◌, refl, sym, ap, ◌∙◌, arith, suc, drop, get_or, length}
+use Rattle.std.proofs.Common.{◌≡◌, ℕ, ◌+◌, ◌%◌, ◌<◌, ◌≤◌, ◌^◌, Bool, true, false, ◌&&◌, ◌||◌, List, [], ◌∷◌, ◌++◌, refl, sym, ap, ◌∙◌, arith, zero, suc, drop, take, get_or, length, length-drop, ◌-◌}
 use Rattle.std.specs.Prelude.{bit_and, not}
 use Rattle.std.specs.List.{filter}
 use Rattle.std.proofs.Math.Seq.{drop-cons}
-use Rattle.std.proofs.lemmas.List.{drop_all}
+use Rattle.std.specs.List.{list_any}
+use Rattle.std.proofs.lemmas.List.{drop_all, take_all}
 use Rattle.std.proofs.lemmas.List.Folds.{list_any-append}
 use Rattle.dom_set.specs.Elements.{elements_of, is_in}
 use Rattle.dom_set.proofs.Sets.{is_in-elements}
@@ -26,15 +27,8 @@ use Rattle.leaf_stand.specs.declared.stand.Stand.{Stand}
 use Rattle.leaf_stand.specs.Sets.{IsSetOf}
 use Rattle.leaf_stand.specs.Stands.{turn_of}
 use Rattle.leaf_stand.proofs.Single.{word_at}
-use Rattle.leaf_pose.specs.Extras.{AddsRows, AreAddressRows, in_rows, lead_so, leads_so}
-
-or_none : (a : Bool) → (a || false) ≡ a
-or_none true = refl
-or_none false = refl
-
-or_assoc : (a b c : Bool) → ((a || b) || c) ≡ (a || (b || c))
-or_assoc true b c = refl
-or_assoc false b c = refl
+use Rattle.leaf_pose.proofs.Joining.{or_assoc, or_none}
+use Rattle.leaf_pose.specs.Extras.{AddsRows, AreAddressRows, AreJoined, in_rows, lead_so, leads_so}
 
 -- A TEST COUNTS FOR WORDS ALONE
 below : (n : ℕ) → n % 2 ^ 32 < 2 ^ 32
@@ -110,14 +104,15 @@ row_is true true false w h = refl
 row_is true false b w h = refl
 row_is false a b w h = refl
 
-pub one_row : (test : ℕ → Bool) (way : DataWay) (old new : List Quad) (ea word : List ℕ) → IsSetOf (there_of test way) ea → word ≡ elements_of (λ v. true) → new ≡ old ++ record { ea = ea; root = way.first; leaf = way.second; word = word } ∷ [] → AddsRows test (way ∷ []) old new
-one_row test way old new ea word is all e x hx =
-    let row : Quad = record { ea = ea; root = way.first; leaf = way.second; word = word } in
+-- a row of a way came to others
+pub one_row : (test : ℕ → Bool) (way : DataWay) (old new : List Quad) (ea word : List ℕ) → IsSetOf (there_of test way) ea → word ≡ elements_of (λ v. true) → AreJoined true (record { ea = ea; root = way.first; leaf = way.second; word = word }) old new → AddsRows test (way ∷ []) old new
+one_row test way old new ea word is all joined x hx =
     let any : is_in word (value_of x slots.DataWord) ≡ true = ap (λ (l : List ℕ). is_in l (value_of x slots.DataWord)) all ∙ is_in-elements (λ n. true) (value_of x slots.DataWord) (word_at x hx slots.DataWord) in
-    ap (λ (l : List Quad). in_rows x l) e ∙ list_any-append (is_in_row x) old (row ∷ [])
-    ∙ ap (λ (b : Bool). in_rows x old || (b || false))
+    joined x hx
+    ∙ ap (λ (b : Bool). in_rows x old || b)
     (row_is (is_in ea (value_of x slots.Ea)) (is_in way.first (value_of x slots.FirstPte)) (is_in way.second (value_of x slots.SecondPte)) (is_in word (value_of x slots.DataWord)) any
-    ∙ ap (λ (b : Bool). b && (is_in way.first (value_of x slots.FirstPte) && is_in way.second (value_of x slots.SecondPte))) (is (value_of x slots.Ea) (word_at x hx slots.Ea)))
+    ∙ ap (λ (b : Bool). b && (is_in way.first (value_of x slots.FirstPte) && is_in way.second (value_of x slots.SecondPte))) (is (value_of x slots.Ea) (word_at x hx slots.Ea))
+    ∙ sym (or_none (leads_so test (value_of x slots.Ea) (value_of x slots.FirstPte) (value_of x slots.SecondPte) way)))
 
 -- ALL WAYS
 abbrev pub IsSoFar : (ℕ → Bool) → List DataWay → ℕ → List Quad → List Quad → Type 0
@@ -147,3 +142,17 @@ both_rows s bias a all wanted first last e is loads stores x hx =
     stores x hx ∙ ap (λ (b : Bool). b || lead_so (is_in wanted) x a.stores.items) (loads x hx)
     ∙ sym (list_any-append (leads_so (is_in wanted) (value_of x slots.Ea) (value_of x slots.FirstPte) (value_of x slots.SecondPte)) a.loads.items a.stores.items)
     ∙ so_same (is_in wanted) test same x (a.loads.items ++ a.stores.items)
+
+-- ---- halves
+
+any_split : {A : Type 0} (f : A → Bool) (n : ℕ) (xs : List A) → (list_any f (take n xs) || list_any f (drop n xs)) ≡ list_any f xs
+any_split f zero xs = refl
+any_split f (suc n) [] = refl
+any_split f (suc n) (x ∷ xs) = or_assoc (f x) (list_any f (take n xs)) (list_any f (drop n xs)) ∙ ap (λ (b : Bool). f x || b) (any_split f n xs)
+
+-- the rows of one half with those of the other
+pub halves : (test : ℕ → Bool) (x : Assignment) (ways : List DataWay) (n : ℕ) (first last whole : List Quad) → in_rows x whole ≡ (in_rows x first || in_rows x last) → in_rows x first ≡ lead_so test x (take n ways) → in_rows x last ≡ lead_so test x (take (length ways - n) (drop n ways)) → in_rows x whole ≡ lead_so test x ways
+halves test x ways n first last whole put one two =
+    let f : DataWay → Bool = leads_so test (value_of x slots.Ea) (value_of x slots.FirstPte) (value_of x slots.SecondPte) in
+    let rest : take (length ways - n) (drop n ways) ≡ drop n ways = take_all (length ways - n) (drop n ways) (omega (arith, length-drop n ways)) in
+    put ∙ (λ i. one i || (two ∙ ap (list_any f) rest) i) ∙ any_split f n ways

@@ -1,6 +1,7 @@
 pub mod Targets
 pub mod Shapes
 pub mod Steps
+pub mod Joining
 pub mod Leading
 pub mod Whole
 pub mod OneAddress

@@ -49,6 +49,10 @@ in_rows x rows = list_any (is_in_row x) rows
 abbrev pub lead_so : (ℕ → Bool) → Assignment → List DataWay → Bool
 lead_so test x ways = list_any (leads_so test (value_of x slots.Ea) (value_of x slots.FirstPte) (value_of x slots.SecondPte)) ways
 
+-- a row came to others, or else they hold the same
+abbrev pub AreJoined : Bool → Quad → List Quad → List Quad → Type 0
+AreJoined joined row old new = (x : Assignment) → IsAssignment x → in_rows x new ≡ (in_rows x old || (joined && is_in_row x row))
+
 -- the rows of ways came to others
 abbrev pub AddsRows : (ℕ → Bool) → List DataWay → List Quad → List Quad → Type 0
 AddsRows test ways old new = (x : Assignment) → IsAssignment x → in_rows x new ≡ (in_rows x old || lead_so test x ways)

@@ -1,10 +1,12 @@
 // What a bias adds to the problem of a leaf.
 
-ghost use Rattle.std.specs.Prelude.{◌≡◌, ◌∷◌, ◌&&◌, [], true, List, length, IfOk, IfSome, OnOk};
+ghost use Rattle.std.specs.Prelude.{◌≡◌, ◌∷◌, ◌&&◌, ◌||◌, ◌↔◌, [], true, List, length, IfOk, IfSome, IsTrue, OnOk};
 ghost use Rattle.dom_set.specs.Elements.{is_in};
 ghost use Rattle.row_parts.specs.Gaps.{counts};
 ghost use Rattle.leaf_stand.specs.Sets.{IsSetOf};
-ghost use Rattle.leaf_pose.specs.Extras.{AddsAddress, AddsBias, AddsRows, AreAddressRows, AreBiasRelations, stays_at, stays_of};
+ghost use Rattle.leaf_pose.specs.Extras.{AddsAddress, AddsBias, AddsRows, AreAddressRows, AreBiasRelations, AreJoined, in_rows, stays_at, stays_of};
+ghost use Rattle.fd_prob.specs.declared.problem.Assignment.{Assignment};
+ghost use Rattle.fd_prob.specs.Order.{IsAssignment};
 ghost use Rattle.tpl_ast.specs.declared.template.Atom.{Atom as AnAtom};
 ghost use Rattle.leaf_pose.specs.Posed.{AreShaped};
 ghost use Rattle.leaf_stand.specs.Relations.{are_between};
@@ -54,14 +56,73 @@ fn counted(alloc: Global, set: Set, apart: bool) -> Result<Set, OutOfMemory>
     Ok(set)
 }
 
-/// Appends the row of a way: of its addresses those that lead where a data access is wanted, with its new entries.
+/// Whether two sets are one. Where their ends differ, nothing else is compared.
+fn are_one(set: &Set, other: &Set) -> bool
+    ensures { IsTrue result ↔ (set.now ≡ other.now) }
+{
+    set.least() == other.least() && set.greatest() == other.greatest() && set == other
+}
+
+/// Whether a set of entries has 0 alone: none is new.
+fn is_none_new(entries: &Set) -> bool {
+    entries.greatest() == Some(0)
+}
+
+/// Whether rows with known root entries differ in their addresses alone. Of others the addresses may be in thousands of pieces
+/// that lie between each other, which are joined slowly.
+fn differ_in_addresses(row: &Quad, other: &Quad) -> bool
+    ensures root { IsTrue result → row.now.root ≡ other.now.root }
+    ensures leaf { IsTrue result → row.now.leaf ≡ other.now.leaf }
+    ensures word { IsTrue result → row.now.word ≡ other.now.word }
+{
+    is_none_new(&row.root)
+        && are_one(&row.root, &other.root)
+        && are_one(&row.leaf, &other.leaf)
+        && are_one(&row.word, &other.word)
+}
+
+/// Joins another row to a row that differs in its addresses alone. Says whether it did.
+fn join(alloc: Global, row: &mut Quad, other: &Quad) -> Result<bool, OutOfMemory>
+    ensures { IfOk result (λ joined. AreJoined joined other.now (row.old ∷ []) (row.new ∷ [])) }
+{
+    if differ_in_addresses(row, other) {
+        row.ea = row.ea.or(alloc, &other.ea)?;
+        return Ok(true);
+    }
+    Ok(false)
+}
+
+/// Joins a row to the first one that it can be joined to. Says whether there is one.
+fn join_first(alloc: Global, rows: &mut [Quad], row: &Quad) -> Result<bool, OutOfMemory>
+    ensures { IfOk result (λ joined. AreJoined joined row.now rows.old rows.new) }
+{
+    for there in rows.iter_mut() {
+        if join(alloc, there, row)? {
+            return Ok(true);
+        }
+    }
+    Ok(false)
+}
+
+/// Joins a row to one that is there, or else appends it.
+fn put_row(alloc: Global, rows: &mut Vec<Quad>, row: Quad) -> Result<(), OutOfMemory>
+    ensures { OnOk result (AreJoined true row rows.old.items rows.new.items) }
+{
+    if join_first(alloc, rows, &row)? {
+        return Ok(());
+    }
+    rows.push(row)?;
+    Ok(())
+}
+
+/// Puts the row of a way to others: of its addresses those that lead where a data access is wanted, with its new entries.
 fn push_row(
     alloc: Global,
-    rows: &mut Items<Quad>,
+    rows: &mut Vec<Quad>,
     way: &DataWay,
     wanted: &Set,
 ) -> Result<(), OutOfMemory>
-    ensures { OnOk result (AddsRows (is_in wanted.now) (way.now ∷ []) rows.old rows.new) }
+    ensures { OnOk result (AddsRows (is_in wanted.now) (way.now ∷ []) rows.old.items rows.new.items) }
 {
     let DataEnd::At { base, mask } = way.end else {
         return Ok(());
@@ -75,23 +136,24 @@ fn push_row(
     let root = way.first.copy(alloc)?;
     let leaf = way.second.copy(alloc)?;
     let word = Set::all(alloc)?;
-    rows.push(Quad {
+    let row = Quad {
         ea,
         root,
         leaf,
         word,
-    })?;
+    };
+    put_row(alloc, rows, row)?;
     Ok(())
 }
 
-/// Appends the rows of ways.
+/// Puts the rows of a few ways to others.
 fn push_rows(
     alloc: Global,
-    rows: &mut Items<Quad>,
+    rows: &mut Vec<Quad>,
     ways: &[DataWay],
     wanted: &Set,
 ) -> Result<(), OutOfMemory>
-    ensures { OnOk result (AddsRows (is_in wanted.now) ways.now rows.old rows.new) }
+    ensures { OnOk result (AddsRows (is_in wanted.now) ways.now rows.old.items rows.new.items) }
 {
     for way in ways {
         push_row(alloc, rows, way, wanted)?;
@@ -99,20 +161,50 @@ fn push_rows(
     Ok(())
 }
 
+/// Puts rows to others.
+fn put_rows(alloc: Global, rows: &mut Vec<Quad>, more: Vec<Quad>) -> Result<(), OutOfMemory>
+    ensures { OnOk result ((x : Assignment) → IsAssignment x → in_rows x rows.new.items ≡ (in_rows x rows.old.items || in_rows x more.items)) }
+{
+    let mut left = more;
+    while let Some(row) = left.pop() {
+        put_row(alloc, rows, row)?;
+    }
+    Ok(())
+}
+
+/// How many ways are few: their rows are put to each other one after another.
+const FEW: usize = 8;
+
+/// The rows of ways. Those of one half are put to those of the other, so that sets of many pieces are joined seldom.
+fn rows_of(alloc: Global, ways: &[DataWay], wanted: &Set) -> Result<Vec<Quad>, OutOfMemory>
+    ensures { IfOk result (λ rows. AddsRows (is_in wanted.now) ways.now [] rows.items) }
+{
+    if ways.len() < FEW {
+        let mut rows = Vec::new(alloc);
+        push_rows(alloc, &mut rows, ways, wanted)?;
+        return Ok(rows);
+    }
+    let middle = ways.len() / 2;
+    let mut first = rows_of(alloc, &ways[..middle], wanted)?;
+    let last = rows_of(alloc, &ways[middle..], wanted)?;
+    put_rows(alloc, &mut first, last)?;
+    Ok(first)
+}
+
 /// The rows of the addresses that lead where the atoms let the physical address be. Only where it is told what loads and
 /// stores may do, steps make a data access.
 fn address_rows(alloc: Global, stand: &Stand, bias: &[Atom]) -> Result<Items<Quad>, OutOfMemory>
     ensures { IfOk result (λ rows. IfSome stand.now.accesses (AreAddressRows stand.now bias.now rows)) }
 {
-    let mut rows = Items::new(alloc);
     let Some(accesses) = &stand.accesses else {
-        return Ok(rows);
+        return Ok(Items::new(alloc));
     };
     let all = Set::all(alloc)?;
     let wanted = stand.passing(alloc, all, bias, Var::Pa)?;
-    push_rows(alloc, &mut rows, &accesses.loads, &wanted)?;
-    push_rows(alloc, &mut rows, &accesses.stores, &wanted)?;
-    Ok(rows)
+    let mut rows = rows_of(alloc, &accesses.loads, &wanted)?;
+    let stores = rows_of(alloc, &accesses.stores, &wanted)?;
+    put_rows(alloc, &mut rows, stores)?;
+    Ok(Items::from_vec(rows))
 }
 
 /// What the atoms say of the physical address of a data access.

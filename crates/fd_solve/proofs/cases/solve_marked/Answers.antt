@@ -1,7 +1,16 @@
-use Rattle.std.proofs.Common.{sym, subst}
-use Rattle.fd_prob.specs.Fitting.{IsCase}
+use Rattle.std.proofs.lemmas.Result.{IfOk-weaker}
+use Rattle.fd_prob.specs.declared.problem.Case.{Case}
+use Rattle.fd_solve.specs.Marks.{marked_case}
+use Rattle.fd_solve.proofs.Equivalence.{least_of_equivalent}
 use Rattle.fd_solve.proofs.Marking.{marked_case_whole}
 use Rattle.fd_solve.proofs.cases.solve_marked.Goals as goal
 
 pub solve_case-requires-in-None : goal.solve_case-requires-in-None
-solve_case-requires-in-None c = subst IsCase (sym c.in_ok-made-in-None.ensures) (marked_case_whole c.args.marked.now.marks.now c.args.marked.now.biases.now c.args.place c.args.case.now c.requires.case)
+solve_case-requires-in-None c = c.in_ok-made-in-None.ensures.whole
+
+pub returns-in_ok-made-in-None-clause-least : goal.returns-in_ok-made-in-None-clause-least
+returns-in_ok-made-in-None-clause-least c =
+    let whole : Case = marked_case c.args.marks.now c.args.biases.now c.args.place c.args.case.now in
+    IfOk-weaker c.solve_case-in-None.result _ _
+    (λ o least. least_of_equivalent whole c.in_ok-made-in-None.made (marked_case_whole c.args.marks.now c.args.biases.now c.args.place c.args.case.now c.requires.case) c.in_ok-made-in-None.ensures c.args.pivots.now o least)
+    c.solve_case-in-None.ensures

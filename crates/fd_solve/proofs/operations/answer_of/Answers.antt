@@ -5,9 +5,9 @@ use Rattle.fd_solve.proofs.FirstCases.{same_space}
 use Rattle.fd_solve.proofs.operations.answer_of.Goals as goal
 
 pub returns-then-nodes-space : goal.returns-then-nodes-space
-returns-then-nodes-space c = subst (λ (n : ℕ). c.args.nodes < n) (c.space.ensures ∙ same_space (whole_of c.args.marked.now) c.args.marked.now.firsts.now c.requires.firsts) c.if-nodes-space.true
+returns-then-nodes-space c = subst (λ (n : ℕ). c.args.nodes < n) (c.space.ensures ∙ same_space (whole_of c.args.marked.now) c.args.marked.now.firsts.now c.requires.sound.firsts) c.if-nodes-space.true
 
 pub returns : goal.returns
 returns c =
-    let within : space (whole_of c.args.marked.now) ≤ c.args.nodes = subst (λ (n : ℕ). n ≤ c.args.nodes) (c.space.ensures ∙ same_space (whole_of c.args.marked.now) c.args.marked.now.firsts.now c.requires.firsts) c.if-nodes-space.false in
+    let within : space (whole_of c.args.marked.now) ≤ c.args.nodes = subst (λ (n : ℕ). n ≤ c.args.nodes) (c.space.ensures ∙ same_space (whole_of c.args.marked.now) c.args.marked.now.firsts.now c.requires.sound.firsts) c.if-nodes-space.false in
     c.in_ok-solved.ensures.solved c.args.nodes within

@@ -1,7 +1,7 @@
-use Rattle.std.proofs.Common.{ℕ, Global, Vec, sym, subst}
+use Rattle.std.proofs.Common.{ℕ, Global, Vec, sym, subst, ◌∙◌}
 use Rattle.fd_prob.specs.declared.problem.Case.{Case}
 use Rattle.fd_solve.specs.Equivalent.{AreTried, StandFor}
-use Rattle.fd_solve.specs.Marks.{whole_of}
+use Rattle.fd_solve.specs.Marks.{begun_of, whole_of}
 use Rattle.fd_solve.proofs.AllOperations.{first_least, no_case, no_fit}
 use Rattle.fd_solve.proofs.operations.solve_between.Goals.{in-Some+in_ok-x+in_default-2, in_default}
 use Rattle.fd_solve.proofs.operations.solve_between.Goals as goal
@@ -13,8 +13,12 @@ loop-op-preserved c = record {
     | in_default w ↦ no_case (whole_of c.args.marked.now) c.fitting_laws.ensures.fitting c.args.from c.loop-op.op c.loop-op.invariant.none w.in_default.ensures
   ];
   stands = elim c.match-pivots_with.branch [
-    | in-Some+in_ok-x+in_default-2 w ↦ subst (StandFor c.args.marked.now.problem.now.cases) (sym w.narrow-is) w.in_ok-x.ensures.narrow
-    | in_default w ↦ subst (StandFor c.args.marked.now.problem.now.cases) (sym w.narrow-is) c.loop-op.invariant.stands
+    | in-Some+in_ok-x+in_default-2 w ↦ subst (StandFor (begun_of c.args.marked.now).cases) (sym w.narrow-is) w.in_ok-x.ensures.narrow
+    | in_default w ↦ subst (StandFor (begun_of c.args.marked.now).cases) (sym w.narrow-is) c.loop-op.invariant.stands
+  ];
+  idle = elim c.match-pivots_with.branch [
+    | in-Some+in_ok-x+in_default-2 w ↦ λ none. c.loop-op.invariant.idle (w.in_ok-x.ensures.idle (sym w.narrow-is ∙ none))
+    | in_default w ↦ λ none. c.loop-op.invariant.idle (sym w.narrow-is ∙ none)
   ];
   tried = elim c.match-pivots_with.branch [
     | in-Some+in_ok-x+in_default-2 w ↦ subst (λ (v : Vec (ℕ × Case) Global). AreTried (whole_of c.args.marked.now).cases v.items) (sym w.tried-is) w.in_ok-x.ensures.tried

@@ -1,8 +1,6 @@
-use Rattle.std.proofs.Common.{length, length-append, ◌∷◌, [], ap, arith, sym, subst}
-use Rattle.fd_prob.specs.Fitting.{IsCase}
+use Rattle.std.proofs.Common.{length, length-append, ◌∷◌, [], ap, arith}
 use Rattle.fd_solve.specs.Marks.{marked_case}
-use Rattle.fd_solve.proofs.Equivalence.{itself, one_more_marked}
-use Rattle.fd_solve.proofs.Marking.{marked_case_whole}
+use Rattle.fd_solve.proofs.Equivalence.{one_more_marked, stands_in}
 use Rattle.fd_solve.proofs.sought.marked_cases.Goals as goal
 
 pub loop-place-preserved : goal.loop-place-preserved
@@ -14,5 +12,5 @@ loop-place-preserved c =
     record {
       count = omega (arith, ap length c.in_ok-push.ensures.items, length-append before (d ∷ []), c.loop-place.invariant.count);
       each = one_more_marked c.args.marks.now c.args.biases.now c.args.cases.now before c.push.new.self.items c.loop-place.place case d c.loop-place-test.true c.index-cases-place.is
-          (itself own d (marked_case_whole c.args.marks.now c.args.biases.now c.loop-place.place case (subst IsCase (sym c.index-cases-place.is) (c.requires.cases c.loop-place.place case c.loop-place-test.true))) c.in_ok-marked_case.ensures) c.in_ok-push.ensures.items c.loop-place.invariant.count c.loop-place.invariant.each;
+          (stands_in own d c.in_ok-marked_case.ensures) c.in_ok-push.ensures.items c.loop-place.invariant.count c.loop-place.invariant.each;
     }

@@ -1,6 +1,7 @@
 use Rattle.std.proofs.Common.{subst}
+use Rattle.fd_solve.specs.Marks.{whole_of}
 use Rattle.fd_solve.specs.Equivalent.{StandFor}
 use Rattle.fd_solve.proofs.sought.put_tried.Goals as goal
 
 pub put_tried-requires-clause-cases : goal.put_tried-requires-clause-cases
-put_tried-requires-clause-cases c = subst (StandFor c.args.p.now.cases) c.in-Some.is c.requires.narrow
+put_tried-requires-clause-cases c = subst (StandFor (whole_of c.args.marked.now).cases) c.in-Some.is c.requires.narrow

@@ -1,7 +1,8 @@
 use Rattle.std.proofs.Common.{subst}
+use Rattle.fd_solve.specs.Marks.{begun_of}
 use Rattle.fd_solve.specs.Equivalent.{StandFor}
 use Rattle.fd_solve.proofs.Equivalence.{all_whole}
 use Rattle.fd_solve.proofs.sought.settle.Goals as goal
 
 pub settle-requires : goal.settle-requires
-settle-requires c = all_whole c.args.p.now.cases c.in-Some.cases (subst (StandFor c.args.p.now.cases) c.in-Some.is c.requires.narrow)
+settle-requires c = all_whole (begun_of c.args.marked.now).cases c.in-Some.cases (subst (StandFor (begun_of c.args.marked.now).cases) c.in-Some.is c.requires.narrow)
