@@ -4,13 +4,14 @@ ghost use Rattle.rv_mem.specs.Part.{part_at};
 ghost use Rattle.rv_mem.specs.Ram.{in_ram};
 ghost use Rattle.rv_mem.specs.Seen.{is_there};
 
-use crate::rows::{Words, number_of, pair_of};
 use addr_rows::{Forms, Row, rows};
 use dom_set::Set;
-use rv_mem::{PartMem, Ram, Seen, Words as Memory};
+use rv_mem::{PartMem, Ram, Seen, Words};
 use std::alloc::Global;
 use std::process::Abort;
+use std::test::Fail;
 use sv_walk::{Kind, View};
+use test_rows::{Row as Line, number_of};
 
 /// RAM from 0x80000000, words that are known, where new entries may stand and lead, and addresses.
 #[derive(Drop)]
@@ -28,43 +29,49 @@ pub struct Case {
 }
 
 /// The numbers of a line.
-fn numbers(rt: &impl Abort, line: &mut Words<'_>, list: &mut Vec<u32>) {
-    for word in line.words.by_ref() {
-        list.push(number_of(rt, word)).expect(rt, "memory");
+fn numbers(line: Line<'_>, list: &mut Vec<u32>) -> Result<(), Fail> {
+    for word in line.words {
+        list.push(number_of(word)?)?;
     }
+    Ok(())
 }
 
 /// The pairs of a line.
-fn pairs(rt: &impl Abort, line: &mut Words<'_>, mark: char, list: &mut Vec<(u32, u32)>) {
-    for word in line.words.by_ref() {
-        list.push(pair_of(rt, word, mark)).expect(rt, "memory");
+fn pairs(line: Line<'_>, mark: char, list: &mut Vec<(u32, u32)>) -> Result<(), Fail> {
+    for word in line.words {
+        let (first, second) = word.split_once(mark).ok_or("a pair")?;
+        list.push((number_of(first)?, number_of(second)?))?;
     }
+    Ok(())
 }
 
-fn flags(rt: &impl Abort, line: &mut Words<'_>, list: &mut Vec<u8>) {
-    for word in line.words.by_ref() {
-        list.push(u8::from_str_radix(word, 16).expect(rt, word))
-            .expect(rt, "memory");
+fn flags(line: Line<'_>, list: &mut Vec<u8>) -> Result<(), Fail> {
+    for word in line.words {
+        list.push(u8::from_str_radix(word, 16)?)?;
     }
+    Ok(())
 }
 
 /// Adds what a line says to a case.
-fn read_line(rt: &impl Abort, case: &mut Case, text: &str) {
-    let mut line = Words::of(text);
-    match line.word(rt) {
-        "ram" => case.end = line.number(rt),
-        "words" => pairs(rt, &mut line, '=', &mut case.words),
-        "tables" => numbers(rt, &mut line, &mut case.tables),
-        "pool" => numbers(rt, &mut line, &mut case.pool),
-        "flags" => flags(rt, &mut line, &mut case.flags),
-        "pages" => pairs(rt, &mut line, '-', &mut case.pages),
-        "some" => numbers(rt, &mut line, &mut case.some),
-        _ => panic!(rt; "no such line: {text}"),
+fn read_line(case: &mut Case, text: &str) -> Result<(), Fail> {
+    let mut line = Line::of(text);
+    match line.word()? {
+        "ram" => {
+            case.end = line.number()?;
+            Ok(())
+        }
+        "words" => pairs(line, '=', &mut case.words),
+        "tables" => numbers(line, &mut case.tables),
+        "pool" => numbers(line, &mut case.pool),
+        "flags" => flags(line, &mut case.flags),
+        "pages" => pairs(line, '-', &mut case.pages),
+        "some" => numbers(line, &mut case.some),
+        _ => Err(line.lacks("such line")),
     }
 }
 
 /// The case of a text.
-pub fn case_of(rt: &impl Abort, alloc: Global, text: &str) -> Case {
+pub fn case_of(alloc: Global, text: &str) -> Result<Case, Fail> {
     let mut case = Case {
         end: 0x8000_0000,
         words: Vec::new(alloc),
@@ -75,9 +82,9 @@ pub fn case_of(rt: &impl Abort, alloc: Global, text: &str) -> Case {
         some: Vec::new(alloc),
     };
     for line in text.lines() {
-        read_line(rt, &mut case, line);
+        read_line(&mut case, line)?;
     }
-    case
+    Ok(case)
 }
 
 /// The RAM of a case.

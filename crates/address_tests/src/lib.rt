@@ -7,5 +7,3 @@ mod cases;
 mod combinations;
 #[cfg(test)]
 mod row_tests;
-#[cfg(test)]
-mod rows;

@@ -1,13 +1,14 @@
 // Rows of worked memories, and rows against every single combination.
 use crate::cases::{case_of, rows_of};
 use crate::combinations::assert_rows;
-use crate::rows::Words;
 use addr_rows::{Row, RowEnd};
 use dom_set::Set;
 use rv_csr::{Cause, Priv};
 use std::alloc::Global;
 use std::process::Abort;
+use std::test::Fail;
 use sv_walk::{Kind, View};
+use test_rows::Row as Line;
 
 const SUPERVISOR: View = View {
     satp: 0x8008_0001,
@@ -23,15 +24,15 @@ fn only<'a>(rt: &impl Abort, found: &'a [Row], text: &str) -> &'a Row {
 }
 
 /// The end of a row: `at`, base and mask, `fault` with its cause, `outside`.
-fn end_of(rt: &impl Abort, line: &mut Words<'_>) -> RowEnd {
-    match line.word(rt) {
-        "at" => RowEnd::Pa {
-            base: line.number(rt),
-            mask: line.number(rt),
-        },
-        "fault" => RowEnd::Fault(line.cause(rt)),
-        "outside" => RowEnd::Outside,
-        _ => panic!(rt; "no end: {}", line.line),
+fn end_of(line: &mut Line<'_>) -> Result<RowEnd, Fail> {
+    match line.word()? {
+        "at" => Ok(RowEnd::Pa {
+            base: line.number()?,
+            mask: line.number()?,
+        }),
+        "fault" => Ok(RowEnd::Fault(line.cause()?)),
+        "outside" => Ok(RowEnd::Outside),
+        _ => Err(line.lacks("end")),
     }
 }
 
@@ -57,36 +58,36 @@ const KNOWN: &str = "\
 80004000 20000801 20000cc9 S no no load fault 13
 80004000 20000801 20000cc9 S no yes load at 80003000 fff";
 
-fn assert_known(rt: &impl Abort, alloc: Global, text: &str) {
-    let mut line = Words::of(text);
-    let mut case = case_of(rt, alloc, "pages 400000-400fff");
-    case.end = line.number(rt);
+fn assert_known(rt: &impl Abort, alloc: Global, text: &str) -> Result<(), Fail> {
+    let mut line = Line::of(text);
+    let mut case = case_of(alloc, "pages 400000-400fff")?;
+    case.end = line.number()?;
     let entries = [0x8000_1004, 0x8000_2000];
     for addr in entries {
-        case.words
-            .push((addr, line.number(rt)))
-            .expect(rt, "memory");
+        case.words.push((addr, line.number()?))?;
     }
-    let view = line.view(rt);
-    let kind = line.kind(rt);
+    let view = line.view()?;
+    let kind = line.kind()?;
     let found = rows_of(rt, alloc, &case, view, kind);
     let row = only(rt, &found, text);
-    assert_eq!(rt; row.end, end_of(rt, &mut line), "{text}");
+    assert_eq!(rt; row.end, end_of(&mut line)?, "{text}");
     assert_eq!(rt; row.ea.size(), 4096, "{text}");
     assert!(rt; row.root.is_none() && row.leaf.is_none(), "{text}");
+    Ok(())
 }
 
 #[test]
-fn a_mapped_page_is_one_row(rt: HostRuntime) {
+fn a_mapped_page_is_one_row(rt: HostRuntime) -> Result<(), Fail> {
     for line in KNOWN.lines() {
-        assert_known(&rt, rt.alloc(), line);
+        assert_known(&rt, rt.alloc(), line)?;
     }
+    Ok(())
 }
 
 #[test]
-fn without_translation_ram_is_one_row_and_the_rest_another(rt: HostRuntime) {
+fn without_translation_ram_is_one_row_and_the_rest_another(rt: HostRuntime) -> Result<(), Fail> {
     let alloc = rt.alloc();
-    let case = case_of(&rt, alloc, "ram 80004000\npages 0-ffffffff");
+    let case = case_of(alloc, "ram 80004000\npages 0-ffffffff")?;
     let view = View {
         privilege: Priv::M,
         ..SUPERVISOR
@@ -104,6 +105,7 @@ fn without_translation_ram_is_one_row_and_the_rest_another(rt: HostRuntime) {
         };
         assert_eq!(rt; row.ea.size(), want);
     }
+    Ok(())
 }
 
 /// The page 0x00802000 has no entry yet; the root table and the table of the fetched page are known in part.
@@ -123,25 +125,24 @@ fn is_just(set: &Option<Set>, words: &[u32]) -> bool {
 }
 
 /// The rows of loads from the open page with these flag bytes.
-fn open_rows(rt: &impl Abort, alloc: Global, flags: &[u8]) -> Vec<Row> {
-    let mut case = case_of(rt, alloc, OPEN);
-    for flag in flags {
-        case.flags.push(*flag).expect(rt, "memory");
-    }
-    rows_of(rt, alloc, &case, SUPERVISOR, Kind::Load)
+fn open_rows(rt: &impl Abort, alloc: Global, flags: &[u8]) -> Result<Vec<Row>, Fail> {
+    let mut case = case_of(alloc, OPEN)?;
+    case.flags.extend_from_slice(flags)?;
+    Ok(rows_of(rt, alloc, &case, SUPERVISOR, Kind::Load))
 }
 
 #[test]
-fn a_superpage_that_is_closed_faults_as_an_invalid_one(rt: HostRuntime) {
-    let found = open_rows(&rt, rt.alloc(), &[0x00, 0xdf]);
+fn a_superpage_that_is_closed_faults_as_an_invalid_one(rt: HostRuntime) -> Result<(), Fail> {
+    let found = open_rows(&rt, rt.alloc(), &[0x00, 0xdf])?;
     let row = only(&rt, &found, "the open page");
     assert!(rt; is_just(&row.root, &[0x2000_0000, 0x2000_00df]) && row.leaf.is_none());
     assert_eq!(rt; row.end, RowEnd::Fault(Cause::LoadPage));
+    Ok(())
 }
 
 #[test]
-fn a_superpage_that_is_open_is_a_row(rt: HostRuntime) {
-    let found = open_rows(&rt, rt.alloc(), &[0x00, 0xcf, 0x00]);
+fn a_superpage_that_is_open_is_a_row(rt: HostRuntime) -> Result<(), Fail> {
+    let found = open_rows(&rt, rt.alloc(), &[0x00, 0xcf, 0x00])?;
     assert_eq!(rt; found.len(), 2);
     for row in &found {
         match row.end {
@@ -152,14 +153,16 @@ fn a_superpage_that_is_open_is_a_row(rt: HostRuntime) {
             end => assert_eq!(rt; end, RowEnd::Fault(Cause::LoadPage)),
         }
     }
+    Ok(())
 }
 
 #[test]
-fn the_page_of_the_first_example_faults(rt: HostRuntime) {
-    let found = open_rows(&rt, rt.alloc(), &[0x00]);
+fn the_page_of_the_first_example_faults(rt: HostRuntime) -> Result<(), Fail> {
+    let found = open_rows(&rt, rt.alloc(), &[0x00])?;
     let row = only(&rt, &found, "the open page");
     assert!(rt; is_just(&row.root, &[0x2000_0000]) && row.leaf.is_none());
     assert_eq!(rt; row.end, RowEnd::Fault(Cause::LoadPage));
+    Ok(())
 }
 
 /// Pages and superpages, into RAM and around its end; flags listed twice; pointers by flags.
@@ -212,8 +215,8 @@ pages 800000-bfffff
 some 801000 802000 802fff 803000 bff000";
 
 /// Compares rows with walks for each kind of access, each privilege, SUM and MXR.
-fn assert_case(rt: &impl Abort, alloc: Global, text: &str) {
-    let case = case_of(rt, alloc, text);
+fn assert_case(rt: &impl Abort, alloc: Global, text: &str) -> Result<(), Fail> {
+    let case = case_of(alloc, text)?;
     for kind in [Kind::Fetch, Kind::Load, Kind::Store] {
         for privilege in [Priv::U, Priv::S, Priv::M] {
             for marks in 0..4u32 {
@@ -227,36 +230,38 @@ fn assert_case(rt: &impl Abort, alloc: Global, text: &str) {
             }
         }
     }
+    Ok(())
 }
 
 #[test]
-fn rows_of_all_addresses_are_what_walks_find(rt: HostRuntime) {
-    assert_case(&rt, rt.alloc(), WIDE);
+fn rows_of_all_addresses_are_what_walks_find(rt: HostRuntime) -> Result<(), Fail> {
+    assert_case(&rt, rt.alloc(), WIDE)
 }
 
 #[test]
-fn rows_of_a_page_are_what_walks_find(rt: HostRuntime) {
-    assert_case(&rt, rt.alloc(), PAGE);
+fn rows_of_a_page_are_what_walks_find(rt: HostRuntime) -> Result<(), Fail> {
+    assert_case(&rt, rt.alloc(), PAGE)
 }
 
 #[test]
-fn rows_of_alike_tables_are_what_walks_find(rt: HostRuntime) {
-    assert_case(&rt, rt.alloc(), TABLES);
+fn rows_of_alike_tables_are_what_walks_find(rt: HostRuntime) -> Result<(), Fail> {
+    assert_case(&rt, rt.alloc(), TABLES)
 }
 
 #[test]
-fn rows_without_forms_are_what_walks_find(rt: HostRuntime) {
-    assert_case(&rt, rt.alloc(), ROOT);
+fn rows_without_forms_are_what_walks_find(rt: HostRuntime) -> Result<(), Fail> {
+    assert_case(&rt, rt.alloc(), ROOT)
 }
 
 #[test]
-fn rows_behind_an_entry_that_leads_back_are_what_walks_find(rt: HostRuntime) {
+fn rows_behind_an_entry_that_leads_back_are_what_walks_find(rt: HostRuntime) -> Result<(), Fail> {
     let alloc = rt.alloc();
-    assert_case(&rt, alloc, BACK);
-    let case = case_of(&rt, alloc, BACK);
+    assert_case(&rt, alloc, BACK)?;
+    let case = case_of(alloc, BACK)?;
     let found = rows_of(&rt, alloc, &case, SUPERVISOR, Kind::Load);
     let both = |row: &Row| row.ea.has(0x0080_2000) && row.ea.has(0x0080_3000);
     assert!(rt; found.iter().any(|row| row.apart && both(row)));
+    Ok(())
 }
 
 /// Most of what may be open at once: eight frames for tables, 32 frames to lead to, eight flags.
@@ -272,9 +277,15 @@ flags 00 cf df c7 4f 43 0f d7";
 
 /// There are rows of these pages under the open root, and fewer than a number; some are of addresses whose indices have to
 /// differ, or none is. The addresses of each are in few pieces.
-fn assert_few(rt: &impl Abort, alloc: Global, pages: (u32, u32), bound: usize, apart: bool) {
-    let mut case = case_of(rt, alloc, OPEN_ROOT);
-    case.pages.push(pages).expect(rt, "memory");
+fn assert_few(
+    rt: &impl Abort,
+    alloc: Global,
+    pages: (u32, u32),
+    bound: usize,
+    apart: bool,
+) -> Result<(), Fail> {
+    let mut case = case_of(alloc, OPEN_ROOT)?;
+    case.pages.push(pages)?;
     let found = rows_of(rt, alloc, &case, SUPERVISOR, Kind::Load);
     let count = found.len();
     assert!(rt; 0 < count && count < bound, "{count} rows");
@@ -283,11 +294,12 @@ fn assert_few(rt: &impl Abort, alloc: Global, pages: (u32, u32), bound: usize, a
         let pieces = row.ea.spans(alloc).expect(rt, "memory").len();
         assert!(rt; pieces < 128, "{pieces} pieces");
     }
+    Ok(())
 }
 
 #[test]
-fn rows_under_an_open_root_are_few(rt: HostRuntime) {
-    assert_few(&rt, rt.alloc(), (0x0080_2000, 0x0080_2fff), 100, false);
-    assert_few(&rt, rt.alloc(), (0x0080_3000, 0x0080_3fff), 100, false);
-    assert_few(&rt, rt.alloc(), (0, 0xffff_ffff), 200, true);
+fn rows_under_an_open_root_are_few(rt: HostRuntime) -> Result<(), Fail> {
+    assert_few(&rt, rt.alloc(), (0x0080_2000, 0x0080_2fff), 100, false)?;
+    assert_few(&rt, rt.alloc(), (0x0080_3000, 0x0080_3fff), 100, false)?;
+    assert_few(&rt, rt.alloc(), (0, 0xffff_ffff), 200, true)
 }

@@ -1,11 +1,12 @@
 //! The table of the registers, accesses, traps and returns, as the Privileged manual and this
 //! machine's profile have them.
-use crate::rows::Row;
 use rv_csr::{
     CAUSES, CsrAccess, Csrs, Got, LazyRegister, Priv, REGISTERS, Register, Wrote, csr_laws,
     is_cause, legal, row_of, vector_register,
 };
 use std::process::Abort;
+use std::test::Fail;
+use test_rows::Row;
 
 /// The registers in the order of their addresses: the address and the name, the lowest privilege that
 /// has access, whether the register is read-only, whether it has no first value; words that are
@@ -41,38 +42,30 @@ struct Line<'a> {
 /// The number of the hart.
 const HART: u32 = 3;
 
-fn privilege_of(rt: &impl Abort, row: &mut Row<'_>) -> Priv {
-    match row.word(rt) {
-        "U" => Priv::U,
-        "S" => Priv::S,
-        "M" => Priv::M,
-        _ => panic!(rt; "no privilege: {}", row.line),
-    }
-}
-
-fn line_of<'a>(rt: &impl Abort, text: &'a str) -> Line<'a> {
-    let (front, words) = text.split_once(':').expect(rt, text);
-    let (legal, illegal) = words.split_once(':').expect(rt, text);
+fn line_of<'a>(text: &'a str) -> Result<Line<'a>, Fail> {
+    let (front, words) = text.split_once(':').ok_or("words")?;
+    let (legal, illegal) = words.split_once(':').ok_or("illegal words")?;
     let mut row = Row::of(front);
     let line = Line {
-        address: row.address(rt),
-        name: row.word(rt),
-        lowest: privilege_of(rt, &mut row),
-        read_only: row.answer(rt),
-        lazy: row.answer(rt),
+        address: row.address()?,
+        name: row.word()?,
+        lowest: row.privilege()?,
+        read_only: row.answer()?,
+        lazy: row.answer()?,
         legal,
         illegal,
     };
-    row.end(rt);
-    line
+    row.end()?;
+    Ok(line)
 }
 
 /// The words are legal at the address, or none is.
-fn assert_legal(rt: &impl Abort, address: u16, words: &str, want: bool) {
+fn assert_legal(rt: &impl Abort, address: u16, words: &str, want: bool) -> Result<(), Fail> {
     for word in words.split_whitespace() {
-        let value = Row::of(word).number(rt);
+        let value = Row::of(word).number()?;
         assert_eq!(rt; legal(address, value), want, "{word}");
     }
+    Ok(())
 }
 
 fn assert_row(rt: &impl Abort, register: Register, line: &Line<'_>) {
@@ -83,15 +76,16 @@ fn assert_row(rt: &impl Abort, register: Register, line: &Line<'_>) {
 }
 
 #[test]
-fn each_register_has_its_name_address_key_and_legal_words(rt: HostRuntime) {
+fn each_register_has_its_name_address_key_and_legal_words(rt: HostRuntime) -> Result<(), Fail> {
     for (register, text) in REGISTERS.iter().zip(LINES.lines()) {
-        let line = line_of(&rt, text);
+        let line = line_of(text)?;
         assert_row(&rt, *register, &line);
-        assert_legal(&rt, line.address, line.legal, true);
-        assert_legal(&rt, line.address, line.illegal, false);
+        assert_legal(&rt, line.address, line.legal, true)?;
+        assert_legal(&rt, line.address, line.illegal, false)?;
     }
     assert_eq!(rt; LINES.lines().count(), REGISTERS.len());
     assert!(rt; !legal(0x304, 0), "mie is not modelled");
+    Ok(())
 }
 
 /// A hart of which no lazy register is known.
@@ -130,13 +124,14 @@ fn assert_read(rt: &impl Abort, line: &Line<'_>, p: Priv) {
 }
 
 #[test]
-fn each_register_is_read_where_the_privilege_suffices(rt: HostRuntime) {
+fn each_register_is_read_where_the_privilege_suffices(rt: HostRuntime) -> Result<(), Fail> {
     for text in LINES.lines() {
-        let line = line_of(&rt, text);
+        let line = line_of(text)?;
         assert_read(&rt, &line, Priv::U);
         assert_read(&rt, &line, Priv::S);
         assert_read(&rt, &line, Priv::M);
     }
+    Ok(())
 }
 
 fn assert_write(rt: &impl Abort, line: &Line<'_>, p: Priv, value: u32, want: Wrote) {
@@ -161,22 +156,24 @@ fn writable(line: &Line<'_>, p: Priv, fits: Wrote) -> Wrote {
 }
 
 /// Each word is written in each privilege.
-fn assert_writes(rt: &impl Abort, line: &Line<'_>, words: &str, fits: Wrote) {
+fn assert_writes(rt: &impl Abort, line: &Line<'_>, words: &str, fits: Wrote) -> Result<(), Fail> {
     for word in words.split_whitespace() {
-        let value = Row::of(word).number(rt);
+        let value = Row::of(word).number()?;
         assert_write(rt, line, Priv::U, value, writable(line, Priv::U, fits));
         assert_write(rt, line, Priv::S, value, writable(line, Priv::S, fits));
         assert_write(rt, line, Priv::M, value, writable(line, Priv::M, fits));
     }
+    Ok(())
 }
 
 #[test]
-fn each_register_keeps_a_legal_word_and_no_other(rt: HostRuntime) {
+fn each_register_keeps_a_legal_word_and_no_other(rt: HostRuntime) -> Result<(), Fail> {
     for text in LINES.lines() {
-        let line = line_of(&rt, text);
-        assert_writes(&rt, &line, line.legal, Wrote::Done);
-        assert_writes(&rt, &line, line.illegal, Wrote::Outside);
+        let line = line_of(text)?;
+        assert_writes(&rt, &line, line.legal, Wrote::Done)?;
+        assert_writes(&rt, &line, line.illegal, Wrote::Outside)?;
     }
+    Ok(())
 }
 
 /// The address, the privilege, whether the access writes, and the register to which it is granted.
@@ -203,15 +200,16 @@ fn access_named(rt: &impl Abort, name: &str) -> CsrAccess {
 }
 
 #[test]
-fn access_is_granted_denied_or_outside(rt: HostRuntime) {
+fn access_is_granted_denied_or_outside(rt: HostRuntime) -> Result<(), Fail> {
     // While TVM is set.
     let csrs = Csrs::new(HART, 0x0010_0000, 0, 0);
     for line in ACCESSES.lines() {
         let mut row = Row::of(line);
-        let (address, p) = (row.address(&rt), privilege_of(&rt, &mut row));
-        let access = csrs.access(address, p, row.answer(&rt));
-        assert_eq!(rt; access, access_named(&rt, row.word(&rt)), "{line}");
+        let (address, p) = (row.address()?, row.privilege()?);
+        let access = csrs.access(address, p, row.answer()?);
+        assert_eq!(rt; access, access_named(&rt, row.word()?), "{line}");
     }
+    Ok(())
 }
 
 #[test]
@@ -238,13 +236,14 @@ fn assert_outside(rt: &impl Abort, address: u16, p: Priv) {
 }
 
 #[test]
-fn other_addresses_are_outside_in_each_privilege(rt: HostRuntime) {
+fn other_addresses_are_outside_in_each_privilege(rt: HostRuntime) -> Result<(), Fail> {
     for word in OTHERS.split_whitespace() {
-        let address = Row::of(word).address(&rt);
+        let address = Row::of(word).address()?;
         assert_outside(&rt, address, Priv::U);
         assert_outside(&rt, address, Priv::S);
         assert_outside(&rt, address, Priv::M);
     }
+    Ok(())
 }
 
 #[test]
@@ -316,20 +315,20 @@ struct Trap<'a> {
     after: u32,
 }
 
-fn trap_of<'a>(rt: &impl Abort, line: &'a str) -> Trap<'a> {
+fn trap_of<'a>(line: &'a str) -> Result<Trap<'a>, Fail> {
     let mut row = Row::of(line);
     let trap = Trap {
         line,
-        from: privilege_of(rt, &mut row),
-        cause: row.small(rt),
-        value: row.number(rt),
-        mstatus: row.number(rt),
-        medeleg: row.number(rt),
-        to: privilege_of(rt, &mut row),
-        after: row.number(rt),
+        from: row.privilege()?,
+        cause: row.small()?,
+        value: row.number()?,
+        mstatus: row.number()?,
+        medeleg: row.number()?,
+        to: row.privilege()?,
+        after: row.number()?,
     };
-    row.end(rt);
-    trap
+    row.end()?;
+    Ok(trap)
 }
 
 /// Where traps to S and to M leave the pc, the cause and the trap value.
@@ -387,10 +386,11 @@ fn assert_saved(rt: &impl Abort, csrs: &Csrs, trap: &Trap<'_>) {
 }
 
 #[test]
-fn traps_go_where_medeleg_says_and_save_what_they_left(rt: HostRuntime) {
+fn traps_go_where_medeleg_says_and_save_what_they_left(rt: HostRuntime) -> Result<(), Fail> {
     for line in TRAPS.lines() {
-        assert_trap(&rt, &trap_of(&rt, line));
+        assert_trap(&rt, &trap_of(line)?);
     }
+    Ok(())
 }
 
 /// mstatus, the privilege and mstatus after MRET.
@@ -425,21 +425,23 @@ fn assert_sret(rt: &impl Abort, mstatus: u32, to: Priv, after: u32) {
 }
 
 #[test]
-fn mret_goes_back_to_mpp(rt: HostRuntime) {
+fn mret_goes_back_to_mpp(rt: HostRuntime) -> Result<(), Fail> {
     for line in MRETS.lines() {
         let mut row = Row::of(line);
-        let (mstatus, to) = (row.number(&rt), privilege_of(&rt, &mut row));
-        assert_mret(&rt, mstatus, to, row.number(&rt));
+        let (mstatus, to) = (row.number()?, row.privilege()?);
+        assert_mret(&rt, mstatus, to, row.number()?);
     }
+    Ok(())
 }
 
 #[test]
-fn sret_goes_back_to_spp(rt: HostRuntime) {
+fn sret_goes_back_to_spp(rt: HostRuntime) -> Result<(), Fail> {
     for line in SRETS.lines() {
         let mut row = Row::of(line);
-        let (mstatus, to) = (row.number(&rt), privilege_of(&rt, &mut row));
-        assert_sret(&rt, mstatus, to, row.number(&rt));
+        let (mstatus, to) = (row.number()?, row.privilege()?);
+        assert_sret(&rt, mstatus, to, row.number()?);
     }
+    Ok(())
 }
 
 /// mstatus; whether MPRV, SUM, MXR, TVM and TSR are set; MPP; the effective privilege of a data
@@ -466,23 +468,25 @@ fn csrs_with(rt: &impl Abort, mstatus: u32) -> Csrs {
     Csrs::new(HART, mstatus, 0xb3ff, 0)
 }
 
-fn assert_fields(rt: &impl Abort, line: &str) {
+fn assert_fields(rt: &impl Abort, line: &str) -> Result<(), Fail> {
     let mut row = Row::of(line);
-    let csrs = csrs_with(rt, row.number(rt));
+    let csrs = csrs_with(rt, row.number()?);
     for flag in flags_of(&csrs) {
-        assert_eq!(rt; flag, row.answer(rt), "{line}");
+        assert_eq!(rt; flag, row.answer()?, "{line}");
     }
     for p in privileges_of(&csrs) {
-        assert_eq!(rt; p, privilege_of(rt, &mut row), "{line}");
+        assert_eq!(rt; p, row.privilege()?, "{line}");
     }
     assert_eq!(rt; csrs.medeleg(), 0xb3ff);
     assert_eq!(rt; csrs.hart(), HART);
-    row.end(rt);
+    row.end()?;
+    Ok(())
 }
 
 #[test]
-fn the_fields_of_mstatus_are_seen(rt: HostRuntime) {
+fn the_fields_of_mstatus_are_seen(rt: HostRuntime) -> Result<(), Fail> {
     for line in FIELDS.lines() {
-        assert_fields(&rt, line);
+        assert_fields(&rt, line)?;
     }
+    Ok(())
 }

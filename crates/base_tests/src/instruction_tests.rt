@@ -1,7 +1,8 @@
 //! Words and lines of assembly, as LLVM's assembler has them, and arithmetic as the Unprivileged manual has it.
-use crate::rows::Row;
 use rv_isa::{Instr, OPS, Op, alu, decode, encode, name_of, taken};
 use std::process::Abort;
+use std::test::Fail;
+use test_rows::Row;
 
 /// A word and its instruction: the operation, rd, rs1, rs2, the immediate, the address of the CSR.
 /// One line for each operation, in the order of the table.
@@ -131,15 +132,15 @@ fn op_named(rt: &impl Abort, name: &str) -> Op {
     *op.expect(rt, name)
 }
 
-fn instr_of(rt: &impl Abort, row: &mut Row<'_>) -> Instr {
-    Instr {
-        op: op_named(rt, row.word(rt)),
-        rd: row.small(rt),
-        rs1: row.small(rt),
-        rs2: row.small(rt),
-        imm: row.number(rt),
-        csr: row.address(rt),
-    }
+fn instr_of(rt: &impl Abort, row: &mut Row<'_>) -> Result<Instr, Fail> {
+    Ok(Instr {
+        op: op_named(rt, row.word()?),
+        rd: row.small()?,
+        rs1: row.small()?,
+        rs2: row.small()?,
+        imm: row.number()?,
+        csr: row.address()?,
+    })
 }
 
 fn decoded(word: u32) -> Option<Instr> {
@@ -155,21 +156,22 @@ fn encoded_again(word: u32) -> Option<u32> {
 }
 
 /// Asserts that the line's word is its instruction's, which it gives.
-fn assert_line(rt: &impl Abort, line: &str) -> Op {
+fn assert_line(rt: &impl Abort, line: &str) -> Result<Op, Fail> {
     let mut row = Row::of(line);
-    let word = row.number(rt);
-    let instr = instr_of(rt, &mut row);
-    row.end(rt);
+    let word = row.number()?;
+    let instr = instr_of(rt, &mut row)?;
+    row.end()?;
     assert_eq!(rt; decoded(word), Some(instr), "{line}");
     assert_eq!(rt; encoded_again(word), Some(word), "{line}");
-    instr.op
+    Ok(instr.op)
 }
 
 #[test]
-fn encodes_and_decodes(rt: HostRuntime) {
+fn encodes_and_decodes(rt: HostRuntime) -> Result<(), Fail> {
     for line in WORDS.lines() {
-        let _ = assert_line(&rt, line);
+        let _ = assert_line(&rt, line)?;
     }
+    Ok(())
 }
 
 /// Asserts that the operation stands at this place of the table.
@@ -179,19 +181,21 @@ fn assert_place(rt: &impl Abort, k: usize, op: Op) {
 }
 
 #[test]
-fn decodes_a_line_of_each_operation(rt: HostRuntime) {
+fn decodes_a_line_of_each_operation(rt: HostRuntime) -> Result<(), Fail> {
     for (k, line) in LINES.lines().enumerate() {
-        assert_place(&rt, k, assert_line(&rt, line));
+        assert_place(&rt, k, assert_line(&rt, line)?);
     }
     assert_eq!(rt; LINES.lines().count(), OPS.len());
+    Ok(())
 }
 
 #[test]
-fn decodes_no_other_word(rt: HostRuntime) {
+fn decodes_no_other_word(rt: HostRuntime) -> Result<(), Fail> {
     for line in OUTSIDE.lines() {
-        let word = Row::of(line).number(&rt);
+        let word = Row::of(line).number()?;
         assert_eq!(rt; decoded(word), None, "{line}");
     }
+    Ok(())
 }
 
 /// What each operation of `COMPUTED` computes, register by register.
@@ -251,45 +255,50 @@ fn decided(x: u32, y: u32) -> [u32; 6] {
 }
 
 /// Asserts that the further numbers of the row are these.
-fn assert_results(rt: &impl Abort, mut row: Row<'_>, results: &[u32]) {
+fn assert_results(rt: &impl Abort, mut row: Row<'_>, results: &[u32]) -> Result<(), Fail> {
     for result in results {
-        assert_eq!(rt; *result, row.number(rt), "{}", row.line);
+        assert_eq!(rt; *result, row.number()?, "{}", row.line);
     }
-    row.end(rt);
+    row.end()?;
+    Ok(())
 }
 
 #[test]
-fn computes_as_the_manual_says(rt: HostRuntime) {
+fn computes_as_the_manual_says(rt: HostRuntime) -> Result<(), Fail> {
     for line in COMPUTED.lines() {
         let mut row = Row::of(line);
-        let (x, y) = (row.number(&rt), row.number(&rt));
-        assert_results(&rt, row, &computed(x, y));
+        let (x, y) = (row.number()?, row.number()?);
+        assert_results(&rt, row, &computed(x, y))?;
     }
+    Ok(())
 }
 
 #[test]
-fn computes_with_immediates_as_the_manual_says(rt: HostRuntime) {
+fn computes_with_immediates_as_the_manual_says(rt: HostRuntime) -> Result<(), Fail> {
     for line in COMPUTED.lines() {
         let mut row = Row::of(line);
-        let (x, y) = (row.number(&rt), row.number(&rt));
-        assert_results(&rt, row, &computed_with(x, y));
+        let (x, y) = (row.number()?, row.number()?);
+        assert_results(&rt, row, &computed_with(x, y))?;
     }
+    Ok(())
 }
 
 #[test]
-fn multiplies_and_divides_as_the_manual_says(rt: HostRuntime) {
+fn multiplies_and_divides_as_the_manual_says(rt: HostRuntime) -> Result<(), Fail> {
     for line in MULTIPLIED.lines() {
         let mut row = Row::of(line);
-        let (x, y) = (row.number(&rt), row.number(&rt));
-        assert_results(&rt, row, &multiplied(x, y));
+        let (x, y) = (row.number()?, row.number()?);
+        assert_results(&rt, row, &multiplied(x, y))?;
     }
+    Ok(())
 }
 
 #[test]
-fn branches_as_the_manual_says(rt: HostRuntime) {
+fn branches_as_the_manual_says(rt: HostRuntime) -> Result<(), Fail> {
     for line in BRANCHES.lines() {
         let mut row = Row::of(line);
-        let (x, y) = (row.number(&rt), row.number(&rt));
-        assert_results(&rt, row, &decided(x, y));
+        let (x, y) = (row.number()?, row.number()?);
+        assert_results(&rt, row, &decided(x, y))?;
     }
+    Ok(())
 }

@@ -8,6 +8,4 @@ mod instruction_tests;
 #[cfg(test)]
 mod memory_tests;
 #[cfg(test)]
-mod rows;
-#[cfg(test)]
 mod script_tests;

@@ -1,7 +1,8 @@
-use crate::rows::Row;
 use rv_mem::{FullMem, Mem, OutOfMemory, PartMem, Ram, Seen, Words};
 use std::alloc::Global;
 use std::process::Abort;
+use std::test::Fail;
+use test_rows::Row;
 
 const LOW: u32 = 0x8000_0000;
 
@@ -47,19 +48,21 @@ ffc no
 80000008 no
 fffffffc no";
 
-fn assert_address(rt: &impl Abort, ram: &Ram, line: &str) {
+fn assert_address(rt: &impl Abort, ram: &Ram, line: &str) -> Result<(), Fail> {
     let mut row = Row::of(line);
-    let a = row.number(rt);
+    let a = row.number()?;
     assert_eq!(rt; a % 4, 0, "{line}");
-    assert_eq!(rt; ram.has_word(a), row.answer(rt), "{line}");
+    assert_eq!(rt; ram.has_word(a), row.answer()?, "{line}");
+    Ok(())
 }
 
 #[test]
-fn ram_has_the_words_of_its_regions(rt: HostRuntime) {
+fn ram_has_the_words_of_its_regions(rt: HostRuntime) -> Result<(), Fail> {
     let ram = small_ram(rt.alloc()).expect(&rt, "memory");
     for line in ADDRESSES.lines() {
-        assert_address(&rt, &ram, line);
+        assert_address(&rt, &ram, line)?;
     }
+    Ok(())
 }
 
 #[test]

@@ -1,9 +1,10 @@
 // Which fault is told of several, and which lines have none.
-use crate::every::{EVERY, compare, compare_all};
+use crate::every::{compare, compare_all};
 use crate::told::{assert_told, compare_texts};
 use std::alloc::Global;
 use std::process::Abort;
 use std::test::Fail;
+use test_texts::EVERY;
 use tpl_ast::{Fault, Kind};
 use tpl_parse::ParseError;
 

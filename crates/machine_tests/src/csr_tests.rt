@@ -2,14 +2,15 @@
 // steps are as `cases` reads them.
 use crate::cases::assert_cases;
 use crate::fixtures::{
-    BEYOND, MHARTID, MSTATUS, MTVEC, RAM, SSTATUS, TO_MACHINE, Told, assert_did, assert_none,
-    assert_traps, hart_with, known, mpp, retired,
+    BEYOND, MHARTID, MTVEC, SSTATUS, assert_did, assert_none, assert_traps, hart_with, mpp,
 };
-use crate::rows::{Row, csr_named};
 use rv_csr::row_of;
 use rv_hart::Priv;
 use std::alloc::Global;
 use std::process::Abort;
+use std::test::Fail;
+use step_rows::{MSTATUS, RAM, TO_MACHINE, Told, csr_named, retired};
+use test_rows::{Row, memory_of};
 
 /// A CSR: its name, the lowest privilege that has access, its value, an operand, and its value after
 /// the operand was written, set and cleared, `-` where that isn't legal.
@@ -42,21 +43,21 @@ struct Line<'a> {
     cleared: Option<u32>,
 }
 
-fn line_of<'a>(rt: &impl Abort, text: &'a str) -> Line<'a> {
+fn line_of<'a>(text: &'a str) -> Result<Line<'a>, Fail> {
     let mut row = Row::of(text);
-    let register = csr_named(row.word(rt)).expect(rt, text);
+    let register = csr_named(row.word()?).ok_or("a CSR")?;
     let line = Line {
         text,
         addr: row_of(*register).address(),
-        lowest: row.privilege(rt),
-        old: row.number(rt),
-        operand: row.number(rt),
-        written: row.option(rt),
-        set: row.option(rt),
-        cleared: row.option(rt),
+        lowest: row.privilege()?,
+        old: row.number()?,
+        operand: row.number()?,
+        written: row.option()?,
+        set: row.option()?,
+        cleared: row.option()?,
     };
-    row.end(rt);
-    line
+    row.end()?;
+    Ok(line)
 }
 
 /// The word of a CSR instruction that writes the old value to x1.
@@ -85,7 +86,7 @@ fn assert_access(
     field: u32,
     writes: bool,
     wanted: Option<u32>,
-) {
+) -> Result<(), Fail> {
     let vector = (MTVEC, TO_MACHINE);
     let own = if line.addr == MHARTID {
         vector
@@ -96,7 +97,7 @@ fn assert_access(
     let word = word_of(line.addr, field, funct3);
     if from.level() < line.lowest.level() || (line.addr == MHARTID && writes) {
         let after = status_after(line.addr, from);
-        assert_traps(
+        return assert_traps(
             rt,
             alloc,
             &mut hart,
@@ -107,9 +108,8 @@ fn assert_access(
             Priv::M,
             after,
         );
-        return;
     }
-    let mut memory = known(rt, alloc, &[(RAM, word)]);
+    let mut memory = memory_of(alloc, BEYOND, &[(RAM, word)])?;
     let done = retired(&hart, word, Some((1, line.old)), RAM + 4);
     if !writes {
         assert_did(rt, &mut hart, &mut memory, line.text, done, from, &[]);
@@ -126,6 +126,7 @@ fn assert_access(
     } else {
         assert_none(rt, &mut hart, &mut memory, line.text, Told::Outside);
     }
+    Ok(())
 }
 
 /// The two instructions of a kind: with x5 or the immediate as the operand, and with x0 or the immediate 0, where
@@ -137,24 +138,25 @@ fn assert_kind(
     from: Priv,
     kind: u32,
     wanted: Option<u32>,
-) {
+) -> Result<(), Fail> {
     let writes = kind == 1;
-    assert_access(rt, alloc, line, from, kind, 5, true, wanted);
-    assert_access(rt, alloc, line, from, kind | 4, line.operand, true, wanted);
-    assert_access(rt, alloc, line, from, kind, 0, writes, Some(0));
-    assert_access(rt, alloc, line, from, kind | 4, 0, writes, Some(0));
+    assert_access(rt, alloc, line, from, kind, 5, true, wanted)?;
+    assert_access(rt, alloc, line, from, kind | 4, line.operand, true, wanted)?;
+    assert_access(rt, alloc, line, from, kind, 0, writes, Some(0))?;
+    assert_access(rt, alloc, line, from, kind | 4, 0, writes, Some(0))
 }
 
 #[test]
-fn each_csr_is_accessed_where_the_privilege_suffices(rt: HostRuntime) {
+fn each_csr_is_accessed_where_the_privilege_suffices(rt: HostRuntime) -> Result<(), Fail> {
     for text in LINES.lines() {
-        let line = line_of(&rt, text);
+        let line = line_of(text)?;
         for from in [Priv::U, Priv::S, Priv::M] {
-            assert_kind(&rt, rt.alloc(), &line, from, 1, line.written);
-            assert_kind(&rt, rt.alloc(), &line, from, 2, line.set);
-            assert_kind(&rt, rt.alloc(), &line, from, 3, line.cleared);
+            assert_kind(&rt, rt.alloc(), &line, from, 1, line.written)?;
+            assert_kind(&rt, rt.alloc(), &line, from, 2, line.set)?;
+            assert_kind(&rt, rt.alloc(), &line, from, 3, line.cleared)?;
         }
     }
+    Ok(())
 }
 
 const EXCHANGES: &str = "\
@@ -183,8 +185,8 @@ M 3002a073 mstatus=88 x5=21800 | retires 80000004 M | mstatus=21888 # csrrs x0, 
 M 300290f3 mstatus=88 x5=21800 | retires 80000004 M | x1=88 mstatus=21800";
 
 #[test]
-fn csr_instructions_read_and_write(rt: HostRuntime) {
-    assert_cases(&rt, rt.alloc(), BEYOND, EXCHANGES);
+fn csr_instructions_read_and_write(rt: HostRuntime) -> Result<(), Fail> {
+    assert_cases(&rt, rt.alloc(), BEYOND, EXCHANGES)
 }
 
 /// Accesses that are denied although no register is known.
@@ -205,8 +207,8 @@ M f1405073 mstatus=0 mtvec=80000200 | traps 2 f1405073 M 1800 # csrrwi x0, mhart
 M f140e0f3 mstatus=0 mtvec=80000200 | traps 2 f140e0f3 M 1800 # csrrsi x1, mhartid, 1";
 
 #[test]
-fn a_denied_access_needs_no_register(rt: HostRuntime) {
-    assert_cases(&rt, rt.alloc(), BEYOND, DENIED);
+fn a_denied_access_needs_no_register(rt: HostRuntime) -> Result<(), Fail> {
+    assert_cases(&rt, rt.alloc(), BEYOND, DENIED)
 }
 
 const LACKS: &str = "\
@@ -241,6 +243,6 @@ U 340290f3 medeleg=4 | needs stvec
 M f142a0f3 stvec=0 | needs mtvec # csrrs x1, mhartid, x5, which is denied";
 
 #[test]
-fn a_csr_access_needs_the_operand_and_then_the_csr(rt: HostRuntime) {
-    assert_cases(&rt, rt.alloc(), BEYOND, LACKS);
+fn a_csr_access_needs_the_operand_and_then_the_csr(rt: HostRuntime) -> Result<(), Fail> {
+    assert_cases(&rt, rt.alloc(), BEYOND, LACKS)
 }

@@ -1,16 +1,14 @@
 // What the tests start from, and how they compare what a step says and leaves.
-ghost use Rattle.std.specs.Prelude.{◌≡◌, ◌%◌, ◌<◌};
+ghost use Rattle.std.specs.Prelude.{◌<◌};
 
 use rv_csr::Wrote;
-use rv_hart::{
-    Access, Csrs, Hart, Mem, Outcome, Place, Priv, Role, Seen, Stepped, Words, look, step,
-};
-use rv_mem::{OutOfMemory, PartMem, Ram};
+use rv_hart::{Csrs, Hart, Priv, look, step};
+use rv_mem::PartMem;
 use std::alloc::Global;
 use std::process::Abort;
-
-/// The start of RAM.
-pub const RAM: u32 = 0x8000_0000;
+use std::test::Fail;
+use step_rows::{Done, TO_MACHINE, TO_SUPERVISOR, Told, saved_by, told_by, trapped};
+use test_rows::memory_of;
 
 /// The word after the first one.
 pub const NEXT: u32 = 0x8000_0004;
@@ -26,58 +24,16 @@ pub const PAGES: u32 = 0x8000_4000;
 /// The number of the hart.
 pub const NUMBER: u32 = 3;
 
-/// Where traps go, to M and to S.
-pub const TO_MACHINE: u32 = 0x8000_0200;
-
-pub const TO_SUPERVISOR: u32 = 0x8000_0400;
-
 /// The addresses of CSRs.
 pub const SSTATUS: u16 = 0x100;
 
 pub const STVEC: u16 = 0x105;
 
-pub const SEPC: u16 = 0x141;
-
-pub const SCAUSE: u16 = 0x142;
-
-pub const STVAL: u16 = 0x143;
-
-pub const MSTATUS: u16 = 0x300;
-
 pub const MEDELEG: u16 = 0x302;
 
 pub const MTVEC: u16 = 0x305;
 
-pub const MEPC: u16 = 0x341;
-
-pub const MCAUSE: u16 = 0x342;
-
-pub const MTVAL: u16 = 0x343;
-
 pub const MHARTID: u16 = 0xF14;
-
-/// RAM up to an end, of which nothing is known.
-pub fn ram_of(rt: &impl Abort, alloc: Global, end: u32) -> PartMem {
-    assert_eq!(rt; end % 4, 0);
-    let ram = Ram::new(vec![in alloc; (RAM, end)].expect(rt, "memory"));
-    PartMem::new(alloc, &ram).expect(rt, "memory")
-}
-
-/// Gives words of RAM values.
-pub fn put_all(rt: &impl Abort, memory: &mut PartMem, words: &[(u32, u32)]) {
-    for (a, w) in words {
-        assert_eq!(rt; *a % 4, 0);
-        assert!(rt; !matches!(memory.word(*a), Seen::Vacant));
-        memory.put(*a, *w).expect(rt, "memory");
-    }
-}
-
-/// Small RAM of which these words are known.
-pub fn known(rt: &impl Abort, alloc: Global, words: &[(u32, u32)]) -> PartMem {
-    let mut memory = ram_of(rt, alloc, BEYOND);
-    put_all(rt, &mut memory, words);
-    memory
-}
 
 /// Makes a register known.
 pub fn give(hart: &mut Hart, n: u8, value: u32)
@@ -125,97 +81,6 @@ pub fn copy_of(hart: &Hart) -> Hart {
         privilege: hart.privilege,
         regs: hart.regs,
         csrs: hart.csrs,
-    }
-}
-
-/// All that a record says.
-#[derive(Clone, Copy, Debug, PartialEq, Eq)]
-pub struct Done {
-    pub pc: u32,
-    pub privilege: Priv,
-    pub word: u32,
-    pub outcome: Outcome,
-    pub rd: Option<(u8, u32)>,
-    pub accesses: [Option<Access>; 6],
-    pub next_pc: u32,
-}
-
-/// What a step says.
-#[derive(Clone, Copy, Debug, PartialEq, Eq)]
-pub enum Told {
-    Did(Done),
-    Missing(Place),
-    Outside,
-}
-
-/// The accesses, of which there are at most six.
-pub fn first_six(accesses: &[Access]) -> [Option<Access>; 6] {
-    [
-        accesses.get(0).copied(),
-        accesses.get(1).copied(),
-        accesses.get(2).copied(),
-        accesses.get(3).copied(),
-        accesses.get(4).copied(),
-        accesses.get(5).copied(),
-    ]
-}
-
-pub fn told_by(stepped: &Stepped) -> Told {
-    match stepped {
-        Stepped::Did(r) => {
-            let accesses = r.accesses.as_slice();
-            Told::Did(Done {
-                pc: r.pc,
-                privilege: r.privilege,
-                word: r.word,
-                outcome: r.outcome,
-                rd: r.rd,
-                accesses: first_six(accesses),
-                next_pc: r.next_pc,
-            })
-        }
-        Stepped::Missing(place) => Told::Missing(*place),
-        Stepped::Outside => Told::Outside,
-    }
-}
-
-/// The fetch of a word.
-pub fn fetched(pc: u32, word: u32) -> Option<Access> {
-    Some(Access {
-        role: Role::Fetch,
-        addr: pc,
-        size: 4,
-        value: word,
-    })
-}
-
-/// The record of an instruction that retires, and makes no access to data.
-pub fn retired(hart: &Hart, word: u32, rd: Option<(u8, u32)>, next_pc: u32) -> Done {
-    Done {
-        pc: hart.pc,
-        privilege: hart.privilege,
-        word,
-        outcome: Outcome::Retired,
-        rd,
-        accesses: [fetched(hart.pc, word), None, None, None, None, None],
-        next_pc,
-    }
-}
-
-/// The record of an instruction that traps: it writes no register and makes no access to data.
-pub fn trapped(hart: &Hart, word: u32, cause: u8, value: u32, to: Priv) -> Done {
-    let next_pc = match to {
-        Priv::S => TO_SUPERVISOR,
-        Priv::M | Priv::U => TO_MACHINE,
-    };
-    Done {
-        pc: hart.pc,
-        privilege: hart.privilege,
-        word,
-        outcome: Outcome::Trap { cause, value, to },
-        rd: None,
-        accesses: [fetched(hart.pc, word), None, None, None, None, None],
-        next_pc,
     }
 }
 
@@ -311,30 +176,12 @@ pub fn assert_traps(
     value: u32,
     to: Priv,
     mstatus: u32,
-) {
-    let mut memory = known(rt, alloc, &[(hart.pc, word)]);
+) -> Result<(), Fail> {
+    let mut memory = memory_of(alloc, BEYOND, &[(hart.pc, word)])?;
     let done = trapped(hart, word, cause, value, to);
     let changes = saved_by(hart.pc, cause, value, to, mstatus);
     assert_did(rt, hart, &mut memory, row, done, to, &changes);
-}
-
-/// What a trap leaves in CSRs.
-pub fn saved_by(pc: u32, cause: u8, value: u32, to: Priv, mstatus: u32) -> [(u16, u32); 4] {
-    let cause = u32::from(cause);
-    match to {
-        Priv::S => [
-            (MSTATUS, mstatus),
-            (SEPC, pc),
-            (SCAUSE, cause),
-            (STVAL, value),
-        ],
-        Priv::M | Priv::U => [
-            (MSTATUS, mstatus),
-            (MEPC, pc),
-            (MCAUSE, cause),
-            (MTVAL, value),
-        ],
-    }
+    Ok(())
 }
 
 /// MPP, as the privilege before a trap or the one that MPRV takes.

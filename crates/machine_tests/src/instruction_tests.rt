@@ -1,8 +1,11 @@
 // Instructions that retire, and what a step lacks. The tables are as `cases` reads them.
 use crate::cases::assert_cases;
-use crate::fixtures::{BEYOND, DATA, NEXT, NUMBER, RAM, Told, hart_with, known, retired, told_by};
+use crate::fixtures::{BEYOND, DATA, NEXT, NUMBER, hart_with};
 use rv_hart::{Csrs, Hart, Mem, Priv, Seen, Stepped, Words, branch_law, look, step, step_law};
 use std::process::Abort;
+use std::test::Fail;
+use step_rows::{RAM, Told, retired, told_by};
+use test_rows::memory_of;
 
 const ADDIS: &str = "\
 M 00700293 satp=0 x5=1 | retires 80000004 M | x5=7 # addi x5, x0, 7
@@ -15,8 +18,8 @@ S 00700293 satp=0 x5=1 | retires 80000004 S | x5=7
 U 00700293 satp=0 x5=1 | retires 80000004 U | x5=7";
 
 #[test]
-fn addi_retires(rt: HostRuntime) {
-    assert_cases(&rt, rt.alloc(), BEYOND, ADDIS);
+fn addi_retires(rt: HostRuntime) -> Result<(), Fail> {
+    assert_cases(&rt, rt.alloc(), BEYOND, ADDIS)
 }
 
 #[test]
@@ -81,8 +84,8 @@ M 0002d303 x5=80000042 80000040=80817f01 | retires 80000004 M | x6=8081 | load/8
 M 0002a303 x5=80000040 80000040=80817f01 | retires 80000004 M | x6=80817f01 | load/80000040/4/80817f01 # lw x6, 0(x5)";
 
 #[test]
-fn loads_extend_the_bytes_that_they_read(rt: HostRuntime) {
-    assert_cases(&rt, rt.alloc(), BEYOND, LOADS);
+fn loads_extend_the_bytes_that_they_read(rt: HostRuntime) -> Result<(), Fail> {
+    assert_cases(&rt, rt.alloc(), BEYOND, LOADS)
 }
 
 const WRAPPING: &str = "\
@@ -91,8 +94,8 @@ M 7ff2a303 x5=7ffff841 80000040=7fffffff | retires 80000004 M | x6=7fffffff | lo
 M 0002a003 x5=80000040 80000040=9 | retires 80000004 M | | load/80000040/4/9 # lw x0, 0(x5), which reads";
 
 #[test]
-fn an_address_wraps_around(rt: HostRuntime) {
-    assert_cases(&rt, rt.alloc(), BEYOND, WRAPPING);
+fn an_address_wraps_around(rt: HostRuntime) -> Result<(), Fail> {
+    assert_cases(&rt, rt.alloc(), BEYOND, WRAPPING)
 }
 
 const STORES: &str = "\
@@ -105,8 +108,8 @@ M 00729023 x5=80000042 x7=aabbccdd 80000040=11223344 | retires 80000004 M | 8000
 M 0072a023 x5=80000040 x7=aabbccdd 80000040=11223344 | retires 80000004 M | 80000040=aabbccdd 80000000=72a023 | store/80000040/4/aabbccdd # sw x7, 0(x5)";
 
 #[test]
-fn stores_change_their_bytes_alone(rt: HostRuntime) {
-    assert_cases(&rt, rt.alloc(), BEYOND, STORES);
+fn stores_change_their_bytes_alone(rt: HostRuntime) -> Result<(), Fail> {
+    assert_cases(&rt, rt.alloc(), BEYOND, STORES)
 }
 
 const BRANCHES: &str = "\
@@ -124,8 +127,8 @@ M 0062f463 x5=80000000 x6=7fffffff | retires 80000008 M # bgeu x5, x6, 8
 M 0062f463 x5=0 x6=1 | retires 80000004 M";
 
 #[test]
-fn branches_go_on_where_they_should(rt: HostRuntime) {
-    assert_cases(&rt, rt.alloc(), BEYOND, BRANCHES);
+fn branches_go_on_where_they_should(rt: HostRuntime) -> Result<(), Fail> {
+    assert_cases(&rt, rt.alloc(), BEYOND, BRANCHES)
 }
 
 const OTHERS: &str = "\
@@ -150,8 +153,8 @@ M 006294b3 x5=1 x6=21 | retires 80000004 M | x9=2 # sll x9, x5, x6
 M 41f2d493 x5=80000000 x6=1 | retires 80000004 M | x9=ffffffff # srai x9, x5, 31";
 
 #[test]
-fn other_instructions_do_as_the_manual_says(rt: HostRuntime) {
-    assert_cases(&rt, rt.alloc(), BEYOND, OTHERS);
+fn other_instructions_do_as_the_manual_says(rt: HostRuntime) -> Result<(), Fail> {
+    assert_cases(&rt, rt.alloc(), BEYOND, OTHERS)
 }
 
 const MISSING: &str = "\
@@ -170,8 +173,8 @@ S 0002c303 x5=80000043 x7=1 | needs 80000040 # lbu x6, 0(x5)
 S 00728023 x5=80000042 x7=1 | needs 80000040 # sb x7, 0(x5)";
 
 #[test]
-fn places_are_missing_in_their_order(rt: HostRuntime) {
-    assert_cases(&rt, rt.alloc(), BEYOND, MISSING);
+fn places_are_missing_in_their_order(rt: HostRuntime) -> Result<(), Fail> {
+    assert_cases(&rt, rt.alloc(), BEYOND, MISSING)
 }
 
 /// The instruction word is missing before all.
@@ -179,8 +182,8 @@ const NO_WORD: &str = "\
 M - | needs 80000000";
 
 #[test]
-fn the_instruction_word_is_missing_before_all(rt: HostRuntime) {
-    assert_cases(&rt, rt.alloc(), BEYOND, NO_WORD);
+fn the_instruction_word_is_missing_before_all(rt: HostRuntime) -> Result<(), Fail> {
+    assert_cases(&rt, rt.alloc(), BEYOND, NO_WORD)
 }
 
 /// Words that no instruction has.
@@ -211,8 +214,8 @@ S fffffffe | outside
 M fffffffe | outside";
 
 #[test]
-fn other_words_are_outside(rt: HostRuntime) {
-    assert_cases(&rt, rt.alloc(), BEYOND, OUTSIDE);
+fn other_words_are_outside(rt: HostRuntime) -> Result<(), Fail> {
+    assert_cases(&rt, rt.alloc(), BEYOND, OUTSIDE)
 }
 
 /// Steps twice by the bound alone.
@@ -224,13 +227,14 @@ fn step_twice<M: Mem>(rt: &impl Abort, hart: &mut Hart, m: &mut M) {
 }
 
 #[test]
-fn a_later_instruction_sees_the_store(rt: HostRuntime) {
+fn a_later_instruction_sees_the_store(rt: HostRuntime) -> Result<(), Fail> {
     // sw x7, 0(x5), which makes the next word sw x0, 0(x6)
     let words = [(RAM, 0x0072_A023), (NEXT, 0), (DATA, 1)];
-    let mut memory = known(&rt, rt.alloc(), &words);
+    let mut memory = memory_of(rt.alloc(), BEYOND, &words)?;
     let regs = [(5, NEXT), (6, DATA), (7, 0x0003_2023)];
     let mut hart = hart_with(&rt, RAM, Priv::M, &[], &regs);
     step_twice(&rt, &mut hart, &mut memory);
     assert_eq!(rt; memory.word(DATA), Seen::Known(0));
     assert_eq!(rt; hart.pc, RAM + 8);
+    Ok(())
 }

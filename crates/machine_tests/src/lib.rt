@@ -1,4 +1,4 @@
-//! Tests of the machine by its public calls: the translation of addresses, and steps of a hart.
+//! Tests of steps of a hart, by the machine's public calls.
 #![tactic(auto)]
 
 #[cfg(test)]
@@ -10,12 +10,8 @@ mod fixtures;
 #[cfg(test)]
 mod instruction_tests;
 #[cfg(test)]
-mod rows;
-#[cfg(test)]
 mod sight_tests;
 #[cfg(test)]
 mod translation_tests;
 #[cfg(test)]
 mod trap_tests;
-#[cfg(test)]
-mod walk_tests;

@@ -1,6 +1,7 @@
 // Steps that see the words of sights, each `ROLE/ADDRESS=WORD`. The tables are else as `cases` reads them.
 use crate::cases::assert_sighted_cases;
 use crate::fixtures::{BEYOND, PAGES};
+use std::test::Fail;
 
 /// A fetch sees the word that a store replaced, with a sight of a fetch alone.
 const REPLACED: &str = "\
@@ -12,8 +13,8 @@ M 0062a023 x5=80000004 x6=200093 80000004=100093 1/80000004=100093 | retires 800
 M @00200093 pc=80000004 x5=80000004 x6=200093 80000000=62a023 80000004=200093 0/80000004=100093 2/80000004=100093 | retires 80000008 M | x1=2 80000004=200093 | fetch/80000004/4/200093";
 
 #[test]
-fn a_fetch_sees_the_word_that_a_store_replaced(rt: HostRuntime) {
-    assert_sighted_cases(&rt, rt.alloc(), BEYOND, REPLACED);
+fn a_fetch_sees_the_word_that_a_store_replaced(rt: HostRuntime) -> Result<(), Fail> {
+    assert_sighted_cases(&rt, rt.alloc(), BEYOND, REPLACED)
 }
 
 /// A store in S that rests on five words, of which one may not be known.
@@ -37,32 +38,32 @@ S @0052a023 pc=400000 satp=80080001 x5=401abc 80001004=20000801 80002000=20000c4
 S @0052a023 pc=400000 satp=80080001 x5=401abc 80001004=20000801 80002000=20000c4b 80003000=52a023 80002004=200000c7 80000abc=9 0/80003000=0 0/80002004=0 1/80002004=0 2/80000abc=0 | retires 00400004 S | 80000abc=401abc | walk/80001004/4/20000801 walk/80002000/4/20000c4b fetch/80003000/4/52a023 walk/80001004/4/20000801 walk/80002004/4/200000c7 store/80000abc/4/401abc";
 
 #[test]
-fn a_sight_stands_for_the_word_of_its_role(rt: HostRuntime) {
-    assert_sighted_cases(&rt, rt.alloc(), PAGES, ROLES);
+fn a_sight_stands_for_the_word_of_its_role(rt: HostRuntime) -> Result<(), Fail> {
+    assert_sighted_cases(&rt, rt.alloc(), PAGES, ROLES)
 }
 
 const KNOWN: &str = "\
 S @00700293 pc=400000 satp=80080001 x6=1 80001004=0 80002000=20000c4b 80003000=0 0/80001004=20000801 1/80003000=700293 | retires 00400004 S | x5=7 80001004=0 80003000=0 | walk/80001004/4/20000801 walk/80002000/4/20000c4b fetch/80003000/4/700293";
 
 #[test]
-fn sights_go_before_known_words(rt: HostRuntime) {
-    assert_sighted_cases(&rt, rt.alloc(), PAGES, KNOWN);
+fn sights_go_before_known_words(rt: HostRuntime) -> Result<(), Fail> {
+    assert_sighted_cases(&rt, rt.alloc(), PAGES, KNOWN)
 }
 
 const LOADED: &str = "\
 M 0002a303 x5=80000004 80000004=9 0/80000004=8 1/80000004=8 2/80000004=8 | retires 80000004 M | x6=9 | load/80000004/4/9";
 
 #[test]
-fn a_load_sees_memory(rt: HostRuntime) {
-    assert_sighted_cases(&rt, rt.alloc(), BEYOND, LOADED);
+fn a_load_sees_memory(rt: HostRuntime) -> Result<(), Fail> {
+    assert_sighted_cases(&rt, rt.alloc(), BEYOND, LOADED)
 }
 
 const BEHIND: &str = "\
 M - pc=80000100 mtvec=80000200 1/80000100=700293 | traps 1 80000100 M 1800";
 
 #[test]
-fn no_sight_makes_ram(rt: HostRuntime) {
-    assert_sighted_cases(&rt, rt.alloc(), BEYOND, BEHIND);
+fn no_sight_makes_ram(rt: HostRuntime) -> Result<(), Fail> {
+    assert_sighted_cases(&rt, rt.alloc(), BEYOND, BEHIND)
 }
 
 /// A root table outside RAM, whose entry would lead to a superpage in RAM.
@@ -70,6 +71,6 @@ const TABLE: &str = "\
 S - pc=400abc satp=80090001 mtvec=80000200 0/90001004=200000cf 1/80000abc=700293 | traps 1 400abc M 800";
 
 #[test]
-fn no_sight_makes_a_table(rt: HostRuntime) {
-    assert_sighted_cases(&rt, rt.alloc(), PAGES, TABLE);
+fn no_sight_makes_a_table(rt: HostRuntime) -> Result<(), Fail> {
+    assert_sighted_cases(&rt, rt.alloc(), PAGES, TABLE)
 }

@@ -2,6 +2,7 @@
 // `cases` reads them.
 use crate::cases::assert_cases;
 use crate::fixtures::{BEYOND, PAGES};
+use std::test::Fail;
 
 /// Loads in M that go by MPP, by the entries of their page.
 const LOADS: &str = "\
@@ -35,8 +36,8 @@ M 0002a303 mstatus=20800 satp=80080001 mtvec=80000200 x5=400abc 80001004=6000080
 M 0002a303 mstatus=20800 satp=80080001 mtvec=80000200 x5=400abc 80001004=fffffc01 80002000=0 | traps 5 400abc M 21800 | | walk/80001004/4/fffffc01";
 
 #[test]
-fn entries_let_loads_through(rt: HostRuntime) {
-    assert_cases(&rt, rt.alloc(), PAGES, LOADS);
+fn entries_let_loads_through(rt: HostRuntime) -> Result<(), Fail> {
+    assert_cases(&rt, rt.alloc(), PAGES, LOADS)
 }
 
 /// Stores in M that go by MPP, by the entries of their page.
@@ -71,8 +72,8 @@ M 0052a023 mstatus=20800 satp=80080001 mtvec=80000200 x5=400abc 80001004=6000080
 M 0052a023 mstatus=20800 satp=80080001 mtvec=80000200 x5=400abc 80001004=fffffc01 80002000=0 | traps 7 400abc M 21800 | | walk/80001004/4/fffffc01";
 
 #[test]
-fn entries_let_stores_through(rt: HostRuntime) {
-    assert_cases(&rt, rt.alloc(), PAGES, STORES);
+fn entries_let_stores_through(rt: HostRuntime) -> Result<(), Fail> {
+    assert_cases(&rt, rt.alloc(), PAGES, STORES)
 }
 
 /// Fetches, by the entries of their page.
@@ -107,8 +108,8 @@ S - pc=400abc mstatus=0 satp=80080001 mtvec=80000200 80001004=60000801 80002000=
 S - pc=400abc mstatus=0 satp=80080001 mtvec=80000200 80001004=fffffc01 80002000=0 | traps 1 400abc M 800 | | walk/80001004/4/fffffc01";
 
 #[test]
-fn entries_let_fetches_through(rt: HostRuntime) {
-    assert_cases(&rt, rt.alloc(), PAGES, FETCHES);
+fn entries_let_fetches_through(rt: HostRuntime) -> Result<(), Fail> {
+    assert_cases(&rt, rt.alloc(), PAGES, FETCHES)
 }
 
 /// Loads and stores where the root table lies outside RAM: what is not translated goes to the address itself.
@@ -139,8 +140,8 @@ U 0002a303 mstatus=20800 satp=0 mtvec=80000200 x5=80000040 80000040=9 | retires 
 U 0052a023 mstatus=20800 satp=0 mtvec=80000200 x5=80000040 80000040=9 | retires 80000004 U | 80000040=80000040 | store/80000040/4/80000040";
 
 #[test]
-fn modes_tell_what_is_translated(rt: HostRuntime) {
-    assert_cases(&rt, rt.alloc(), BEYOND, MODES);
+fn modes_tell_what_is_translated(rt: HostRuntime) -> Result<(), Fail> {
+    assert_cases(&rt, rt.alloc(), BEYOND, MODES)
 }
 
 /// A misaligned address traps before it is translated.
@@ -148,8 +149,8 @@ const MISALIGNED: &str = "\
 M 0002a303 mstatus=20800 satp=80000000 mtvec=80000200 x5=80000042 | traps 4 80000042 M 21800";
 
 #[test]
-fn a_misaligned_address_traps_before_it_is_translated(rt: HostRuntime) {
-    assert_cases(&rt, rt.alloc(), BEYOND, MISALIGNED);
+fn a_misaligned_address_traps_before_it_is_translated(rt: HostRuntime) -> Result<(), Fail> {
+    assert_cases(&rt, rt.alloc(), BEYOND, MISALIGNED)
 }
 
 /// Loads in S with MPRV, whose fetch goes by S and whose data goes by MPP.
@@ -158,8 +159,8 @@ S @0002a303 pc=400abc mstatus=21800 satp=80080001 mtvec=80000200 x5=80000040 800
 S @0002a303 pc=400abc mstatus=20000 satp=80080001 mtvec=80000200 x5=400abc 80001004=20000801 80002000=20000c4b 80003abc=2a303 80000040=9 | traps 13 400abc M 20800 | | walk/80001004/4/20000801 walk/80002000/4/20000c4b fetch/80003abc/4/2a303 walk/80001004/4/20000801 walk/80002000/4/20000c4b";
 
 #[test]
-fn data_goes_by_mpp_below_m_too(rt: HostRuntime) {
-    assert_cases(&rt, rt.alloc(), PAGES, BELOW_M);
+fn data_goes_by_mpp_below_m_too(rt: HostRuntime) -> Result<(), Fail> {
+    assert_cases(&rt, rt.alloc(), PAGES, BELOW_M)
 }
 
 /// A load in S whose data page has its root entry after that of its code page.
@@ -172,22 +173,22 @@ S - pc=400000 satp=80080001 medeleg=2000 80001004=20000801 80002000=20000c4b 800
 S - pc=400000 satp=80080001 medeleg=2000 80001004=20000801 80002000=20000c4b 80003000=2a303 80001008=20000000 x5=802000 | needs stvec";
 
 #[test]
-fn entries_are_needed_in_the_order_of_the_walk(rt: HostRuntime) {
-    assert_cases(&rt, rt.alloc(), PAGES, NEEDS);
+fn entries_are_needed_in_the_order_of_the_walk(rt: HostRuntime) -> Result<(), Fail> {
+    assert_cases(&rt, rt.alloc(), PAGES, NEEDS)
 }
 
 const DELEGATED: &str = "\
 S @0002a303 pc=400000 satp=80080001 medeleg=2000 stvec=80000400 x5=802000 80001004=20000801 80002000=20000c4b 80003000=2a303 80001008=20000000 | traps 13 802000 S 100 | | walk/80001004/4/20000801 walk/80002000/4/20000c4b fetch/80003000/4/2a303 walk/80001008/4/20000000";
 
 #[test]
-fn a_page_fault_is_delegated(rt: HostRuntime) {
-    assert_cases(&rt, rt.alloc(), PAGES, DELEGATED);
+fn a_page_fault_is_delegated(rt: HostRuntime) -> Result<(), Fail> {
+    assert_cases(&rt, rt.alloc(), PAGES, DELEGATED)
 }
 
 const TWO_WALKS: &str = "\
 S @0052a023 pc=400000 satp=80080001 x5=401abc 80001004=20000801 80002000=20000c4b 80003000=52a023 80002004=200000c7 80000abc=9 | retires 00400004 S | 80000abc=401abc | walk/80001004/4/20000801 walk/80002000/4/20000c4b fetch/80003000/4/52a023 walk/80001004/4/20000801 walk/80002004/4/200000c7 store/80000abc/4/401abc";
 
 #[test]
-fn a_step_may_walk_twice(rt: HostRuntime) {
-    assert_cases(&rt, rt.alloc(), PAGES, TWO_WALKS);
+fn a_step_may_walk_twice(rt: HostRuntime) -> Result<(), Fail> {
+    assert_cases(&rt, rt.alloc(), PAGES, TWO_WALKS)
 }

@@ -3,13 +3,13 @@
 ghost use Rattle.std.specs.Prelude.{◌<◌};
 
 use crate::cases::assert_cases;
-use crate::fixtures::{
-    BEYOND, MEDELEG, MSTATUS, MTVEC, RAM, STVEC, TO_MACHINE, TO_SUPERVISOR, assert_traps, hart_with,
-};
-use crate::rows::Row;
+use crate::fixtures::{BEYOND, MEDELEG, MTVEC, STVEC, assert_traps, hart_with};
 use rv_hart::Priv;
 use std::alloc::Global;
 use std::process::Abort;
+use std::test::Fail;
+use step_rows::{MSTATUS, RAM, TO_MACHINE, TO_SUPERVISOR};
+use test_rows::Row;
 
 const CHANGES: &str = "\
 M 30200073 mepc=400000 | retires 00400000 U | mstatus=80 # mret
@@ -20,8 +20,8 @@ U f14020f3 medeleg=b3fb mtvec=80000200 | traps 2 f14020f3 M 0 # csrrs x1, mharti
 U f14020f3 medeleg=4 stvec=80000400 | traps 2 f14020f3 S 0";
 
 #[test]
-fn traps_and_returns_change_the_status(rt: HostRuntime) {
-    assert_cases(&rt, rt.alloc(), BEYOND, CHANGES);
+fn traps_and_returns_change_the_status(rt: HostRuntime) -> Result<(), Fail> {
+    assert_cases(&rt, rt.alloc(), BEYOND, CHANGES)
 }
 
 const IN_MACHINE_MODE: &str = "\
@@ -30,8 +30,8 @@ M 00000000 mtvec=80000200 | traps 2 0 M 1800
 M - pc=90000000 mtvec=80000200 80000000=13 | traps 1 90000000 M 1800 # a fetch from outside RAM";
 
 #[test]
-fn three_steps_trap_in_machine_mode(rt: HostRuntime) {
-    assert_cases(&rt, rt.alloc(), BEYOND, IN_MACHINE_MODE);
+fn three_steps_trap_in_machine_mode(rt: HostRuntime) -> Result<(), Fail> {
+    assert_cases(&rt, rt.alloc(), BEYOND, IN_MACHINE_MODE)
 }
 
 /// A way to raise a cause: the cause, the word, x5, the trap value.
@@ -116,16 +116,16 @@ struct Raised {
     value: u32,
 }
 
-fn raised_of(rt: &impl Abort, line: &str) -> Raised {
+fn raised_of(line: &str) -> Result<Raised, Fail> {
     let mut row = Row::of(line);
     let raised = Raised {
-        cause: row.small(rt),
-        word: row.number(rt),
-        x5: row.number(rt),
-        value: row.number(rt),
+        cause: row.small()?,
+        word: row.number()?,
+        x5: row.number()?,
+        value: row.number()?,
     };
-    row.end(rt);
-    raised
+    row.end()?;
+    Ok(raised)
 }
 
 fn assert_raised(
@@ -134,7 +134,7 @@ fn assert_raised(
     line: &str,
     raised: Raised,
     taken: (Priv, bool, Priv),
-) {
+) -> Result<(), Fail> {
     let Raised {
         cause,
         word,
@@ -146,17 +146,18 @@ fn assert_raised(
     let csrs = vectors(delegated(cause, is_delegated));
     let mut hart = hart_with(rt, RAM, from, &csrs, &[(5, x5)]);
     let after = status_after(from, to);
-    assert_traps(rt, alloc, &mut hart, line, word, cause, value, to, after);
+    assert_traps(rt, alloc, &mut hart, line, word, cause, value, to, after)
 }
 
 #[test]
-fn each_cause_goes_where_medeleg_says(rt: HostRuntime) {
+fn each_cause_goes_where_medeleg_says(rt: HostRuntime) -> Result<(), Fail> {
     for line in RAISED.lines() {
-        let raised = raised_of(&rt, line);
+        let raised = raised_of(line)?;
         for taken in TAKEN {
-            assert_raised(&rt, rt.alloc(), line, raised, taken);
+            assert_raised(&rt, rt.alloc(), line, raised, taken)?;
         }
     }
+    Ok(())
 }
 
 /// Fetches from outside RAM.
@@ -187,8 +188,8 @@ M - pc=0 medeleg=b3fd mstatus=a mtvec=80000200 stvec=80000400 80000000=13 | trap
 M - pc=0 medeleg=2 mstatus=a mtvec=80000200 stvec=80000400 80000000=13 | traps 1 0 M 1882";
 
 #[test]
-fn a_fetch_outside_ram_goes_where_medeleg_says(rt: HostRuntime) {
-    assert_cases(&rt, rt.alloc(), BEYOND, FETCHES);
+fn a_fetch_outside_ram_goes_where_medeleg_says(rt: HostRuntime) -> Result<(), Fail> {
+    assert_cases(&rt, rt.alloc(), BEYOND, FETCHES)
 }
 
 const CALLS: &str = "\
@@ -199,8 +200,8 @@ S 00000073 pc=80000010 medeleg=200 mstatus=a mtvec=80000200 stvec=80000400 | tra
 M 00000073 pc=80000010 medeleg=b3ff mstatus=a mtvec=80000200 stvec=80000400 | traps 11 0 M 1882";
 
 #[test]
-fn ecall_has_the_cause_of_its_privilege(rt: HostRuntime) {
-    assert_cases(&rt, rt.alloc(), BEYOND, CALLS);
+fn ecall_has_the_cause_of_its_privilege(rt: HostRuntime) -> Result<(), Fail> {
+    assert_cases(&rt, rt.alloc(), BEYOND, CALLS)
 }
 
 /// SFENCE.VMA, SRET and MRET, which need no register.
@@ -224,8 +225,8 @@ S 12628073 mstatus=100000 mtvec=80000200 | traps 2 12628073 M 100800
 S 12628073 mstatus=0 mtvec=80000200 | retires 80000004 S # no register is known";
 
 #[test]
-fn instructions_are_illegal_in_lower_privileges(rt: HostRuntime) {
-    assert_cases(&rt, rt.alloc(), BEYOND, WITHHELD);
+fn instructions_are_illegal_in_lower_privileges(rt: HostRuntime) -> Result<(), Fail> {
+    assert_cases(&rt, rt.alloc(), BEYOND, WITHHELD)
 }
 
 const RETURNS: &str = "\
@@ -244,8 +245,8 @@ M 10200073 mstatus=400000 mepc=400000 sepc=400404 | retires 00400404 U | mstatus
 M 10200073 mstatus=5e19aa mepc=400000 sepc=400404 | retires 00400404 S | mstatus=5c18aa";
 
 #[test]
-fn returns_go_to_the_saved_privilege_and_pc(rt: HostRuntime) {
-    assert_cases(&rt, rt.alloc(), BEYOND, RETURNS);
+fn returns_go_to_the_saved_privilege_and_pc(rt: HostRuntime) -> Result<(), Fail> {
+    assert_cases(&rt, rt.alloc(), BEYOND, RETURNS)
 }
 
 const LACKS: &str = "\
@@ -274,6 +275,6 @@ U 10200073 sepc=0 | needs mtvec
 M - pc=80000100 stvec=0 80000000=0 | needs mtvec # a fetch from outside RAM";
 
 #[test]
-fn a_trap_needs_its_vector_last(rt: HostRuntime) {
-    assert_cases(&rt, rt.alloc(), BEYOND, LACKS);
+fn a_trap_needs_its_vector_last(rt: HostRuntime) -> Result<(), Fail> {
+    assert_cases(&rt, rt.alloc(), BEYOND, LACKS)
 }

@@ -2,15 +2,9 @@
 #![tactic(auto)]
 
 #[cfg(test)]
-mod making;
-#[cfg(test)]
-mod rows;
-#[cfg(test)]
-mod shown;
+mod seen;
 #[cfg(test)]
 mod steps;
-#[cfg(test)]
-mod view;
 #[cfg(test)]
 mod walk;
 #[cfg(test)]

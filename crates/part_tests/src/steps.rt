@@ -6,137 +6,177 @@
 // `records HART COUNT`, `mark COUNT`, `touch HART ROLE BYTE HART ROLE` of an access to a byte, or `free HART ROLE BYTE`.
 // A place is `reg 5`, `csr 305` or `word 80000000`; `-` is no value. Numbers are hexadecimal but for those of registers,
 // names, harts and counts.
-use crate::making::Making;
-use crate::rows::Row;
-use crate::shown::{assert_text, shown};
-use crate::view::{assert_view, view_of};
+use crate::seen::{assert_view, view_now};
 use foot_map::Clash;
+use part_making::{Making, record_text};
 use part_state::{OutOfMemory, Probe};
 use rv_hart::{Record, Seen};
-use rv_script::{Place, Role};
+use rv_script::Place;
 use std::alloc::Global;
 use std::process::Abort;
+use std::test::Fail;
+use test_rows::{Row, number_of, role_of};
 use tpl_admit::{Dropped, Why};
 
-fn place_of(rt: &impl Abort, row: &mut Row<'_>) -> Place {
-    match row.word(rt) {
-        "reg" => Place::Reg(row.small(rt)),
-        "csr" => Place::Csr(row.address(rt)),
-        "word" => Place::Word(row.number(rt)),
-        _ => panic!(rt; "no place: {}", row.line),
-    }
-}
-
-fn role_of(rt: &impl Abort, row: &mut Row<'_>) -> Role {
-    match row.word(rt) {
-        "fetch" => Role::Fetch,
-        "walk" => Role::Walk,
-        "load" => Role::Load,
-        "store" => Role::Store,
-        _ => panic!(rt; "no role: {}", row.line),
+fn place_of(row: &mut Row<'_>) -> Result<Place, Fail> {
+    match row.word()? {
+        "reg" => Ok(Place::Reg(row.small()?)),
+        "csr" => Ok(Place::Csr(row.address()?)),
+        "word" => Ok(Place::Word(row.number()?)),
+        _ => Err(row.lacks("place")),
     }
 }
 
 /// A byte of a hart's footprint.
-fn clash_of(rt: &impl Abort, byte: u32, row: &mut Row<'_>) -> Clash {
-    Clash {
+fn clash_of(byte: u32, row: &mut Row<'_>) -> Result<Clash, Fail> {
+    Ok(Clash {
         byte,
-        hart: row.small(rt),
-        role: role_of(rt, row),
+        hart: row.small()?,
+        role: role_of(row.word()?)?,
+    })
+}
+
+fn why_of(row: &mut Row<'_>) -> Result<Why, Fail> {
+    match row.word()? {
+        "none" => Ok(Why::NoneFits),
+        "spent" => Ok(Why::Spent),
+        _ => Err(row.lacks("reason")),
     }
 }
 
-fn dropped_of(rt: &impl Abort, row: &mut Row<'_>) -> Dropped {
-    Dropped {
-        hart: row.count(rt),
-        step: row.count(rt),
-        atom: row.count(rt),
-        why: match row.word(rt) {
-            "none" => Why::NoneFits,
-            "spent" => Why::Spent,
-            _ => panic!(rt; "no reason: {}", row.line),
-        },
-    }
+fn dropped_of(row: &mut Row<'_>) -> Result<Dropped, Fail> {
+    Ok(Dropped {
+        hart: row.count()?,
+        step: row.count()?,
+        atom: row.count()?,
+        why: why_of(row)?,
+    })
 }
 
-/// Ends the test at a line that isn't so.
-fn check(rt: &impl Abort, is_so: bool, line: &str) {
-    assert!(rt; is_so, "{line}");
+fn assert_text(rt: &impl Abort, text: &str, want: &str) {
+    assert_eq!(rt; text, want);
 }
 
-fn assert_record(rt: &impl Abort, alloc: Global, did: &Record, want: &str) {
-    let text = shown(rt, alloc, did);
+fn assert_record(rt: &impl Abort, alloc: Global, did: &Record, want: &str) -> Result<(), Fail> {
+    let text = record_text(alloc, did)?;
     assert_text(rt, text.as_str(), want);
+    Ok(())
+}
+
+/// A change of a test.
+#[derive(Clone, Copy)]
+enum Change {
+    Give(u8, Place, u32),
+    Step(u8),
+    Bind(u32, u32),
+    Choice(u32),
+    GiveUp(Dropped),
+}
+
+fn change_of(line: &str) -> Result<Change, Fail> {
+    let mut row = Row::of(line);
+    match row.word()? {
+        "give" => Ok(Change::Give(row.small()?, place_of(&mut row)?, row.number()?)),
+        "step" => Ok(Change::Step(row.small()?)),
+        "bind" => Ok(Change::Bind(row.count()?, row.number()?)),
+        "choice" => Ok(Change::Choice(row.count()?)),
+        _ => Ok(Change::GiveUp(dropped_of(&mut row)?)),
+    }
+}
+
+/// What came of a change.
+#[derive(Drop)]
+enum Made {
+    Changed(bool),
+    Stepped(Record),
+}
+
+/// Changes the test, where it can be changed so.
+fn make(making: &mut Making, change: Change) -> Result<Made, OutOfMemory> {
+    let is_made = match change {
+        Change::Give(hart, place, value) => making.give(hart, place, value)?,
+        Change::Step(hart) => match making.step(hart)? {
+            Some(did) => return Ok(Made::Stepped(did)),
+            None => false,
+        },
+        Change::Bind(name, value) => making.bind(name, value)?,
+        Change::Choice(way) => making.choose(way)?,
+        Change::GiveUp(wish) => making.give_up(wish)?,
+    };
+    Ok(Made::Changed(is_made))
+}
+
+/// Changes the test. A refusal of memory changes nothing, and the next call makes the change.
+fn change_made(
+    rt: &impl Abort,
+    making: &mut Making,
+    change: Change,
+    line: &str,
+) -> Result<Made, Fail> {
+    let before = view_now(rt, making);
+    match make(making, change) {
+        Ok(made) => Ok(made),
+        Err(_) => {
+            assert_view(rt, making, &before, line);
+            Ok(make(making, change)?)
+        }
+    }
+}
+
+/// What stands behind the `>` of a line.
+fn record_in(line: &str) -> Result<&str, Fail> {
+    match line.split_once('>') {
+        Some((_, want)) => Ok(want),
+        None => Err(Fail::new(format_args!("no record: {line}"))),
+    }
 }
 
 /// The next step of a hart would be this.
-fn is_ready(rt: &impl Abort, alloc: Global, making: &Making, hart: u8, want: &str) -> bool {
+fn is_ready(
+    rt: &impl Abort,
+    alloc: Global,
+    making: &Making,
+    hart: u8,
+    want: &str,
+) -> Result<bool, Fail> {
     match making.probe(hart) {
         Some(Probe::Ready(did)) => {
-            assert_record(rt, alloc, &did, want);
-            true
+            assert_record(rt, alloc, &did, want)?;
+            Ok(true)
         }
-        _ => false,
+        _ => Ok(false),
     }
 }
 
 /// The step is what the look at it said, and the last record of its hart.
-fn step(
-    rt: &impl Abort,
-    alloc: Global,
-    making: &mut Making,
-    hart: u8,
-    want: &str,
-) -> Result<bool, OutOfMemory> {
-    if !is_ready(rt, alloc, making, hart, want) {
-        return Ok(false);
-    }
-    match making.step(hart)? {
-        Some(did) => assert_record(rt, alloc, &did, want),
-        None => return Ok(false),
-    }
-    assert_record(rt, alloc, making.last_record(rt, hart), want);
-    Ok(true)
-}
-
-/// What stands behind the `>` of a line.
-fn record_in<'a>(rt: &impl Abort, line: &'a str) -> &'a str {
-    line.split_once('>').expect(rt, line).1
-}
-
-/// Changes the test as a line says, where it can be changed so.
-fn change(
+fn is_stepped(
     rt: &impl Abort,
     alloc: Global,
     making: &mut Making,
     line: &str,
-) -> Result<bool, OutOfMemory> {
-    let mut row = Row::of(line);
-    match row.word(rt) {
-        "give" => {
-            let hart = row.small(rt);
-            let place = place_of(rt, &mut row);
-            making.give(hart, place, row.number(rt))
-        }
-        "step" => step(rt, alloc, making, row.small(rt), record_in(rt, line)),
-        "bind" => {
-            let name = row.count(rt);
-            making.bind(name, row.number(rt))
-        }
-        "choice" => making.choose(row.count(rt)),
-        _ => making.give_up(dropped_of(rt, &mut row)),
+) -> Result<bool, Fail> {
+    let want = record_in(line)?;
+    let change = change_of(line)?;
+    let Change::Step(hart) = change else {
+        return Ok(false);
+    };
+    if !is_ready(rt, alloc, making, hart, want)? {
+        return Ok(false);
     }
+    let Made::Stepped(did) = change_made(rt, making, change, line)? else {
+        return Ok(false);
+    };
+    assert_record(rt, alloc, &did, want)?;
+    let last = making.records(hart).and_then(|records| records.last());
+    assert_record(rt, alloc, last.ok_or("a record")?, want)?;
+    Ok(true)
 }
 
-/// Changes the test. A refusal of memory changes nothing, and the next call makes the change.
-fn is_changed(rt: &impl Abort, alloc: Global, making: &mut Making, line: &str) -> bool {
-    let before = view_of(rt, making);
-    match change(rt, alloc, making, line) {
-        Ok(done) => done,
-        Err(_) => {
-            assert_view(rt, making, &before, line);
-            change(rt, alloc, making, line).expect(rt, line)
-        }
+/// Another change is made as a line says.
+fn is_changed(rt: &impl Abort, making: &mut Making, line: &str) -> Result<bool, Fail> {
+    match change_made(rt, making, change_of(line)?, line)? {
+        Made::Changed(is_made) => Ok(is_made),
+        Made::Stepped(_) => Ok(false),
     }
 }
 
@@ -149,116 +189,125 @@ fn is_clash(probe: &Option<Probe>, clash: Clash) -> bool {
 }
 
 /// What is seen of a word of memory.
-fn seen_of(rt: &impl Abort, row: &mut Row<'_>) -> Seen {
-    match row.word(rt) {
-        "-" => Seen::Untouched,
-        "none" => Seen::Vacant,
-        word => Seen::Known(u32::from_str_radix(word, 16).expect(rt, row.line)),
+fn seen_of(row: &mut Row<'_>) -> Result<Seen, Fail> {
+    match row.word()? {
+        "-" => Ok(Seen::Untouched),
+        "none" => Ok(Seen::Vacant),
+        word => Ok(Seen::Known(number_of(word)?)),
     }
 }
 
 /// The next step of a hart lacks a place.
-fn lacks(rt: &impl Abort, making: &Making, row: &mut Row<'_>) -> bool {
-    let probe = making.probe(row.small(rt));
-    is_missing(&probe, place_of(rt, row))
+fn lacks(making: &Making, row: &mut Row<'_>) -> Result<bool, Fail> {
+    let probe = making.probe(row.small()?);
+    Ok(is_missing(&probe, place_of(row)?))
 }
 
 /// The next step of a hart would race.
-fn clashes(rt: &impl Abort, making: &Making, row: &mut Row<'_>) -> bool {
-    let probe = making.probe(row.small(rt));
-    let byte = row.number(rt);
-    is_clash(&probe, clash_of(rt, byte, row))
+fn clashes(making: &Making, row: &mut Row<'_>) -> Result<bool, Fail> {
+    let probe = making.probe(row.small()?);
+    let byte = row.number()?;
+    Ok(is_clash(&probe, clash_of(byte, row)?))
 }
 
 /// An access to a byte would race with a touch of the same byte, or with none.
-fn touches(rt: &impl Abort, making: &Making, row: &mut Row<'_>, is_free: bool) -> bool {
-    let hart = row.small(rt);
-    let role = role_of(rt, row);
-    let byte = row.number(rt);
+fn touches(making: &Making, row: &mut Row<'_>, is_free: bool) -> Result<bool, Fail> {
+    let hart = row.small()?;
+    let role = role_of(row.word()?)?;
+    let byte = row.number()?;
     let found = making.clash(hart, role, byte);
     if is_free {
-        found.is_none()
+        Ok(found.is_none())
     } else {
-        found == Some(clash_of(rt, byte, row))
+        Ok(found == Some(clash_of(byte, row)?))
     }
 }
 
 /// The value of a place is this, or it isn't known.
-fn is_known(rt: &impl Abort, making: &Making, row: &mut Row<'_>) -> bool {
-    let hart = row.small(rt);
-    let value = making.value_of(hart, place_of(rt, row));
-    value == row.option(rt)
+fn is_known(making: &Making, row: &mut Row<'_>) -> Result<bool, Fail> {
+    let hart = row.small()?;
+    let value = making.value_of(hart, place_of(row)?);
+    Ok(value == row.option()?)
+}
+
+/// A hart has so many records.
+fn has_records(making: &Making, row: &mut Row<'_>) -> Result<bool, Fail> {
+    let records = making.records(row.small()?).ok_or("a hart")?;
+    Ok(records.len() == row.count()? as usize)
 }
 
 /// What a line says of a hart.
-fn is_hart_so(rt: &impl Abort, making: &Making, word: &str, row: &mut Row<'_>) -> bool {
-    let hart = making.hart(rt, row.small(rt));
+fn is_hart_so(making: &Making, word: &str, row: &mut Row<'_>) -> Result<bool, Fail> {
+    let hart = making.hart(row.small()?).ok_or("a hart")?;
     let value = match word {
         "pc" => hart.pc,
         "mstatus" => hart.csrs.mstatus(),
-        _ => panic!(rt; "no line: {}", row.line),
+        _ => return Err(row.lacks("line")),
     };
-    value == row.number(rt)
+    Ok(value == row.number()?)
 }
 
 /// What a line says of values and records.
-fn is_true(rt: &impl Abort, making: &Making, word: &str, row: &mut Row<'_>) -> bool {
+fn is_true(making: &Making, word: &str, row: &mut Row<'_>) -> Result<bool, Fail> {
     match word {
-        "known" => is_known(rt, making, row),
-        "name" => making.name(row.count(rt)) == row.option(rt),
-        "memory" => making.memory(row.number(rt)) == seen_of(rt, row),
-        "records" => making.records(rt, row.small(rt)).len() == row.count(rt) as usize,
-        _ => is_hart_so(rt, making, word, row),
+        "known" => is_known(making, row),
+        "name" => Ok(making.name(row.count()?) == row.option()?),
+        "memory" => Ok(making.memory(row.number()?) == seen_of(row)?),
+        "records" => has_records(making, row),
+        _ => is_hart_so(making, word, row),
     }
 }
 
 /// What a line says is so.
-fn is_seen(rt: &impl Abort, making: &Making, line: &str) -> bool {
+fn is_seen(making: &Making, line: &str) -> Result<bool, Fail> {
     let mut row = Row::of(line);
-    match row.word(rt) {
-        "lacks" => lacks(rt, making, &mut row),
-        "clash" => clashes(rt, making, &mut row),
-        "outside" => matches!(making.probe(row.small(rt)), Some(Probe::Outside)),
-        "touch" => touches(rt, making, &mut row, false),
-        "free" => touches(rt, making, &mut row, true),
-        "mark" => making.mark() == row.count(rt) as usize,
-        word => is_true(rt, making, word, &mut row),
+    match row.word()? {
+        "lacks" => lacks(making, &mut row),
+        "clash" => clashes(making, &mut row),
+        "outside" => Ok(matches!(making.probe(row.small()?), Some(Probe::Outside))),
+        "touch" => touches(making, &mut row, false),
+        "free" => touches(making, &mut row, true),
+        "mark" => Ok(making.mark() == row.count()? as usize),
+        word => is_true(making, word, &mut row),
     }
 }
 
 /// Goes back to the mark of a line.
-fn is_back(rt: &impl Abort, making: &mut Making, line: &str) -> bool {
+fn is_back(making: &mut Making, line: &str) -> Result<bool, Fail> {
     let mut row = Row::of(line);
-    let _ = row.word(rt);
-    making.back(row.count(rt) as usize)
+    let _ = row.word()?;
+    Ok(making.back(row.count()? as usize))
 }
 
-fn follow(rt: &impl Abort, alloc: Global, making: &mut Making, line: &str) {
-    let is_so = match Row::of(line).word(rt) {
-        "give" | "step" | "bind" | "choice" | "drop" => is_changed(rt, alloc, making, line),
-        "back" => is_back(rt, making, line),
-        _ => is_seen(rt, making, line),
+fn follow(rt: &impl Abort, alloc: Global, making: &mut Making, line: &str) -> Result<(), Fail> {
+    let is_so = match Row::of(line).word()? {
+        "step" => is_stepped(rt, alloc, making, line)?,
+        "give" | "bind" | "choice" | "drop" => is_changed(rt, making, line)?,
+        "back" => is_back(making, line)?,
+        _ => is_seen(making, line)?,
     };
-    check(rt, is_so, line);
+    assert!(rt; is_so, "{line}");
+    Ok(())
 }
 
-fn follow_all(rt: &impl Abort, alloc: Global, making: &mut Making, lines: &str) {
+fn follow_all(
+    rt: &impl Abort,
+    alloc: Global,
+    making: &mut Making,
+    lines: &str,
+) -> Result<(), Fail> {
     for line in lines.trim().lines() {
-        follow(rt, alloc, making, line);
+        follow(rt, alloc, making, line)?;
     }
-}
-
-/// The three parts of a row.
-fn parts<'a>(rt: &impl Abort, row: &'a str) -> (&'a str, &'a str, &'a str) {
-    let (text, rest) = row.split_once('|').expect(rt, row);
-    let (lines, want) = rest.split_once('|').expect(rt, row);
-    (text, lines, want.trim_start())
+    Ok(())
 }
 
 /// A row is a template, lines, and what the certificate tells in the end, with `|` and the end of a line between them.
-pub fn assert_row(rt: &impl Abort, alloc: Global, row: &str) {
-    let (text, lines, want) = parts(rt, row);
-    let mut making = Making::begin(rt, alloc, text);
-    follow_all(rt, alloc, &mut making, lines);
-    assert_text(rt, making.finish(rt, alloc).text.as_str(), want);
+pub fn assert_row(rt: &impl Abort, alloc: Global, row: &str) -> Result<(), Fail> {
+    let (text, rest) = row.split_once('|').ok_or("lines")?;
+    let (lines, want) = rest.split_once('|').ok_or("a certificate")?;
+    let mut making = Making::begin(alloc, text)?;
+    follow_all(rt, alloc, &mut making, lines)?;
+    assert_text(rt, making.finish(alloc)?.text.as_str(), want.trim_start());
+    Ok(())
 }

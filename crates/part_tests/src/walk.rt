@@ -1,11 +1,11 @@
 // A walk by chance over the calls of a test that is being made, beside a list of what was seen after each change.
-use crate::making::Making;
-use crate::shown::{Told, folded};
-use crate::view::{View, assert_view, view_of};
+use crate::seen::{assert_view, view_now};
+use part_making::{Making, Told, View, folded};
 use part_state::{OutOfMemory, Probe};
 use rv_script::Place;
 use std::alloc::Global;
 use std::process::Abort;
+use std::test::Fail;
 use tpl_admit::{Dropped, Why};
 
 /// Two harts, a page, and two names.
@@ -167,7 +167,7 @@ struct Moment {
 /// The moment after another one.
 fn next_moment(rt: &impl Abort, making: &Making, last: &Moment, did: Did) -> Moment {
     Moment {
-        view: view_of(rt, making),
+        view: view_now(rt, making),
         choices: match did {
             Did::Chose(way) => folded(last.choices, way),
             _ => last.choices,
@@ -213,7 +213,7 @@ fn assert_last(rt: &impl Abort, making: &Making, moments: &[Moment]) {
 fn beginning(rt: &impl Abort, alloc: Global, making: &Making) -> Vec<Moment> {
     let mut moments = Vec::new(alloc);
     let first = Moment {
-        view: view_of(rt, making),
+        view: view_now(rt, making),
         choices: 0,
         dropped: 0,
     };
@@ -237,16 +237,18 @@ fn assert_told(rt: &impl Abort, told: &Told, moments: &[Moment]) {
     assert!(rt; told.choices == last.choices && told.dropped == last.dropped);
 }
 
-fn assert_walk(rt: &impl Abort, alloc: Global, seed: u32) {
-    let mut making = Making::begin(rt, alloc, TEXT);
+fn assert_walk(rt: &impl Abort, alloc: Global, seed: u32) -> Result<(), Fail> {
+    let mut making = Making::begin(alloc, TEXT)?;
     let mut moments = beginning(rt, alloc, &making);
     walk(rt, &mut making, &mut moments, seed);
-    assert_told(rt, &making.finish(rt, alloc), &moments);
+    assert_told(rt, &making.finish(alloc)?, &moments);
+    Ok(())
 }
 
 #[test]
-fn what_is_seen_goes_back_with_the_changes(rt: HostRuntime) {
+fn what_is_seen_goes_back_with_the_changes(rt: HostRuntime) -> Result<(), Fail> {
     for seed in [1, 2, 3] {
-        assert_walk(&rt, rt.alloc(), seed);
+        assert_walk(&rt, rt.alloc(), seed)?;
     }
+    Ok(())
 }

@@ -1,11 +1,12 @@
 // What the program answers, or the library below it.
-ghost use Rattle.std.specs.Prelude.{◌<◌};
+ghost use Rattle.std.specs.Prelude.{◌≡◌, ◌<◌, IfOk};
+ghost use Rattle.streams.specs.Memory.{mem_sink_room};
+ghost use Rattle.tpl_ast.specs.Limits.{text_room};
 ghost use Rattle.tpl_admit.specs.WellFormed.{IsWellFormed};
 
-use crate::row::{Pace, Row};
 use crate::runs::run_by;
-use crate::stop::Stop;
 use elf_image::{ReadError, read, write};
+use row_language::{Answer, Pace, Program, Row, Stop, Told};
 use std::alloc::Global;
 use streams::{MemSink, MemSource};
 use tool_top::{ArgList, run};
@@ -15,14 +16,6 @@ use trace_text::{malformed, report};
 
 /// The status of what is no file.
 const NO_FILE: u8 = 9;
-
-/// A status, and what stands in the two sinks.
-#[derive(Drop)]
-pub struct Answer {
-    pub status: u8,
-    pub out: Vec<u8>,
-    pub report: Vec<u8>,
-}
 
 fn words_of(alloc: Global, call: &[String]) -> Result<ArgList, Stop> {
     let mut words = ArgList::new(alloc);
@@ -38,36 +31,34 @@ fn chunk_of(pace: &Pace) -> usize
     pace.chunk.max(1)
 }
 
+/// A source of these bytes.
+fn source_of(alloc: Global, pace: &Pace, input: &[u8]) -> Result<MemSource, Stop> {
+    Ok(MemSource::new(input.to_vec(alloc)?, chunk_of(pace), pace.fails.clone()?))
+}
+
+/// An empty sink that has room for each text of the program.
+fn sink_of(alloc: Global, told: &Told) -> Result<MemSink, Stop>
+    ensures { IfOk result (λ s. mem_sink_room s ≡ text_room) }
+{
+    match MemSink::with_room(
+        alloc,
+        TEXT_ROOM,
+        chunk_of(&told.pace),
+        told.pace.fails.clone()?,
+    ) {
+        Ok(sink) => Ok(sink),
+        Err(_) => Err(Stop::OutOfMemory),
+    }
+}
+
 /// What `run` does with the row's words and this input.
 fn run_of(alloc: Global, row: &Row, input: &[u8]) -> Result<Answer, Stop> {
     let words = words_of(alloc, &row.call)?;
-    let mut source = MemSource::new(
-        input.to_vec(alloc)?,
-        chunk_of(&row.source),
-        row.source.fails.clone()?,
-    );
-    let Ok(mut out) = MemSink::with_room(
-        alloc,
-        TEXT_ROOM,
-        chunk_of(&row.out.pace),
-        row.out.pace.fails.clone()?,
-    ) else {
-        return Err(Stop::OutOfMemory);
-    };
-    let Ok(mut told) = MemSink::with_room(
-        alloc,
-        TEXT_ROOM,
-        chunk_of(&row.report.pace),
-        row.report.pace.fails.clone()?,
-    ) else {
-        return Err(Stop::OutOfMemory);
-    };
-    let status = run(alloc, &words, &mut source, &mut out, &mut told);
-    Ok(Answer {
-        status,
-        out: out.bytes().to_vec(alloc)?,
-        report: told.bytes().to_vec(alloc)?,
-    })
+    let mut source = source_of(alloc, &row.source, input)?;
+    let mut out = sink_of(alloc, &row.out)?;
+    let mut report = sink_of(alloc, &row.report)?;
+    let status = run(alloc, &words, &mut source, &mut out, &mut report);
+    Answer::of(alloc, status, out.bytes(), report.bytes())
 }
 
 /// The answer that these bytes are no file, or that memory ran out.
@@ -78,11 +69,7 @@ fn no_file(alloc: Global, stop: ReadError) -> Result<Answer, Stop> {
             let Ok(line) = malformed(alloc, part) else {
                 return Err(Stop::OutOfMemory);
             };
-            Ok(Answer {
-                status: NO_FILE,
-                out: Vec::new(alloc),
-                report: line.as_bytes().to_vec(alloc)?,
-            })
+            Answer::of(alloc, NO_FILE, &[], line.as_bytes())
         }
     }
 }
@@ -97,11 +84,7 @@ fn file_of(alloc: Global, cert: &Cert) -> Result<Answer, Stop>
     let Ok(text) = report(alloc, cert) else {
         return Err(Stop::OutOfMemory);
     };
-    Ok(Answer {
-        status: 0,
-        out: file,
-        report: text.as_bytes().to_vec(alloc)?,
-    })
+    Answer::of(alloc, 0, &file, text.as_bytes())
 }
 
 /// Whether the certificate's template admits its trace: `admitted`, or where it doesn't.
@@ -115,11 +98,7 @@ fn admission_of(alloc: Global, cert: &Cert) -> Result<Answer, Stop>
             unmet.hart, unmet.step, unmet.atom
         )?,
     };
-    Ok(Answer {
-        status: 0,
-        out: text.as_bytes().to_vec(alloc)?,
-        report: Vec::new(alloc),
-    })
+    Answer::of(alloc, 0, text.as_bytes(), &[])
 }
 
 /// What a file's certificate gives by one of the words `file`, `admits` and `run`.
@@ -133,15 +112,19 @@ fn told_of(alloc: Global, cert: &Cert, call: &[String], word: &str) -> Result<An
     }
 }
 
-/// What the row's call gives for this input: `file` reads it, writes what was read, and reports it; `admits` says
+/// The program with the libraries below it: `file` reads a file, writes what was read, and reports it; `admits` says
 /// whether its template admits its trace; `run` runs a schedule from its start; any other words are those of the program.
-pub fn answer_of(alloc: Global, row: &Row, input: &[u8]) -> Result<Answer, Stop> {
-    let word = row.call.first().map(|word| word.as_str()).unwrap_or("");
-    if word != "file" && word != "admits" && word != "run" {
-        return run_of(alloc, row, input);
-    }
-    match read(alloc, input) {
-        Ok(cert) => told_of(alloc, &cert, &row.call, word),
-        Err(stop) => no_file(alloc, stop),
+pub struct Tool;
+
+impl Program for Tool {
+    fn answer(&self, alloc: Global, row: &Row, input: &[u8]) -> Result<Answer, Stop> {
+        let word = row.call.first().map(|word| word.as_str()).unwrap_or("");
+        if word != "file" && word != "admits" && word != "run" {
+            return run_of(alloc, row, input);
+        }
+        match read(alloc, input) {
+            Ok(cert) => told_of(alloc, &cert, &row.call, word),
+            Err(stop) => no_file(alloc, stop),
+        }
     }
 }

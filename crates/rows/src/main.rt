@@ -3,22 +3,17 @@
 #![tactic(auto)]
 
 mod answer;
-mod compare;
-mod hex;
-mod parts;
-mod reader;
-mod row;
 mod runs;
-mod stop;
 
-use crate::reader::Reader;
+use crate::answer::Tool;
+use row_language::Reader;
 use std::process::ExitCode;
 use std::{env, fs, io};
 
 /// Runs the rows of a text and prints what came of them. Whether each gave what it has to.
 fn run_text(rt: &HostRuntime, file: &str, text: &str) -> io::Result<bool> {
     let mut reader = Reader::new(rt.alloc());
-    let outcome = reader.read_all(rt.alloc(), text);
+    let outcome = reader.read_all(rt.alloc(), &Tool, text);
     for line in reader.told() {
         println!(rt; "{file}: {line}")?;
     }

@@ -2,8 +2,7 @@
 ghost use Rattle.std.specs.Prelude.{◌<◌, ◌≡◌, All, IfOk, length};
 ghost use Rattle.tpl_admit.specs.WellFormed.{IsWellFormed};
 
-use crate::answer::Answer;
-use crate::stop::Stop;
+use row_language::{Answer, Stop};
 use rv_system::{Stop as RunStop, System};
 use std::alloc::Global;
 use std::fmt::Write;
@@ -73,9 +72,5 @@ pub fn run_by(alloc: Global, cert: &Cert, words: &[String]) -> Result<Answer, St
         Err(RunStop::OutOfMemory) => return Err(Stop::OutOfMemory),
     }
     push_harts(&mut text, &system)?;
-    Ok(Answer {
-        status: 0,
-        out: text.as_bytes().to_vec(alloc)?,
-        report: Vec::new(alloc),
-    })
+    Answer::of(alloc, 0, text.as_bytes(), &[])
 }

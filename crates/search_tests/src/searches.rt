@@ -38,12 +38,8 @@ leaf 0 8 beee3d10
 leaf 0 9 a81e43e7
 ";
 
-/// The second alternative has no weight, and is tried where the first is dead.
-const SECOND_ALTERNATIVE: &str = "\
-seed 1
-turns 3
-none 9
-|
+/// The second alternative has no weight.
+const ALTERNATIVES: &str = "\
 choose {
 1: {
 do op in {lw}; rd in {2}; rs1 in {1}; imm in {0}; a in {0x80000800}
@@ -53,30 +49,22 @@ do op in {lw}; rd in {2}; rs1 in {1}; a in {0x80000804}
 do op in {addi}; rd in {6}; rs1 in {0}; imm in {1}
 }
 }
-|
-done 3
-way 1
-leaf 0 12 19a59898
 ";
 
+/// It is tried where the first is dead.
+const ENOUGH_TURNS: (&str, &str) = (
+    "seed 1\nturns 3\nnone 9\n",
+    "done 3\nway 1\nleaf 0 12 19a59898\n",
+);
+
 /// The same with one leaf turn less.
-const ONE_TURN_TOO_FEW: &str = "\
-seed 1
-turns 2
-none 9
-|
-choose {
-1: {
-do op in {lw}; rd in {2}; rs1 in {1}; imm in {0}; a in {0x80000800}
-do op in {lw}; rd in {2}; rs1 in {1}; a in {0x80000804}
+const ONE_TURN_TOO_FEW: (&str, &str) = ("seed 1\nturns 2\nnone 9\n", "gave_up 2 1 0 9\n");
+
+/// A row of a search through the alternatives, by what it is given and what comes of it.
+fn of_alternatives(alloc: Global, ends: (&str, &str)) -> Result<String, AllocError> {
+    let (lines, want) = ends;
+    format!(in alloc; "{lines}|\n{ALTERNATIVES}|\n{want}")
 }
-0: {
-do op in {addi}; rd in {6}; rs1 in {0}; imm in {1}
-}
-}
-|
-gave_up 2 1 0 9
-";
 
 /// Both alternatives are dead.
 const DEAD_ALTERNATIVES: &str = "\
@@ -310,13 +298,15 @@ fn a_loop_is_laid_out(rt: HostRuntime) -> Result<(), Fail> {
 
 #[test]
 fn a_second_alternative_is_tried(rt: HostRuntime) -> Result<(), Fail> {
-    assert_row(&rt, rt.alloc(), SECOND_ALTERNATIVE);
+    let row = of_alternatives(rt.alloc(), ENOUGH_TURNS)?;
+    assert_row(&rt, rt.alloc(), row.as_str());
     Ok(())
 }
 
 #[test]
 fn a_search_gives_up_where_a_turn_is_needed(rt: HostRuntime) -> Result<(), Fail> {
-    assert_row(&rt, rt.alloc(), ONE_TURN_TOO_FEW);
+    let row = of_alternatives(rt.alloc(), ONE_TURN_TOO_FEW)?;
+    assert_row(&rt, rt.alloc(), row.as_str());
     Ok(())
 }
 
