@@ -6,7 +6,7 @@ ghost use Rattle.rv_mem.specs.Seen.{is_there};
 ghost use Rattle.sv_walk.specs.Translation.{is_translated};
 ghost use Rattle.rv_mem.specs.declared.words.Seen.TheVariants.{Untouched};
 ghost use Rattle.row_parts.specs.Alike.{by_groups, by_word};
-ghost use Rattle.row_parts.specs.Classes.{entry_at, same, TableOf};
+ghost use Rattle.row_parts.specs.Internal.Classes.{entry_at, same, TableOf};
 ghost use Rattle.row_parts.specs.Gaps.{are_indices_equal, counts};
 ghost use Rattle.row_parts.specs.Items.{by_kind};
 ghost use Rattle.row_parts.specs.Rows.{Adds, end_at, ends_in, found, is_of, when};

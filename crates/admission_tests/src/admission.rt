@@ -1,7 +1,7 @@
 // Templates of one hart against the records of divisions.
 ghost use Rattle.std.specs.Prelude.{◌≡◌, ◌≤◌, [], ◌∷◌, IfOk, length};
 ghost use Rattle.std.specs.List.{list_all};
-ghost use Rattle.tpl_admit.specs.Ordered.{is_ascending, stands_before};
+ghost use Rattle.tpl_admit.specs.Internal.Ordered.{is_ascending, stands_before};
 
 use dom_set::Set;
 use rv_csr::Priv;

@@ -3,7 +3,7 @@ use Rattle.std.proofs.Common.{◌≡◌, ℕ, ◌+◌, ◌<◌, Bool, true, fals
 use Rattle.std.specs.declared.option.Option.{Option}
 use Rattle.std.proofs.lemmas.Bool.{cases_lt}
 use Rattle.std.proofs.lemmas.List.{get_or-append-add, get_or_append_left, get_or_past}
-use Rattle.byte_format.specs.Readers.{◌>>=◌}
+use Rattle.byte_format.specs.Internal.Readers.{◌>>=◌}
 
 -- each item is a byte
 abbrev pub IsBytes : List ℕ → Type 0

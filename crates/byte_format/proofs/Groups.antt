@@ -5,7 +5,7 @@ use Rattle.std.specs.List.{flat_map, AllByRecursion}
 use Rattle.std.proofs.lemmas.Bool.Decides.{nat_tests}
 use Rattle.std.proofs.lemmas.Option.{same_Some}
 use Rattle.byte_format.specs.Numbers.{word, counted, chained}
-use Rattle.byte_format.specs.Readers.{◌>>=◌, word_at, times, counted_at, few_at, chain_at}
+use Rattle.byte_format.specs.Internal.Readers.{◌>>=◌, word_at, times, counted_at, few_at, chain_at}
 use Rattle.byte_format.proofs.Bytes.{IsBytes, bytes_rest, bind_some, where_true}
 use Rattle.byte_format.proofs.Laws.{Reads, reads_word}
 

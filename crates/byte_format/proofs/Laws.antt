@@ -11,7 +11,7 @@ use Rattle.std.proofs.lemmas.Slice.Eq.{starts_is}
 use Rattle.std.proofs.lemmas.List.{append-nil, nil_from_length, take_at, drop_at, take-append-drop, length-append, length-take}
 use Rattle.std.proofs.lemmas.Nat.{le_bytes_2, le_bytes_4, from_le_bytes-to_le_bytes_2, from_le_bytes-to_le_bytes_4}
 use Rattle.byte_format.specs.Numbers.{byte, half, word, padding}
-use Rattle.byte_format.specs.Readers.{◌>>=◌, byte_at, half_at, word_at, skip, padded_at, both, then_at, behind, ahead, only_at, as_at, where_at, under, whole, within}
+use Rattle.byte_format.specs.Internal.Readers.{◌>>=◌, byte_at, half_at, word_at, skip, padded_at, both, then_at, behind, ahead, only_at, as_at, where_at, under, whole, within}
 use Rattle.byte_format.proofs.Bytes.{IsBytes, bytes_rest, bytes_front, bind_some, unless_true}
 
 -- what is read is written so, and what is written so is read, whatever follows

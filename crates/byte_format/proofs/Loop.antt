@@ -4,7 +4,7 @@ use Rattle.std.proofs.lemmas.List.{append-nil}
 use Rattle.std.specs.declared.option.Option.{Option}
 use Rattle.byte_format.specs.declared.error.PieceError.{PieceError}
 use Rattle.byte_format.specs.declared.error.PieceError.TheVariants.{Malformed, OutOfMemory}
-use Rattle.byte_format.specs.Readers.{◌>>=◌, Fails, times, chain_at, with_front}
+use Rattle.byte_format.specs.Internal.Readers.{◌>>=◌, Fails, times, chain_at, with_front}
 
 pub regroup : {A : Type 0} (front : List A) (n : A) (read : Option (List A × List ℕ)) → with_front front (read >>= λ x. Some (n ∷ x.0, x.1)) ≡ with_front (front ++ n ∷ []) read
 regroup {A} front n (Some x) = ap (λ (ns : List A). Some (ns, x.1)) (simp append_assoc)

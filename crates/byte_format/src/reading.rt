@@ -1,12 +1,12 @@
 // Numbers, literals and padding at the front of some bytes. Each function gives what it reads with what stands behind it.
 ghost use Rattle.std.specs.Prelude.{◌≡◌, IfErr};
 ghost use Rattle.byte_format.specs.Numbers.{half, word, padding};
-ghost use Rattle.byte_format.specs.Readers.{Gives, byte_at, half_at, word_at, skip, padded_at};
+ghost use Rattle.byte_format.specs.Internal.Readers.{Gives, byte_at, half_at, word_at, skip, padded_at};
 
 use crate::error::PieceError;
 
 /// Reads a byte.
-#[tactic(auto, unfolding(crate::specs::Readers::byte_at))]
+#[tactic(auto, unfolding(crate::specs::Internal::Readers::byte_at))]
 pub fn byte_of(bytes: &[u8]) -> Result<(u8, &[u8]), PieceError>
     ensures gives { Gives (λ x. (x.0, x.1.now)) result (byte_at bytes.now) }
     ensures malformed { IfErr result (λ e. e ≡ PieceError.Malformed) }
@@ -18,7 +18,7 @@ pub fn byte_of(bytes: &[u8]) -> Result<(u8, &[u8]), PieceError>
 }
 
 /// Reads a number of two bytes.
-#[tactic(auto, unfolding(crate::specs::Readers::half_at))]
+#[tactic(auto, unfolding(crate::specs::Internal::Readers::half_at))]
 pub fn half_of(bytes: &[u8]) -> Result<(u16, &[u8]), PieceError>
     ensures gives { Gives (λ x. (x.0, x.1.now)) result (half_at bytes.now) }
     ensures malformed { IfErr result (λ e. e ≡ PieceError.Malformed) }
@@ -32,7 +32,7 @@ pub fn half_of(bytes: &[u8]) -> Result<(u16, &[u8]), PieceError>
 }
 
 /// Reads a number of four bytes.
-#[tactic(auto, unfolding(crate::specs::Readers::word_at))]
+#[tactic(auto, unfolding(crate::specs::Internal::Readers::word_at))]
 pub fn word_of(bytes: &[u8]) -> Result<(u32, &[u8]), PieceError>
     ensures gives { Gives (λ x. (x.0, x.1.now)) result (word_at bytes.now) }
     ensures malformed { IfErr result (λ e. e ≡ PieceError.Malformed) }
@@ -46,7 +46,7 @@ pub fn word_of(bytes: &[u8]) -> Result<(u32, &[u8]), PieceError>
 }
 
 /// What stands behind a literal.
-#[tactic(auto, unfolding(crate::specs::Readers::skip))]
+#[tactic(auto, unfolding(crate::specs::Internal::Readers::skip))]
 pub fn after<'a>(bytes: &'a [u8], literal: &[u8]) -> Result<&'a [u8], PieceError>
     ensures gives { Gives (λ x. x.now) result (skip literal.now bytes.entry.now) }
     ensures malformed { IfErr result (λ e. e ≡ PieceError.Malformed) }
@@ -88,7 +88,7 @@ pub fn after_padding(bytes: &[u8], size: u32) -> Result<&[u8], PieceError>
 }
 
 /// Reads so many bytes, with the padding behind them.
-#[tactic(auto, unfolding(crate::specs::Readers::padded_at))]
+#[tactic(auto, unfolding(crate::specs::Internal::Readers::padded_at))]
 pub fn padded_of(bytes: &[u8], size: u32) -> Result<(&[u8], &[u8]), PieceError>
     ensures gives { Gives (λ x. (x.0.now, x.1.now)) result (padded_at size bytes.now) }
     ensures malformed { IfErr result (λ e. e ≡ PieceError.Malformed) }

@@ -2,7 +2,7 @@
 use Rattle.std.proofs.Common.{◌≡◌, ◌<◌, ℕ, List, length, set, slice_index, inl, inr, sym, ◌∙◌, ap, subst, arith}
 use Rattle.std.proofs.lemmas.List.{get_or-set_same, get_or-set_other}
 use Rattle.fd_prob.specs.declared.problem.Assignment.{Assignment}
-use Rattle.case_search.specs.Classes.{AreClasses}
+use Rattle.case_search.specs.Internal.Classes.{AreClasses}
 use Rattle.case_search.proofs.Putting.{equal_or_not}
 
 -- one variable goes over from a class to another one, whose value is the same

@@ -16,7 +16,7 @@ use Rattle.fd_prob.specs.Relations.{holds, value_of}
 use Rattle.fd_prob.proofs.Fitted.{fits_its_case, of_case}
 use Rattle.case_search.specs.Equivalent.{IsEquivalent}
 use Rattle.case_search.specs.Search.{IsMadeOf, LeastOrNone}
-use Rattle.case_search.specs.Stronger.{IsAlike}
+use Rattle.case_search.specs.Internal.Stronger.{IsAlike}
 use Rattle.case_search.proofs.Inside.{each_of, inside_of, within_same}
 use Rattle.case_search.proofs.Joining.{case_alike}
 use Rattle.case_search.proofs.Orders.{as_well}

@@ -13,8 +13,8 @@ use Rattle.fd_prob.specs.Order.{IsAssignment, rank}
 use Rattle.fd_prob.specs.Relations.{holds, value_of}
 use Rattle.rv_isa.specs.Numbers.{op_numbered}
 use Rattle.fd_prob.specs.Slots.{slot_number}
-use Rattle.fd_narrow.specs.Mentions.{mentions}
-use Rattle.case_search.specs.Free.{IsFirstPassing, IsFree, IsSettled, own_hold, put}
+use Rattle.fd_prob.specs.Mentions.{mentions}
+use Rattle.case_search.specs.Internal.Free.{IsFirstPassing, IsFree, IsSettled, own_hold, put}
 use Rattle.case_search.specs.Search.{FixedBelow, IsCut, IsMet, LeastOrNone}
 use Rattle.case_search.proofs.Putting.{equal_or_not, put_here, put_there, put_word, true_or_false}
 use Rattle.case_search.proofs.Mentions.{Agree, holds_same}

@@ -9,7 +9,7 @@ use Rattle.rv_isa.specs.declared.operation.Op.{Op}
 use Rattle.fd_prob.specs.declared.problem.Assignment.{Assignment}
 use Rattle.fd_prob.specs.declared.relation.Rel.{Rel}
 use Rattle.fd_prob.specs.Relations.{has_target, holds, is_some_in, target_of}
-use Rattle.case_search.specs.Stronger.{is_at_target, is_target}
+use Rattle.case_search.specs.Internal.Stronger.{is_at_target, is_target}
 
 and_comm : (a b : Bool) → (a && b) ≡ (b && a)
 and_comm true true = refl

@@ -11,7 +11,7 @@ use Rattle.fd_prob.specs.Joining.{IsRestated}
 use Rattle.fd_prob.specs.Relations.{holds, value_of}
 use Rattle.rv_isa.specs.Numbers.{op_numbered}
 use Rattle.case_search.specs.Search.{IsMadeOf, LeastOrNone}
-use Rattle.case_search.specs.Stronger.{IsAlike}
+use Rattle.case_search.specs.Internal.Stronger.{IsAlike}
 use Rattle.case_search.proofs.Orders.{as_well}
 
 pub restated : (c made : Case) → IsRestated c made → IsAlike c made

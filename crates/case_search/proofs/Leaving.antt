@@ -11,9 +11,9 @@ use Rattle.fd_prob.specs.declared.relation.Rel.{Rel}
 use Rattle.fd_prob.specs.declared.slot.Slot.{Slot}
 use Rattle.fd_prob.specs.Relations.{holds}
 use Rattle.rv_isa.specs.Numbers.{op_numbered}
-use Rattle.case_search.specs.Easier.{AreBlind, IsEasier}
-use Rattle.fd_narrow.specs.Mentions.{mentions}
-use Rattle.case_search.specs.Free.{put}
+use Rattle.case_search.specs.Internal.Easier.{AreBlind, IsEasier}
+use Rattle.fd_prob.specs.Mentions.{mentions}
+use Rattle.case_search.specs.Internal.Free.{put}
 use Rattle.case_search.specs.Search.{IsCut, IsMet}
 use Rattle.fd_prob.proofs.Places.{same_slot}
 use Rattle.case_search.proofs.Freedom.{put_inside}

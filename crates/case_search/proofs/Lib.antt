@@ -15,3 +15,6 @@ mod Strengthening
 mod Joining
 mod Made
 pub mod Equivalence
+pub mod Lists
+pub mod Extensions
+mod MetRows

@@ -15,7 +15,7 @@ use Rattle.fd_prob.specs.declared.slot.Slot.{Slot}
 use Rattle.fd_prob.specs.declared.slot.Slot.TheVariants as slots
 use Rattle.fd_prob.specs.Relations.{agrees, goes_to_target, has_condition, holds, is_in_row, is_none_or_legal, is_some_in, target_of, value_of, written_by}
 use Rattle.fd_prob.specs.Slots.{slot_number}
-use Rattle.fd_narrow.specs.Mentions.{mentions}
+use Rattle.fd_prob.specs.Mentions.{mentions}
 
 -- both have the same values for all variables that the relation mentions
 abbrev pub Agree : Rel → Assignment → Assignment → Type 0

@@ -11,7 +11,7 @@ use Rattle.fd_prob.specs.Order.{IsAssignment}
 use Rattle.fd_prob.specs.Relations.{value_of}
 use Rattle.fd_prob.specs.Slots.{slot_number}
 use Rattle.fd_prob.proofs.Places.{place_below}
-use Rattle.case_search.specs.Free.{put}
+use Rattle.case_search.specs.Internal.Free.{put}
 
 pub value_word : (x : Assignment) (s : Slot) → IsAssignment x → value_of x s < 2 ^ 32
 value_word x s is = is.words (slot_number s) 0 (omega (arith, is.length, place_below s))

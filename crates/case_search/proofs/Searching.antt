@@ -12,8 +12,8 @@ use Rattle.fd_prob.specs.declared.problem.Case.{Case}
 use Rattle.fd_prob.specs.declared.relation.Rel.{Rel}
 use Rattle.fd_prob.specs.declared.relation.Rel.TheVariants.{In}
 use Rattle.fd_prob.specs.declared.slot.Slot.{Slot}
-use Rattle.fd_narrow.specs.Mentions.{is_slot}
-use Rattle.case_search.specs.Skipping.{all_let, lets}
+use Rattle.fd_prob.specs.Mentions.{is_slot}
+use Rattle.case_search.specs.Internal.Skipping.{all_let, lets}
 use Rattle.fd_prob.specs.declared.slot.Slot.TheVariants as slots
 use Rattle.fd_prob.specs.declared.slot.TheConstants.{SLOTS}
 use Rattle.fd_prob.specs.Order.{IsAssignment, rank}

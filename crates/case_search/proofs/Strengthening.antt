@@ -14,7 +14,7 @@ use Rattle.fd_prob.specs.declared.slot.Slot.{Slot}
 use Rattle.fd_prob.specs.declared.slot.Slot.TheVariants as slots
 use Rattle.fd_prob.specs.Relations.{holds, is_linked, is_same}
 use Rattle.fd_prob.specs.Slots.{slot_number}
-use Rattle.case_search.specs.Stronger.{AreAlike, equates, is_link, lacks_value}
+use Rattle.case_search.specs.Internal.Stronger.{AreAlike, equates, is_link, lacks_value}
 use Rattle.case_search.proofs.JoinedTargets.{all_with}
 
 -- where all hold and some is of a kind, what each of the kind tells is so

@@ -1,8 +1,3 @@
 pub mod Search
-pub mod Skipping
-pub mod Free
-pub mod Easier
-pub mod Classes
-pub mod Stronger
-pub mod Targets
 pub mod Equivalent
+pub mod Internal

@@ -5,7 +5,7 @@ ghost use Rattle.fd_narrow.specs.Narrowing.{AllHold};
 ghost use Rattle.fd_prob.specs.declared.problem.Assignment.{Assignment};
 ghost use Rattle.fd_prob.specs.declared.slot.Slot.TheVariants as slots;
 ghost use Rattle.fd_prob.specs.Relations.{holds, is_same};
-ghost use Rattle.case_search.specs.Classes.{AreClasses};
+ghost use Rattle.case_search.specs.Internal.Classes.{AreClasses};
 
 use crate::stronger::some_links;
 use fd_prob::{Rel, Slot};

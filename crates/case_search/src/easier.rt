@@ -1,11 +1,10 @@
 // Cases with fewer relations.
 ghost use Rattle.std.specs.Prelude.{◌≡◌, IfOk, length};
 ghost use Rattle.fd_prob.specs.Fitting.{IsCase};
-ghost use Rattle.case_search.specs.Easier.{AreBlind, IsEasier};
+ghost use Rattle.case_search.specs.Internal.Easier.{AreBlind, IsEasier};
 
 use dom_set::{OutOfMemory, Set};
-use fd_narrow::mentions;
-use fd_prob::{Case, Items, Rel, Slot};
+use fd_prob::{Case, Items, Rel, Slot, mentions};
 use std::alloc::Global;
 
 /// The relations that do not look at the variable.

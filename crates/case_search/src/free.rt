@@ -1,12 +1,12 @@
 // Variables of which only one value need be tried.
 ghost use Rattle.std.specs.Prelude.{◌≡◌, IsTrue};
-ghost use Rattle.case_search.specs.Free.{IsFirstPassing, IsFree, IsSettled, own_hold, put};
+ghost use Rattle.case_search.specs.Internal.Free.{IsFirstPassing, IsFree, IsSettled, own_hold, put};
 
 use crate::order::{next_from, rank};
 use crate::place::slot_at;
 use dom_set::Set;
-use fd_narrow::{Domains, mentions};
-use fd_prob::{Assignment, Rel, Slot, holds};
+use fd_narrow::Domains;
+use fd_prob::{Assignment, Rel, Slot, holds, mentions};
 use rv_isa::Op;
 
 /// Whether each variable that the relation looks at has one value, but for this one.

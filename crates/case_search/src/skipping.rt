@@ -2,7 +2,7 @@
 ghost use Rattle.std.specs.Prelude.{◌≡◌, ◌<◌, ◌≤◌, ◌^◌, ℕ, IsTrue, false, true};
 ghost use Rattle.dom_set.specs.Elements.{is_in};
 ghost use Rattle.fd_prob.specs.Order.{rank};
-ghost use Rattle.case_search.specs.Skipping.{all_let, lets};
+ghost use Rattle.case_search.specs.Internal.Skipping.{all_let, lets};
 
 use crate::order::{next_from, rank};
 use dom_set::Set;

@@ -6,7 +6,7 @@ ghost use Rattle.fd_narrow.specs.Narrowing.{AllHold};
 ghost use Rattle.fd_prob.specs.declared.problem.Assignment.{Assignment};
 ghost use Rattle.fd_prob.specs.declared.slot.Slot.TheVariants as slots;
 ghost use Rattle.fd_prob.specs.Relations.{is_same};
-ghost use Rattle.case_search.specs.Stronger.{AreJoined, IsAlike, equates, is_link, is_target, lacks_value};
+ghost use Rattle.case_search.specs.Internal.Stronger.{AreJoined, IsAlike, equates, is_link, is_target, lacks_value};
 
 use crate::classes::is_one_register;
 use crate::targets::with_one_target;

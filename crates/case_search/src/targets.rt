@@ -3,8 +3,8 @@ ghost use Rattle.std.specs.Prelude.{◌≡◌, ◌≤◌, ◌&&◌, IfOk, count_
 ghost use Rattle.rv_isa.specs.declared.operation.Op.{Op};
 ghost use Rattle.fd_prob.specs.declared.problem.Assignment.{Assignment};
 ghost use Rattle.fd_prob.specs.Relations.{has_target, holds};
-ghost use Rattle.case_search.specs.Stronger.{AreAlike, AreJoined, is_elsewhere, is_target};
-ghost use Rattle.case_search.specs.Targets.{IsGathered, all_hold};
+ghost use Rattle.case_search.specs.Internal.Stronger.{AreAlike, AreJoined, is_elsewhere, is_target};
+ghost use Rattle.case_search.specs.Internal.Targets.{IsGathered, all_hold};
 ghost use Rattle.std.specs.List.{list_all};
 
 use dom_set::{OutOfMemory, Set};

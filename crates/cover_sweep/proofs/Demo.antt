@@ -8,20 +8,22 @@ use Rattle.dom_set.specs.Elements.{elements_of, is_within}
 use Rattle.dom_set.specs.Laws.{ElementsPass}
 use Rattle.rv_csr.specs.declared.privilege.Priv.TheVariants.{M}
 use Rattle.rv_isa.specs.Numbers.{op_number}
-use Rattle.tpl_ast.specs.declared.mark.Mark.TheVariants as marks
-use Rattle.tpl_ast.specs.declared.phrase.Element.TheVariants as elements
+use Rattle.tpl_lang.specs.declared.mark.Mark.TheVariants as marks
+use Rattle.tpl_lang.specs.declared.phrase.Element.TheVariants as elements
 use Rattle.tpl_ast.specs.declared.template.Var.{Var}
 use Rattle.tpl_ast.specs.declared.template.Var.TheVariants as vars
-use Rattle.tpl_ast.specs.declared.words.Key.TheVariants as keys
-use Rattle.tpl_ast.specs.Laws.{StatementsAreSpelled}
+use Rattle.tpl_lang.specs.declared.words.Key.TheVariants as keys
+use Rattle.tpl_lang.specs.Laws.{StatementsAreSpelled}
 use Rattle.tpl_ast.specs.Lengths.{saturated}
-use Rattle.tpl_ast.specs.Lines.{lines}
-use Rattle.tpl_ast.specs.Parsing.{is_none_of, judged, nothing, parses, run, told}
-use Rattle.tpl_ast.specs.Phrases.{Listed, Domain, Numbers, Words, Among, WishPhrase, Phrase, Ram, Pool, Hart, Start, Reg, Body, Do, Repeat, Choose, Way, Close}
-use Rattle.tpl_ast.specs.Sets.{listed}
-use Rattle.tpl_ast.specs.Spelling.{key, wishes}
-use Rattle.tpl_ast.specs.Tokens.{Word, Number, Sign, is_word, mark_of, number_of, token_of, tokens_of}
-use Rattle.tpl_ast.specs.Words.{op_of}
+use Rattle.tpl_lang.specs.Lines.{lines}
+use Rattle.tpl_lang.specs.Faults.{is_none_of}
+use Rattle.tpl_lang.specs.Parsing.{parses, line_parsed, lines_parsed, tokens_parsed}
+use Rattle.tpl_lang.specs.Known.{nothing}
+use Rattle.tpl_lang.specs.Phrases.{Listed, Domain, Numbers, Words, Among, WishPhrase, Phrase, Ram, Pool, Hart, Start, Reg, Body, Do, Repeat, Choose, Way, Close}
+use Rattle.tpl_lang.specs.Sets.{listed}
+use Rattle.tpl_lang.specs.Grammar.{key, wishes}
+use Rattle.tpl_lang.specs.Tokens.{Word, Number, Sign, is_word, mark_of, number_of, token_of, tokens_of}
+use Rattle.tpl_lang.specs.Words.{op_of}
 use Rattle.cover_sweep.specs.Said.{demo_said}
 use Rattle.cover_sweep.specs.Template.{demo_template, repeat_line}
 use Rattle.cover_sweep.proofs.Numerals.{plain, repeat_fine, repeat_kept, repeat_read, repeat_tokens}
@@ -209,8 +211,8 @@ no_faults law n small =
 
 -- ---- the whole text
 
-last_read : (n : ℕ) → run (known_after nothing 1 (lines_said n)) (line_after 1 (lines_said n)) ([] ∷ []) ≡ Ok (demo_said n)
-unfolding judged told tokens_of op_number
+last_read : (n : ℕ) → lines_parsed (known_after nothing 1 (lines_said n)) (line_after 1 (lines_said n)) ([] ∷ []) ≡ Ok (demo_said n)
+unfolding line_parsed tokens_parsed tokens_of op_number
 last_read n = refl
 
 demo_short : (n : ℕ) → n ≤ 2000 → length (demo_template n) ≤ 65536
@@ -218,7 +220,7 @@ demo_short n small =
     let digits : length (decimal n) ≤ 20 = length-decimal-le 20 n (omega arith) (omega (arith, small)) (omega (arith, small)) in
     rw (template_written n) (simp length-append (omega (arith, digits)))
 
-parses_by : (text : List ℕ) → length text ≤ 65536 → parses text ≡ run nothing 1 (lines text)
+parses_by : (text : List ℕ) → length text ≤ 65536 → parses text ≡ lines_parsed nothing 1 (lines text)
 unfolding parses
 parses_by text short = rw (le-ltb 65536 (length text) short) refl
 
@@ -229,6 +231,6 @@ demo_lines n small = lines_ended (lines_said n) (are_lines n small)
 pub demo_read : ElementsPass → StatementsAreSpelled → (n : ℕ) → n ≤ 2000 → parses (demo_template n) ≡ Ok (demo_said n)
 demo_read elements statements n small =
     parses_by (demo_template n) (demo_short n small)
-    ∙ ap (run nothing 1) (demo_lines n small)
+    ∙ ap (lines_parsed nothing 1) (demo_lines n small)
     ∙ all_read statements nothing 1 (lines_said n) (are_lines n small) (no_faults elements n small)
     ∙ last_read n

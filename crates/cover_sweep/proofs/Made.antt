@@ -13,8 +13,8 @@ use Rattle.tpl_ast.specs.declared.template.Item.TheViews as views
 use Rattle.tpl_ast.specs.declared.template.Template.{Template}
 use Rattle.tpl_ast.specs.declared.template.Wish.{Wish}
 use Rattle.tpl_ast.specs.Bodies.{BodyLine, Leaf, EnterRepeat, EnterChoose, EnterWay, Leave, lines_in, lines_of_body, lines_of_item, lines_of_ways}
-use Rattle.tpl_ast.specs.Laws.{StatementsAreSpelled}
-use Rattle.tpl_ast.specs.Parsing.{Parses, Said, said_by, vectors_of}
+use Rattle.tpl_lang.specs.Laws.{StatementsAreSpelled}
+use Rattle.tpl_lang.specs.Parsing.{Parses, Said, said_by, vectors_of}
 use Rattle.cover_sweep.specs.Said.{demo_hart, demo_pool, demo_said, is_by_x31, is_one_of, keeps_x31}
 use Rattle.cover_sweep.specs.Template.{demo_template}
 use Rattle.cover_sweep.proofs.Demo.{demo_read}

@@ -7,13 +7,13 @@ use Rattle.std.specs.List.{list_all, list_any}
 use Rattle.std.proofs.Math.Seq.{get_or-append_seam, take-length}
 use Rattle.std.proofs.lemmas.Bool.{lt-ltb}
 use Rattle.std.proofs.lemmas.Fmt.{decimal_by_steps}
-use Rattle.tpl_ast.specs.declared.mark.Mark.TheVariants as marks
-use Rattle.tpl_ast.specs.declared.phrase.Numeral.{Numeral}
-use Rattle.tpl_ast.specs.declared.words.Key.TheVariants as keys
-use Rattle.tpl_ast.specs.Lines.{is_bad_byte, length_until, stripped, uncommented}
-use Rattle.tpl_ast.specs.Numbers.{are_digits, digit_of, fitting, value_of}
-use Rattle.tpl_ast.specs.Spelling.{key}
-use Rattle.tpl_ast.specs.Tokens.{Token, Number, Sign, is_blank, is_word, is_word_byte, joins, mark_of, number_of, numeral, pieces, token_of, tokens_among, tokens_of, with_byte}
+use Rattle.tpl_lang.specs.declared.mark.Mark.TheVariants as marks
+use Rattle.tpl_lang.specs.declared.phrase.Numeral.{Numeral}
+use Rattle.tpl_lang.specs.declared.words.Key.TheVariants as keys
+use Rattle.tpl_lang.specs.Lines.{is_bad_byte, length_until, stripped, uncommented}
+use Rattle.tpl_lang.specs.Numbers.{are_digits, digit_of, fitting, value_of}
+use Rattle.tpl_lang.specs.Grammar.{key}
+use Rattle.tpl_lang.specs.Tokens.{Token, Number, Sign, is_blank, is_word, is_word_byte, joins, mark_of, number_of, numeral, pieces, token_of, tokens_among, tokens_of, with_byte}
 use Rattle.cover_sweep.specs.Template.{repeat_line}
 
 -- ---- digits

@@ -3,17 +3,20 @@ use Rattle.std.proofs.Common.{◌≡◌, ℕ, ◌+◌, Bool, true, false, not, �
 use Rattle.std.specs.Prelude.{◌==◌}
 use Rattle.std.specs.List.{list_any}
 use Rattle.std.proofs.lemmas.Bool.{cases_eq, ne_eqb}
-use Rattle.tpl_ast.specs.declared.fault.Fault.{Fault as AFault}
-use Rattle.tpl_ast.specs.declared.fault.Kind.{Kind}
-use Rattle.tpl_ast.specs.declared.fault.Kind.TheVariants as kinds
-use Rattle.tpl_ast.specs.Grammar.{statement_of}
-use Rattle.tpl_ast.specs.Judging.{is_name_twice, is_phrase_above, is_phrase_long}
-use Rattle.tpl_ast.specs.Laws.{StatementsAreSpelled}
-use Rattle.tpl_ast.specs.Lines.{is_bad_byte, lines, stripped, to_first, uncommented}
-use Rattle.tpl_ast.specs.Parsing.{Known, Said, after, allows, fault, fault_of, is_bad_ram, is_bad_start, is_deep, is_double, is_empty, is_long, is_unknown, judged, passes_count, phrased, run, spelled, told}
-use Rattle.tpl_ast.specs.Phrases.{Phrase}
-use Rattle.tpl_ast.specs.Spelling.{Spells}
-use Rattle.tpl_ast.specs.Tokens.{Token, tokens_of}
+use Rattle.tpl_lang.specs.declared.fault.Fault.{Fault as AFault}
+use Rattle.tpl_lang.specs.declared.fault.Kind.{Kind}
+use Rattle.tpl_lang.specs.declared.fault.Kind.TheVariants as kinds
+use Rattle.tpl_lang.specs.Reading.{statement_of}
+use Rattle.tpl_lang.specs.Faults.{is_name_twice, is_phrase_above, is_phrase_long, allows, is_bad_ram, is_bad_start, is_deep, is_double, is_empty, is_long, is_unknown, passes_count}
+use Rattle.tpl_lang.specs.Kinds.{fault_of}
+use Rattle.tpl_lang.specs.Laws.{StatementsAreSpelled}
+use Rattle.tpl_lang.specs.Lines.{is_bad_byte, lines, stripped, to_first, uncommented}
+use Rattle.tpl_lang.specs.Known.{Known}
+use Rattle.tpl_lang.specs.Parsing.{Said, fault, line_parsed, phrase_parsed, lines_parsed, tokens_read, tokens_parsed}
+use Rattle.tpl_lang.specs.Statements.{after}
+use Rattle.tpl_lang.specs.Phrases.{Phrase}
+use Rattle.tpl_lang.specs.Grammar.{Spells}
+use Rattle.tpl_lang.specs.Tokens.{Token, tokens_of}
 use Rattle.cover_sweep.specs.Template.{ended}
 
 -- ---- one line
@@ -65,23 +68,23 @@ abbrev settled : Known → Option Kind → Result Known Kind
 settled next (Some kind) = Err kind
 settled next None = Ok next
 
-told_line : (k : Known) (n : ℕ) (l : List ℕ) (p : Phrase) (ts : List Token) → list_any is_bad_byte l ≡ false → tokens_of (uncommented l) ≡ Some ts → (length ts == 0) ≡ false → statement_of ts ≡ Some p → fault_of k false p ≡ None → judged k n l false ≡ Ok (after k n p)
-unfolding judged told
+told_line : (k : Known) (n : ℕ) (l : List ℕ) (p : Phrase) (ts : List Token) → list_any is_bad_byte l ≡ false → tokens_of (uncommented l) ≡ Some ts → (length ts == 0) ≡ false → statement_of ts ≡ Some p → fault_of k false p ≡ None → line_parsed k n l false ≡ Ok (after k n p)
+unfolding line_parsed tokens_parsed
 told_line k n l p ts fine read some is none =
-    ap (λ (x : Bool). cond x (Err kinds.BadByte) (spelled k n false (tokens_of (uncommented l)))) fine
-    ∙ ap (spelled k n false) read
-    ∙ ap (λ (x : Bool). cond x (Ok k) (phrased k n false (statement_of ts))) some
-    ∙ ap (phrased k n false) is
+    ap (λ (x : Bool). cond x (Err kinds.BadByte) (tokens_read k n false (tokens_of (uncommented l)))) fine
+    ∙ ap (tokens_read k n false) read
+    ∙ ap (λ (x : Bool). cond x (Ok k) (phrase_parsed k n false (statement_of ts))) some
+    ∙ ap (phrase_parsed k n false) is
     ∙ ap (settled (after k n p)) none
 
 -- the lines behind one, where it has no fault
 abbrev behind : ℕ → Result Known Kind → (Known → Result Said AFault) → Result Said AFault
 behind n j rest = elim j [ Err kind ↦ Err (fault n kind) | Ok next ↦ rest next ]
 
-run_next : (k next : Known) (n : ℕ) (l m : List ℕ) (ls : List (List ℕ)) → stripped l ≡ l → judged k n l false ≡ Ok next → run k n (l ∷ m ∷ ls) ≡ run next (n + 1) (m ∷ ls)
+run_next : (k next : Known) (n : ℕ) (l m : List ℕ) (ls : List (List ℕ)) → stripped l ≡ l → line_parsed k n l false ≡ Ok next → lines_parsed k n (l ∷ m ∷ ls) ≡ lines_parsed next (n + 1) (m ∷ ls)
 run_next k next n l m ls kept is =
-    let judges : judged k n (stripped l) false ≡ Ok next = ap (λ (x : List ℕ). judged k n x false) kept ∙ is in
-    ap (λ (j : Result Known Kind). behind n j (λ following. run following (n + 1) (m ∷ ls))) judges
+    let judges : line_parsed k n (stripped l) false ≡ Ok next = ap (λ (x : List ℕ). line_parsed k n x false) kept ∙ is in
+    ap (λ (j : Result Known Kind). behind n j (λ following. lines_parsed following (n + 1) (m ∷ ls))) judges
 
 -- ---- lines one after another
 
@@ -110,11 +113,11 @@ line_after n (e ∷ es) = line_after (n + 1) es
 abbrev pub bytes_of : List (List ℕ × Phrase) → List (List ℕ)
 bytes_of es = map (λ e. e.0) es
 
-one_read : (law : StatementsAreSpelled) (k : Known) (n : ℕ) (l m : List ℕ) (p : Phrase) (ls : List (List ℕ)) → IsLine l p → any_fault k p ≡ false → run k n (l ∷ m ∷ ls) ≡ run (after k n p) (n + 1) (m ∷ ls)
+one_read : (law : StatementsAreSpelled) (k : Known) (n : ℕ) (l m : List ℕ) (p : Phrase) (ls : List (List ℕ)) → IsLine l p → any_fault k p ≡ false → lines_parsed k n (l ∷ m ∷ ls) ≡ lines_parsed (after k n p) (n + 1) (m ∷ ls)
 one_read law k n l m p ls is none =
     run_next k (after k n p) n l m ls is.kept (told_line k n l p is.tokens is.fine is.read is.some ((law is.tokens p).1 is.says) (no_fault k p none))
 
-pub all_read : (law : StatementsAreSpelled) (k : Known) (n : ℕ) (es : List (List ℕ × Phrase)) → AreLines es → AreFaultless k n es → run k n (bytes_of es ++ [] ∷ []) ≡ run (known_after k n es) (line_after n es) ([] ∷ [])
+pub all_read : (law : StatementsAreSpelled) (k : Known) (n : ℕ) (es : List (List ℕ × Phrase)) → AreLines es → AreFaultless k n es → lines_parsed k n (bytes_of es ++ [] ∷ []) ≡ lines_parsed (known_after k n es) (line_after n es) ([] ∷ [])
 all_read law k n [] are none = refl
 all_read law k n (e ∷ []) are none = one_read law k n e.0 [] e.1 [] are.0 none.0
 all_read law k n (e ∷ f ∷ es) are none = one_read law k n e.0 f.0 e.1 (bytes_of es ++ [] ∷ []) are.0 none.0 ∙ all_read law (after k n e.1) (n + 1) (f ∷ es) are.1 none.1

@@ -3,7 +3,7 @@ use Rattle.std.specs.Prelude.{◌≡◌, ℕ, ◌<◌, ◌≤◌, Ok, length}
 use Rattle.tpl_admit.specs.declared.certificate.Cert.{Cert}
 use Rattle.tpl_ast.specs.declared.template.Template.{Template}
 use Rattle.tpl_ast.specs.Limits.{text_room}
-use Rattle.tpl_ast.specs.Parsing.{Parses, parses}
+use Rattle.tpl_lang.specs.Parsing.{Parses, parses}
 use Rattle.cover_sweep.specs.Said.{demo_said}
 use Rattle.cover_sweep.specs.Summary.{summary_text}
 use Rattle.cover_sweep.specs.Template.{demo_template}

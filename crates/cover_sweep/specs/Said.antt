@@ -8,9 +8,9 @@ use Rattle.tpl_ast.specs.declared.template.Atom.TheVariants as atoms
 use Rattle.tpl_ast.specs.declared.template.Var.{Var}
 use Rattle.tpl_ast.specs.declared.template.Var.TheVariants as vars
 use Rattle.tpl_ast.specs.declared.template.Wish.{Wish}
-use Rattle.tpl_ast.specs.Bodies.{BodyLine, Leaf, EnterRepeat, EnterChoose, EnterWay, Leave}
-use Rattle.tpl_ast.specs.Parsing.{HartLines, Said, vectors_of}
-use Rattle.tpl_ast.specs.Sets.{listed, points}
+use Rattle.tpl_ast.specs.Bodies.{BodyLine, Leaf, EnterRepeat, EnterChoose, EnterWay, Leave, HartLines}
+use Rattle.tpl_lang.specs.Parsing.{Said, vectors_of}
+use Rattle.tpl_lang.specs.Sets.{listed, points}
 
 -- the variable has a value in the ranges
 abbrev pub is_among : Var → List (ℕ × ℕ) → Wish

@@ -2,7 +2,7 @@
 ghost use Rattle.cover_sweep.specs.Laws.{DemosAreRead, DemosAreTemplates, SummariesAreShort};
 
 use dom_set::set_laws;
-use tpl_ast::statement_law;
+use tpl_lang::statement_law;
 
 /// Does nothing. Its contract says that the demo template of each number up to 2,000 is a text of the language, what it
 /// says, and that summaries are shorter than the room for a text.

@@ -6,10 +6,10 @@ use Rattle.std.proofs.lemmas.Bool.Decides.{nat_tests}
 use Rattle.std.proofs.lemmas.List.{drop_more, map-append}
 use Rattle.std.proofs.lemmas.List.Folds.{list_any_more}
 use Rattle.dom_set.specs.Elements.{elements_of, is_in, is_matching}
-use Rattle.row_parts.specs.Blocks.{is_in_block}
+use Rattle.row_parts.specs.Internal.Blocks.{is_in_block}
 use Rattle.row_parts.specs.declared.classes.Level.{Level}
 use Rattle.row_parts.specs.declared.classes.Level.TheVariants.{Root, Second}
-use Rattle.row_parts.specs.Classes.{TableOf, any_seen, entry_at, has_class, same as seen_alike, seen_at}
+use Rattle.row_parts.specs.Internal.Classes.{TableOf, any_seen, entry_at, has_class, same as seen_alike, seen_at}
 use Rattle.row_parts.specs.Items.{GivesEach, by_kind}
 use Rattle.row_parts.specs.Rows.{End, Leaves, when}
 use Rattle.row_parts.proofs.SeenOnce.{same_is}

@@ -7,7 +7,7 @@ use Rattle.rv_mem.specs.Seen.{is_known, is_there}
 use Rattle.sv_walk.specs.declared.entry.View.{View}
 use Rattle.sv_walk.specs.Entry.{is_invalid, is_pointer}
 use Rattle.sv_walk.specs.Translation.{is_translated, root_address, second_address}
-use Rattle.row_parts.specs.Classes.{seen_at}
+use Rattle.row_parts.specs.Internal.Classes.{seen_at}
 use Rattle.fetch_ways.specs.Ways.{is_free_walk}
 use Rattle.data_bytes.specs.declared.starts.DataAccess.{DataAccess}
 use Rattle.data_bytes.specs.declared.starts.DataAccess.TheVariants.{Store}

@@ -11,7 +11,7 @@ use Rattle.sv_walk.specs.Entry.{is_invalid, is_pointer, page_number}
 use Rattle.sv_walk.specs.Translation.{is_translated, root_address, second_address}
 use Rattle.row_parts.specs.declared.classes.Level.{Level}
 use Rattle.row_parts.specs.declared.classes.Level.TheVariants.{Root, Second}
-use Rattle.row_parts.specs.Classes.{seen_at}
+use Rattle.row_parts.specs.Internal.Classes.{seen_at}
 use Rattle.data_bytes.specs.Sets.{IsSetOf}
 use Rattle.data_bytes.specs.declared.starts.DataAccess.{DataAccess}
 use Rattle.data_ways.specs.declared.way.DataEnd.{DataEnd}

@@ -6,10 +6,10 @@ use Rattle.std.specs.Cmp.Lexicographic.{pointwise}
 use Rattle.std.proofs.lemmas.Bool.{cases_lt, and_parts, false≢true}
 use Rattle.set_pieces.specs.declared.piece.Piece.{Piece}
 use Rattle.dom_set.specs.Elements.{elements_of, is_in}
-use Rattle.set_pieces.specs.Counting.{one, total}
-use Rattle.set_pieces.specs.Patterns.{matches, is_matched}
-use Rattle.set_pieces.specs.Runs.{in_run}
-use Rattle.set_pieces.specs.Pieces.{in_piece, holds, times, IsApart}
+use Rattle.set_pieces.specs.Internal.Counting.{one, total}
+use Rattle.set_pieces.specs.Internal.Patterns.{matches, is_matched}
+use Rattle.set_pieces.specs.Internal.Runs.{in_run}
+use Rattle.set_pieces.specs.Internal.Pieces.{in_piece, holds, times, IsApart}
 use Rattle.set_pieces.proofs.Totals.{total_same, total_equal}
 use Rattle.set_pieces.proofs.Times.{holds_is, times_is}
 use Rattle.dom_set.proofs.Sets.{elements_same, is_in-elements}

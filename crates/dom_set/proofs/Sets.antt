@@ -12,8 +12,8 @@ use Rattle.std.proofs.lemmas.Bool.Decides.{nat_tests}
 use Rattle.std.proofs.lemmas.Map.Keys.{sorted_from_strictly_increasing}
 use Rattle.set_pieces.specs.declared.piece.Piece.{Piece}
 use Rattle.dom_set.specs.Elements.{elements_of, is_in, first_cyclic, is_signed_lt}
-use Rattle.set_pieces.specs.Counting.{one, total}
-use Rattle.set_pieces.specs.Pieces.{holds, times, IsApart}
+use Rattle.set_pieces.specs.Internal.Counting.{one, total}
+use Rattle.set_pieces.specs.Internal.Pieces.{holds, times, IsApart}
 use Rattle.set_pieces.specs.Ends.{HasPage, IsFirstFrom}
 use Rattle.set_pieces.proofs.Totals.{total_same}
 use Rattle.dom_set.proofs.Members.{members, members_same, filter_both, is_in-members, is_in-Contains, Contains-is_in, length-members, slice_get-members, first_is_found, find_none, find_first, members_ascend, members_below}

@@ -5,7 +5,7 @@ use Rattle.std.proofs.lemmas.List.Elements.{All-append}
 use Rattle.std.proofs.lemmas.List.Folds.{list_any-append, list_any_at, list_any_more}
 use Rattle.set_pieces.specs.declared.piece.Piece.{Piece}
 use Rattle.dom_set.specs.Elements.{elements_of, is_in, is_within}
-use Rattle.set_pieces.specs.Pieces.{in_piece, holds}
+use Rattle.set_pieces.specs.Internal.Pieces.{in_piece, holds}
 use Rattle.set_pieces.specs.Ends.{AreEnds}
 use Rattle.dom_set.proofs.Sets.{Contains-elements, held_word, is_in-elements, is_in_tests}
 

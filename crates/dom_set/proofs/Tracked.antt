@@ -6,10 +6,10 @@ use Rattle.set_pieces.specs.declared.pattern.Pattern.{Pattern}
 use Rattle.set_pieces.specs.declared.run.Run.{Run}
 use Rattle.set_pieces.specs.declared.piece.Piece.{Piece}
 use Rattle.dom_set.specs.declared.track.Track.{Track}
-use Rattle.set_pieces.specs.Counting.{one}
-use Rattle.set_pieces.specs.Patterns.{matches, matches_below, is_matched}
-use Rattle.set_pieces.specs.Runs.{in_run, is_in_run}
-use Rattle.set_pieces.specs.Pieces.{in_piece, holds}
+use Rattle.set_pieces.specs.Internal.Counting.{one}
+use Rattle.set_pieces.specs.Internal.Patterns.{matches, matches_below, is_matched}
+use Rattle.set_pieces.specs.Internal.Runs.{in_run, is_in_run}
+use Rattle.set_pieces.specs.Internal.Pieces.{in_piece, holds}
 use Rattle.dom_set.specs.Tracks.{is_on, is_on_one, AreKept}
 use Rattle.set_pieces.proofs.Pieces.{passes}
 use Rattle.set_pieces.proofs.Unmatched.{not_true}

@@ -1,8 +1,8 @@
 // Lists of pieces.
 ghost use Rattle.std.specs.Prelude.{◌≡◌, ℕ, ◌+◌, ◌-◌, ◌%◌, ◌^◌, ◌<◌, ◌≤◌, ◌&&◌, ◌||◌, Bool, true, bit_and, All, IfSome, IsTrue, nat_lt, nat_le, if◌then◌else◌, IfOk, OnOk};
-ghost use Rattle.set_pieces.specs.Counting.{total};
+ghost use Rattle.set_pieces.specs.Internal.Counting.{total};
 ghost use Rattle.dom_set.specs.Elements.{is_within};
-ghost use Rattle.set_pieces.specs.Pieces.{in_piece, times, holds, Ascends, IsApart};
+ghost use Rattle.set_pieces.specs.Internal.Pieces.{in_piece, times, holds, Ascends, IsApart};
 ghost use Rattle.set_pieces.specs.Ends.{HasPage, IsFirstFrom, IsLast, AreEnds};
 
 use set_pieces::{

@@ -2,8 +2,7 @@
 ghost use Rattle.std.specs.Prelude.{◌≡◌, ℕ, ◌+◌, ◌-◌, ◌^◌, ◌%◌, ◌<◌, ◌≤◌, ◌↔◌, ◌==◌, ◌&&◌, ◌||◌, true, [], length, filter, not, nat_lt, nat_le, Some, slice_get, ◌≢◌, ◌∷◌, MatchOption, IfOk, IfSome, IsTrue, IsNone, bit_and, All, Contains};
 ghost use Rattle.std.specs.List.Sorted.{IsStrictlyIncreasing};
 ghost use Rattle.std.specs.Int.{IsPowerOfTwo};
-ghost use Rattle.set_pieces.specs.Ends.{HasPage};
-ghost use Rattle.set_pieces.specs.Ends.{AreEnds};
+ghost use Rattle.set_pieces.specs.Ends.{HasPage, AreEnds};
 ghost use Rattle.dom_set.specs.Tracks.{is_on_one};
 ghost use Rattle.dom_set.specs.Elements.{elements_of, is_in, is_within, is_matching, is_signed_lt, first_cyclic};
 
@@ -25,7 +24,7 @@ impl Model for Set {
     ghost Value = { List ℕ };
 
     ghost use Rattle.dom_set.specs.Elements.{elements_of};
-    ghost use Rattle.set_pieces.specs.Pieces.{holds, IsApart};
+    ghost use Rattle.set_pieces.specs.Internal.Pieces.{holds, IsApart};
 
     ghost view = { λ s. elements_of (holds s.pieces.items) };
 
@@ -167,6 +166,11 @@ impl Set {
         ensures { IfSome result (λ bits. (x : ℕ) → IsTrue (is_in self.now x) → bit_and x mask ≡ bits) }
     {
         lists::bits_under(&self.pieces, mask)
+    }
+
+    /// In how many pieces it is kept, by which the time of calls goes.
+    pub fn pieces(&self) -> usize {
+        self.pieces.len()
     }
 
     /// Ranges that hold all elements, each from one element to another.

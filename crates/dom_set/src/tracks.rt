@@ -1,9 +1,9 @@
 // Tracks around the numbers of pieces.
 ghost use Rattle.std.specs.Prelude.{◌≡◌, ℕ, ◌%◌, ◌^◌, ◌<◌, ◌≤◌, true, false, OnOk, IfOk};
 ghost use Rattle.set_pieces.specs.Ends.{AreEnds};
-ghost use Rattle.set_pieces.specs.Patterns.{matches};
-ghost use Rattle.set_pieces.specs.Pieces.{holds, in_piece};
-ghost use Rattle.set_pieces.specs.Runs.{in_run, is_in_run};
+ghost use Rattle.set_pieces.specs.Internal.Patterns.{matches};
+ghost use Rattle.set_pieces.specs.Internal.Pieces.{holds, in_piece};
+ghost use Rattle.set_pieces.specs.Internal.Runs.{in_run, is_in_run};
 ghost use Rattle.dom_set.specs.Tracks.{is_on, is_on_one, AreKept};
 
 use crate::track::Track;

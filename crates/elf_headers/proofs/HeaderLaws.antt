@@ -4,7 +4,7 @@ use Rattle.std.specs.Prelude.{IsTrue}
 use Rattle.std.proofs.lemmas.Bool.{eqb-true, ltb-true, lt-ltb}
 use Rattle.std.proofs.lemmas.Option.{cond_some, same_Some}
 use Rattle.byte_format.specs.Numbers.{half, word, chained}
-use Rattle.byte_format.specs.Readers.{chain_at}
+use Rattle.byte_format.specs.Internal.Readers.{chain_at}
 use Rattle.byte_format.proofs.Laws.{Reads, reads_half, reads_word, reads_then, reads_both, reads_behind, reads_ahead, reads_as, reads_where, reads_fits, reads_text, reads_under}
 use Rattle.byte_format.proofs.Groups.{FitChain, reads_chain}
 use Rattle.elf_headers.specs.declared.elf.TheConstants.{EV_CURRENT, ET_EXEC, EM_RISCV, EHDR_SIZE, PHDR_SIZE, PT_LOAD, PT_NOTE, PF_X, PF_W, PF_R, ALIGN}
@@ -12,8 +12,8 @@ use Rattle.elf_headers.specs.declared.runs.Run.{Run}
 use Rattle.elf_headers.specs.declared.reading.Head.{Head}
 use Rattle.elf_headers.specs.declared.reading.Table.{Table}
 use Rattle.elf_headers.specs.Headers.{e_ident, elf_kind, elf_places, elf_counts, elf_header, segment_place, segment_size, program_header, note_segment, load_segment, load_headers, headers_end}
-use Rattle.elf_headers.specs.Checks.{is_head, is_table}
-use Rattle.elf_headers.specs.Readers.{kind_at, counts_at, places_at, head_of, header_at, twice_at, segment_at, size_of, note_segment_at, run_of, load_at, next_offset, table_of, table_at}
+use Rattle.elf_headers.specs.Internal.Checks.{is_head, is_table}
+use Rattle.elf_headers.specs.Internal.Readers.{kind_at, counts_at, places_at, head_of, header_at, twice_at, segment_at, size_of, note_segment_at, run_of, load_at, next_offset, table_of, table_at}
 
 -- ---- the ELF header
 

@@ -1,5 +1,4 @@
 pub mod Runs
 pub mod Headers
 pub mod Numbers
-pub mod Checks
-pub mod Readers
+pub mod Internal

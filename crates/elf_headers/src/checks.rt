@@ -1,7 +1,7 @@
 // Tests of what the program headers say.
 ghost use Rattle.std.specs.Prelude.{◌≡◌, ◌≤◌, IsTrue, nat_le};
 ghost use Rattle.elf_headers.specs.Runs.{total_words};
-ghost use Rattle.elf_headers.specs.Checks.{are_runs, is_table};
+ghost use Rattle.elf_headers.specs.Internal.Checks.{are_runs, is_table};
 ghost use Rattle.tpl_ast.specs.Limits.{file_limits};
 
 use crate::reading::Table;
@@ -36,7 +36,7 @@ fn are_few(runs: &[Run]) -> bool
     total <= MAX_WORDS as u64
 }
 
-#[tactic(auto, unfolding(crate::specs::Checks::is_table))]
+#[tactic(auto, unfolding(crate::specs::Internal::Checks::is_table))]
 pub fn is_table(table: &Table) -> bool
     ensures value { result ≡ is_table table.now }
     ensures small { IsTrue result → total_words table.now.runs ≤ file_limits.words }

@@ -1,10 +1,10 @@
 // The ELF header and the program headers.
 ghost use Rattle.std.specs.Prelude.{◌≡◌, ◌<◌, ◌≤◌, ◌^◌, ◌-◌, IfOk, IsTrue, IfErr};
-ghost use Rattle.byte_format.specs.Readers.{Gives, skip, chain_at};
+ghost use Rattle.byte_format.specs.Internal.Readers.{Gives, skip, chain_at};
 ghost use Rattle.elf_headers.specs.Headers.{e_ident};
 ghost use Rattle.elf_headers.specs.Runs.{total_words};
-ghost use Rattle.elf_headers.specs.Checks.{are_runs};
-ghost use Rattle.elf_headers.specs.Readers.{kind_at, counts_at, places_at, header_at, sized_header_at, twice_at, segment_at, note_segment_at, load_at, next_offset, table_at};
+ghost use Rattle.elf_headers.specs.Internal.Checks.{are_runs};
+ghost use Rattle.elf_headers.specs.Internal.Readers.{kind_at, counts_at, places_at, header_at, sized_header_at, twice_at, segment_at, note_segment_at, load_at, next_offset, table_at};
 ghost use Rattle.tpl_ast.specs.Limits.{file_limits};
 
 use crate::checks::is_table;
@@ -43,7 +43,7 @@ fn after_ident(bytes: &[u8]) -> Result<&[u8], PieceError>
 }
 
 /// The entry.
-#[tactic(auto, unfolding(crate::specs::Readers::kind_at))]
+#[tactic(auto, unfolding(crate::specs::Internal::Readers::kind_at))]
 fn kind_of(bytes: &[u8]) -> Result<(u32, &[u8]), PieceError>
     ensures gives { Gives (λ x. (x.0, x.1.now)) result (kind_at bytes.now) }
     ensures malformed { IfErr result (λ e. e ≡ PieceError.Malformed) }
@@ -55,7 +55,7 @@ fn kind_of(bytes: &[u8]) -> Result<(u32, &[u8]), PieceError>
 }
 
 /// How many program headers there are.
-#[tactic(auto, unfolding(crate::specs::Readers::counts_at))]
+#[tactic(auto, unfolding(crate::specs::Internal::Readers::counts_at))]
 fn counts_of(bytes: &[u8]) -> Result<(u16, &[u8]), PieceError>
     ensures gives { Gives (λ x. (x.0, x.1.now)) result (counts_at bytes.now) }
     ensures malformed { IfErr result (λ e. e ≡ PieceError.Malformed) }
@@ -67,7 +67,7 @@ fn counts_of(bytes: &[u8]) -> Result<(u16, &[u8]), PieceError>
     Ok((phnum, rest))
 }
 
-#[tactic(auto, unfolding(crate::specs::Readers::places_at))]
+#[tactic(auto, unfolding(crate::specs::Internal::Readers::places_at))]
 fn places_of(bytes: &[u8]) -> Result<(u16, &[u8]), PieceError>
     ensures gives { Gives (λ x. (x.0, x.1.now)) result (places_at bytes.now) }
     ensures malformed { IfErr result (λ e. e ≡ PieceError.Malformed) }
@@ -80,7 +80,7 @@ fn places_of(bytes: &[u8]) -> Result<(u16, &[u8]), PieceError>
     counts_of(rest)
 }
 
-#[tactic(auto, unfolding(crate::specs::Readers::header_at))]
+#[tactic(auto, unfolding(crate::specs::Internal::Readers::header_at))]
 fn header_of(bytes: &[u8]) -> Result<(Head, &[u8]), PieceError>
     ensures gives { Gives (λ x. (x.0, x.1.now)) result (header_at bytes.now) }
     ensures some { IfOk result (λ x. 1 ≤ x.0.phnum) }
@@ -96,7 +96,7 @@ fn header_of(bytes: &[u8]) -> Result<(Head, &[u8]), PieceError>
 }
 
 /// The ELF header of a file that is not too long.
-#[tactic(auto, unfolding(crate::specs::Readers::sized_header_at))]
+#[tactic(auto, unfolding(crate::specs::Internal::Readers::sized_header_at))]
 pub fn sized_header_of(bytes: &[u8]) -> Result<(Head, &[u8]), PieceError>
     ensures gives { Gives (λ x. (x.0, x.1.now)) result (sized_header_at bytes.now) }
     ensures some { IfOk result (λ x. 1 ≤ x.0.phnum) }
@@ -109,7 +109,7 @@ pub fn sized_header_of(bytes: &[u8]) -> Result<(Head, &[u8]), PieceError>
 }
 
 /// A number that stands twice.
-#[tactic(auto, unfolding(crate::specs::Readers::twice_at))]
+#[tactic(auto, unfolding(crate::specs::Internal::Readers::twice_at))]
 fn twice_of(bytes: &[u8]) -> Result<(u32, &[u8]), PieceError>
     ensures gives { Gives (λ x. (x.0, x.1.now)) result (twice_at bytes.now) }
     ensures malformed { IfErr result (λ e. e ≡ PieceError.Malformed) }
@@ -120,7 +120,7 @@ fn twice_of(bytes: &[u8]) -> Result<(u32, &[u8]), PieceError>
 }
 
 /// The address and the size of a segment.
-#[tactic(auto, unfolding(crate::specs::Readers::segment_at))]
+#[tactic(auto, unfolding(crate::specs::Internal::Readers::segment_at))]
 fn segment_of(
     bytes: &[u8],
     kind: u32,
@@ -140,7 +140,7 @@ fn segment_of(
 }
 
 /// The size of the notes.
-#[tactic(auto, unfolding(crate::specs::Readers::note_segment_at))]
+#[tactic(auto, unfolding(crate::specs::Internal::Readers::note_segment_at))]
 fn note_segment_of(bytes: &[u8], offset: u32) -> Result<(u32, &[u8]), PieceError>
     ensures gives { Gives (λ x. (x.0, x.1.now)) result (note_segment_at offset bytes.now) }
     ensures malformed { IfErr result (λ e. e ≡ PieceError.Malformed) }
@@ -153,7 +153,7 @@ fn note_segment_of(bytes: &[u8], offset: u32) -> Result<(u32, &[u8]), PieceError
 }
 
 /// The run whose bytes begin at an offset.
-#[tactic(auto, unfolding(crate::specs::Readers::load_at))]
+#[tactic(auto, unfolding(crate::specs::Internal::Readers::load_at))]
 fn load_of(bytes: &[u8], offset: u64) -> Result<(Run, &[u8]), PieceError>
     ensures gives { Gives (λ x. (x.0, x.1.now)) result (load_at offset bytes.now) }
     ensures small { IfOk result (λ x. x.0.words < 2 ^ 32) }
@@ -196,7 +196,7 @@ fn loads_of(
 }
 
 /// The program headers.
-#[tactic(auto, unfolding(crate::specs::Readers::table_at))]
+#[tactic(auto, unfolding(crate::specs::Internal::Readers::table_at))]
 pub fn table_of(alloc: Global, bytes: &[u8], phnum: u16) -> Result<(Table, &[u8]), PieceError>
     requires { 1 ≤ phnum }
     ensures gives { Gives (λ x. (x.0, x.1.now)) result (table_at phnum bytes.now) }

@@ -7,21 +7,21 @@ use Rattle.std.specs.List.{AllByRecursion}
 use Rattle.std.proofs.lemmas.Option.{same_Some, none-some}
 use Rattle.tpl_ast.specs.declared.template.Region.{Region}
 use Rattle.tpl_ast.specs.declared.template.Template.{Template}
-use Rattle.tpl_ast.specs.Parsing.{Said, said_by}
-use Rattle.tpl_ast.specs.Laws.{TemplatesKeepLimits}
+use Rattle.tpl_lang.specs.Parsing.{Said, said_by}
+use Rattle.tpl_lang.specs.Laws.{TemplatesKeepLimits}
 use Rattle.tpl_admit.specs.declared.certificate.Cert.{Cert}
 use Rattle.tpl_admit.specs.WellFormed.{IsWellFormed}
 use Rattle.byte_format.specs.declared.error.PieceError.{PieceError}
 use Rattle.byte_format.specs.declared.error.PieceError.TheVariants as pieces
-use Rattle.byte_format.specs.Readers.{Fails}
+use Rattle.byte_format.specs.Internal.Readers.{Fails}
 use Rattle.byte_format.proofs.Bytes.{IsBytes}
 use Rattle.elf_image.specs.declared.error.ReadError.{ReadError}
 use Rattle.elf_image.specs.declared.error.ReadError.TheVariants as errors
 use Rattle.elf_image.specs.File.{file_bytes}
 use Rattle.elf_image.specs.Parts.{IsTemplate, UpToRecords, UpToTemplate, cert_of, HasLoads, IsFile, LacksTemplate, LacksLoads, IsFirstWrong}
-use Rattle.elf_image.specs.PartReaders.{template_at, loaded_at}
-use Rattle.elf_image.specs.Views.{FrontParts}
-use Rattle.elf_image.specs.Whole.{GivesPart, at_part, front_at, IsRead}
+use Rattle.elf_image.specs.Internal.PartReaders.{template_at, loaded_at}
+use Rattle.elf_image.specs.Internal.Views.{FrontParts}
+use Rattle.elf_image.specs.Internal.Whole.{GivesPart, at_part, front_at, IsRead}
 use Rattle.elf_image.specs.Told.{Told, told}
 use Rattle.elf_image.proofs.PartLaws.{template_takes, template_again, loads_take, loads_again}
 use Rattle.elf_image.proofs.Front.{front_from, front_takes, front_again, front_wrong, notes_rest, IsLate, wrong_early}

@@ -4,7 +4,7 @@ use Rattle.std.specs.declared.option.Option.{Option}
 use Rattle.std.specs.declared.result.Result.{Result}
 use Rattle.std.proofs.lemmas.Option.{none-some}
 use Rattle.rv_hart.specs.declared.record.Record.{Record}
-use Rattle.byte_format.specs.Readers.{whole}
+use Rattle.byte_format.specs.Internal.Readers.{whole}
 use Rattle.byte_format.proofs.Bytes.{IsBytes, bytes_rest}
 use Rattle.elf_headers.specs.declared.reading.Head.{Head}
 use Rattle.elf_headers.specs.declared.reading.Table.{Table}
@@ -12,10 +12,10 @@ use Rattle.elf_headers.specs.Runs.{total_words}
 use Rattle.elf_headers.specs.Headers.{elf_header, program_headers}
 use Rattle.elf_image.specs.Notes.{notes_spelling, Notes, list_notes}
 use Rattle.elf_image.specs.Parts.{IsTable, AreNotes, AreRecords, UpToHead, UpToTable, UpToNotes, UpToRecords, LacksHead, LacksTable, LacksNotes, LacksRecords, LacksTemplate, LacksLoads, UpToTemplate, IsFirstWrong}
-use Rattle.elf_headers.specs.Readers.{sized_header_at, table_at}
-use Rattle.elf_image.specs.PartReaders.{segment_notes_at, traces_at}
-use Rattle.elf_image.specs.Views.{FrontParts}
-use Rattle.elf_image.specs.Whole.{part, ◌>>-◌, after_notes, after_table, after_head, front_at}
+use Rattle.elf_headers.specs.Internal.Readers.{sized_header_at, table_at}
+use Rattle.elf_image.specs.Internal.PartReaders.{segment_notes_at, traces_at}
+use Rattle.elf_image.specs.Internal.Views.{FrontParts}
+use Rattle.elf_image.specs.Internal.Whole.{part, ◌>>-◌, after_notes, after_table, after_head, front_at}
 use Rattle.elf_image.proofs.PartLaws.{head_takes, head_again, table_takes, table_again, notes_take, notes_again, traces_bytes, records_take, records_again}
 
 part_err : {A B : Type 0} (k : ℕ) (o : Option A) (f : A → Result B ℕ) (e : ℕ) → (part k o >>- f) ≡ Err e → ((e ≡ k) × (o ≡ None)) ⊎ ((x : A) × (o ≡ Some x) × (f x ≡ Err e))

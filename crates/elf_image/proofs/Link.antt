@@ -3,8 +3,8 @@ use Rattle.std.proofs.Common.{◌≡◌, ℕ, ◌+◌, ◌*◌, ◌^◌, ◌<◌
 use Rattle.std.specs.List.{AllByRecursion}
 use Rattle.rv_hart.specs.declared.record.Record.{Record}
 use Rattle.tpl_ast.specs.declared.template.Template.{Template}
-use Rattle.tpl_ast.specs.Parsing.{Parses}
-use Rattle.tpl_ast.specs.Laws.{TemplatesKeepLimits}
+use Rattle.tpl_lang.specs.Parsing.{Parses}
+use Rattle.tpl_lang.specs.Laws.{TemplatesKeepLimits}
 use Rattle.tpl_admit.specs.declared.certificate.Cert.{Cert}
 use Rattle.tpl_ast.specs.declared.template.HartState.{HartState}
 use Rattle.tpl_admit.specs.Sizes.{runs_behind, run_count, file_size}

@@ -7,15 +7,15 @@ use Rattle.std.proofs.lemmas.List.Concat.{flat_map-append}
 use Rattle.std.proofs.lemmas.Option.{same_Some}
 use Rattle.tpl_ast.specs.declared.template.Region.{Region}
 use Rattle.byte_format.specs.Numbers.{word, chained}
-use Rattle.byte_format.specs.Readers.{◌>>=◌, chain_at}
+use Rattle.byte_format.specs.Internal.Readers.{◌>>=◌, chain_at}
 use Rattle.byte_format.proofs.Bytes.{IsBytes, bytes_rest, bind_some}
 use Rattle.byte_format.proofs.Laws.{Reads, reads_word, reads_as, reads_where, reads_fits, reads_text}
 use Rattle.byte_format.proofs.Groups.{FitChain, reads_chain}
 use Rattle.elf_headers.specs.declared.runs.Run.{Run}
 use Rattle.elf_headers.specs.Runs.{address_of, addresses, addresses_of}
 use Rattle.elf_image.specs.File.{load_spelling}
-use Rattle.elf_image.specs.Checks.{are_in}
-use Rattle.elf_image.specs.PartReaders.{placed_at, next_address, words_at, image_at}
+use Rattle.elf_image.specs.Internal.Checks.{are_in}
+use Rattle.elf_image.specs.Internal.PartReaders.{placed_at, next_address, words_at, image_at}
 
 abbrev Words : Type 0
 Words = List (ℕ × ℕ)

@@ -5,10 +5,10 @@ use Rattle.std.proofs.lemmas.Option.{same_Some}
 use Rattle.std.specs.declared.option.Option.{Option}
 use Rattle.byte_format.specs.declared.error.PieceError.{PieceError}
 use Rattle.byte_format.specs.declared.error.PieceError.TheVariants.{Malformed, OutOfMemory}
-use Rattle.byte_format.specs.Readers.{◌>>=◌, Fails, chain_at, with_front}
+use Rattle.byte_format.specs.Internal.Readers.{◌>>=◌, Fails, chain_at, with_front}
 use Rattle.elf_headers.specs.declared.runs.Run.{Run}
-use Rattle.elf_headers.specs.Checks.{are_runs}
-use Rattle.elf_image.specs.PartReaders.{placed_at, next_address, words_at}
+use Rattle.elf_headers.specs.Internal.Checks.{are_runs}
+use Rattle.elf_image.specs.Internal.PartReaders.{placed_at, next_address, words_at}
 use Rattle.note_items.proofs.Booleans.{at_most, no_then, yes_then}
 
 -- no run ends behind 2 ^ 32

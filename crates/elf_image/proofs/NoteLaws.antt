@@ -14,14 +14,14 @@ use Rattle.tpl_admit.specs.Sizes.{note_bytes}
 use Rattle.tpl_admit.specs.WellFormed.{IsRecord}
 use Rattle.tpl_ast.specs.States.{IsWord, IsState}
 use Rattle.byte_format.specs.Numbers.{word, padding}
-use Rattle.byte_format.specs.Readers.{◌>>=◌, whole}
+use Rattle.byte_format.specs.Internal.Readers.{◌>>=◌, whole}
 use Rattle.byte_format.proofs.Bytes.{IsBytes, bytes_rest, bytes_front, bind_some}
 use Rattle.byte_format.proofs.Laws.{Reads, reads_word, reads_then, reads_both, reads_behind, reads_as, reads_where, reads_fits, reads_text, reads_padded, reads_within, whole_takes, whole_again}
 use Rattle.byte_format.proofs.Groups.{AreCountable, reads_times, reads_counted}
 use Rattle.elf_headers.specs.declared.elf.TheConstants.{NAME_SIZE, NT_START, NT_TRACES, NT_FINAL, NT_TEMPLATE, NT_REST, VERSION}
 use Rattle.elf_image.specs.Notes.{start_desc, traces_desc, final_desc, rest_desc, note_name, note, notes_spelling, Notes, list_notes}
-use Rattle.elf_image.specs.Checks.{are_harts, are_traces}
-use Rattle.elf_image.specs.PartReaders.{desc_of, note_at, told_at, start_at, final_at, notes_from, notes_at, segment_notes_at, traces_at}
+use Rattle.elf_image.specs.Internal.Checks.{are_harts, are_traces}
+use Rattle.elf_image.specs.Internal.PartReaders.{desc_of, note_at, told_at, start_at, final_at, notes_from, notes_at, segment_notes_at, traces_at}
 use Rattle.note_items.proofs.Booleans.{equal, at_most, is_at_most, and_true, both_true}
 use Rattle.elf_image.proofs.Lengths.{length-listed}
 use Rattle.note_items.proofs.ItemLaws.{reads_state, reads_trace}

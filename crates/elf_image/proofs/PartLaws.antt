@@ -8,9 +8,10 @@ use Rattle.rv_hart.specs.declared.record.Record.{Record}
 use Rattle.tpl_ast.specs.declared.template.Region.{Region}
 use Rattle.tpl_ast.specs.declared.template.HartState.{HartState}
 use Rattle.tpl_ast.specs.declared.template.Template.{Template}
-use Rattle.tpl_ast.specs.declared.fault.Fault.{Fault}
-use Rattle.tpl_ast.specs.Parsing.{Said, said_by, parses, hart_lines}
-use Rattle.byte_format.specs.Readers.{whole}
+use Rattle.tpl_lang.specs.declared.fault.Fault.{Fault}
+use Rattle.tpl_lang.specs.Parsing.{Said, said_by, parses}
+use Rattle.tpl_ast.specs.Bodies.{hart_lines}
+use Rattle.byte_format.specs.Internal.Readers.{whole}
 use Rattle.byte_format.proofs.Bytes.{IsBytes, bytes_rest, bytes_front, bind_some, unless_true, where_true}
 use Rattle.byte_format.proofs.Laws.{whole_takes, whole_again}
 use Rattle.elf_headers.specs.declared.elf.TheConstants.{NT_START, NT_TRACES, NT_FINAL, NT_TEMPLATE, NT_REST}
@@ -22,10 +23,10 @@ use Rattle.elf_headers.specs.Headers.{program_header, note_segment, load_headers
 use Rattle.elf_image.specs.Notes.{start_desc, final_desc, rest_desc, note, notes_spelling, Notes, list_notes}
 use Rattle.elf_image.specs.File.{entry_of}
 use Rattle.elf_image.specs.Parts.{AreRuns, IsHead, IsTable, AreNotes, AreRecords, AreValues, IsTemplate, AreLoads}
-use Rattle.elf_headers.specs.Checks.{is_head, are_runs, is_table}
-use Rattle.elf_image.specs.Checks.{are_named, is_fit}
-use Rattle.elf_headers.specs.Readers.{header_at, sized_header_at, table_at}
-use Rattle.elf_image.specs.PartReaders.{segment_notes_at, traces_at, said_in, template_at, image_at, loaded_at}
+use Rattle.elf_headers.specs.Internal.Checks.{is_head, are_runs, is_table}
+use Rattle.elf_image.specs.Internal.Checks.{are_named, is_fit}
+use Rattle.elf_headers.specs.Internal.Readers.{header_at, sized_header_at, table_at}
+use Rattle.elf_image.specs.Internal.PartReaders.{segment_notes_at, traces_at, said_in, template_at, image_at, loaded_at}
 use Rattle.note_items.proofs.Booleans.{equal, at_most, is_at_most, and_true, both_true, no_then, yes_then}
 use Rattle.elf_headers.proofs.HeaderLaws.{reads_header, reads_table}
 use Rattle.elf_image.proofs.RunLaws.{AreAscending, runs_take, runs_pass, offsets_take, offsets_fit, runs_ascend, words_in, words_fit, words_start}

@@ -12,8 +12,8 @@ use Rattle.byte_format.proofs.Laws.{Reads, reads_word, reads_both, reads_where}
 use Rattle.byte_format.proofs.Groups.{AreCountable, reads_counted}
 use Rattle.elf_image.specs.Notes.{rest_desc}
 use Rattle.elf_image.specs.Parts.{AreValues}
-use Rattle.elf_image.specs.Checks.{are_values, is_drop, are_dropped, is_rest, is_named, are_named}
-use Rattle.elf_image.specs.PartReaders.{rest_at}
+use Rattle.elf_image.specs.Internal.Checks.{are_values, is_drop, are_dropped, is_rest, is_named, are_named}
+use Rattle.elf_image.specs.Internal.PartReaders.{rest_at}
 use Rattle.note_items.proofs.Booleans.{at_most, is_at_most, and_true, both_true, no_then, yes_then}
 use Rattle.elf_image.proofs.Lengths.{length-rest_desc}
 use Rattle.note_items.proofs.ItemLaws.{FitsPair, FitsDrop, reads_pair, reads_drop}

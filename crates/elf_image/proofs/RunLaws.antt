@@ -7,14 +7,14 @@ use Rattle.std.proofs.lemmas.List.{length-append, length-map}
 use Rattle.std.proofs.lemmas.List.Sums.{sum_by-cons}
 use Rattle.tpl_ast.specs.declared.template.Region.{Region}
 use Rattle.tpl_ast.specs.Templates.{IsFramed}
-use Rattle.tpl_ast.specs.States.{is_in, AreStartWords}
+use Rattle.tpl_ast.specs.States.{AreStartWords, is_in_ram}
 use Rattle.byte_format.proofs.Groups.{FitChain}
 use Rattle.elf_headers.specs.declared.runs.Run.{Run}
 use Rattle.elf_headers.specs.Runs.{address_of, runs_from, runs_of, addresses, addresses_of, total_words}
 use Rattle.elf_image.specs.Parts.{AreRuns, AreOffsets}
-use Rattle.elf_headers.specs.Checks.{are_runs}
-use Rattle.elf_image.specs.Checks.{are_in}
-use Rattle.elf_headers.specs.Readers.{next_offset}
+use Rattle.elf_headers.specs.Internal.Checks.{are_runs}
+use Rattle.elf_image.specs.Internal.Checks.{are_in}
+use Rattle.elf_headers.specs.Internal.Readers.{next_offset}
 use Rattle.note_items.proofs.Booleans.{equal, apart, at_most, is_at_most, and_true, both_true, or_true, no_then, yes_then}
 use Rattle.elf_headers.proofs.HeaderLaws.{FitsRun}
 
@@ -197,10 +197,10 @@ ascending_runs (a ∷ rest) low is =
 -- ---- words that are given a value
 
 -- no region reaches the last frame
-below_last : (ram : List Region) (a : ℕ) → AllByRecursion IsFramed ram → is_in ram a ≡ true → a < 0xFFFFF000
+below_last : (ram : List Region) (a : ℕ) → AllByRecursion IsFramed ram → is_in_ram ram a ≡ true → a < 0xFFFFF000
 below_last [] a framed e = absurd cc
 below_last (r ∷ rs) a framed e =
-    elim (or_true (leb r.low a && ltb a r.high) (is_in rs a) e) [
+    elim (or_true (leb r.low a && ltb a r.high) (is_in_ram rs a) e) [
       | inl here ↦ let below : a < r.high = ltb-true _ _ (and_true (leb r.low a) (ltb a r.high) here).1 in omega (arith, framed.0.most)
       | inr other ↦ below_last rs a framed.1 other
     ]
@@ -214,7 +214,7 @@ words_ascend ram low (w ∷ ws) framed is =
 pub words_in : (ram : List Region) (low : ℕ) (words : List (ℕ × ℕ)) → AreStartWords ram low words → are_in ram words ≡ true
 unfolding are_in
 words_in ram low [] is = refl
-words_in ram low (w ∷ ws) is = both_true (is_in ram w.0) (list_all (λ x. is_in ram x.0) ws) is.2 (words_in ram (w.0 + 4) ws is.4)
+words_in ram low (w ∷ ws) is = both_true (is_in_ram ram w.0) (list_all (λ x. is_in_ram ram x.0) ws) is.2 (words_in ram (w.0 + 4) ws is.4)
 
 pub words_fit : (ram : List Region) (low : ℕ) (words : List (ℕ × ℕ)) → AreStartWords ram low words → AllByRecursion (λ w. w.1 < 2 ^ 32) words
 words_fit ram low [] is = tt
@@ -224,5 +224,5 @@ pub words_start : (ram : List Region) (low : ℕ) (words : List (ℕ × ℕ)) �
 unfolding are_in
 words_start ram low [] is within fits = tt
 words_start ram low (w ∷ ws) is within fits =
-    let both = and_true (is_in ram w.0) (list_all (λ x. is_in ram x.0) ws) within in
+    let both = and_true (is_in_ram ram w.0) (list_all (λ x. is_in_ram ram x.0) ws) within in
     (is.0, is.1, both.0, fits.0, words_start ram (w.0 + 4) ws is.3 both.1 fits.1)

@@ -12,7 +12,7 @@ ghost use Rattle.elf_headers.specs.Numbers.{NamesHaveTheirNumbers};
 ghost use Rattle.elf_image.specs.Parts.{IsFirstWrong};
 ghost use Rattle.elf_image.specs.Told.{told};
 
-use tpl_ast::template_law;
+use tpl_lang::template_law;
 
 /// How many bytes the file of a certificate has.
 pub fn file_lengths()

@@ -2,15 +2,15 @@
 ghost use Rattle.std.specs.Prelude.{◌≡◌, ℕ, None, Err, IfOk, IsTrue, MatchResult};
 ghost use Rattle.tpl_admit.specs.declared.certificate.Cert.{Cert as ACert};
 ghost use Rattle.tpl_admit.specs.WellFormed.{IsWellFormed};
-ghost use Rattle.byte_format.specs.Readers.{Gives};
-ghost use Rattle.tpl_ast.specs.Parsing.{parses, said_by};
+ghost use Rattle.byte_format.specs.Internal.Readers.{Gives};
+ghost use Rattle.tpl_lang.specs.Parsing.{parses, said_by};
 ghost use Rattle.elf_image.specs.File.{file_bytes};
 ghost use Rattle.elf_image.specs.Parts.{IsFirstWrong, LacksHead};
-ghost use Rattle.elf_headers.specs.Checks.{are_runs};
-ghost use Rattle.elf_headers.specs.Readers.{sized_header_at};
-ghost use Rattle.elf_image.specs.PartReaders.{said_in, template_at};
-ghost use Rattle.elf_image.specs.Views.{front_view, notes_view};
-ghost use Rattle.elf_image.specs.Whole.{GivesPart, IsRead, at_part, no_template, front_at};
+ghost use Rattle.elf_headers.specs.Internal.Checks.{are_runs};
+ghost use Rattle.elf_headers.specs.Internal.Readers.{sized_header_at};
+ghost use Rattle.elf_image.specs.Internal.PartReaders.{said_in, template_at};
+ghost use Rattle.elf_image.specs.Internal.Views.{front_view, notes_view};
+ghost use Rattle.elf_image.specs.Internal.Whole.{GivesPart, IsRead, at_part, no_template, front_at};
 ghost use Rattle.elf_image.specs.Told.{told};
 
 mod checks;
@@ -26,7 +26,8 @@ use notes::{NoteDescs, segment_notes_of, traces_of};
 use rv_hart::Record;
 use std::alloc::Global;
 use tpl_admit::Cert;
-use tpl_ast::{Items, Template, template_law};
+use tpl_ast::{Items, Template};
+use tpl_lang::template_law;
 use tpl_parse::{ParseError, parse};
 
 /// What the first four parts say, and the bytes behind the notes.
@@ -50,7 +51,7 @@ fn at(part: u8, error: PieceError) -> ReadError
 }
 
 /// The first four parts: the headers, the notes and the records.
-#[tactic(auto, unfolding(crate::specs::Whole::front_at))]
+#[tactic(auto, unfolding(crate::specs::Internal::Whole::front_at))]
 fn front_of(alloc: Global, bytes: &[u8]) -> Result<Front<'_>, ReadError>
     ensures gives { GivesPart front_view result (front_at bytes.now) }
     ensures header { sized_header_at bytes.now ≡ None → result ≡ Err (ReadError.Malformed 1) }
@@ -103,7 +104,7 @@ fn told_of(alloc: Global, text: &[u8]) -> Result<Template, PieceError>
 }
 
 /// The template of the notes, which has as many harts as they, and the names of their values.
-#[tactic(auto, unfolding(crate::specs::PartReaders::template_at))]
+#[tactic(auto, unfolding(crate::specs::Internal::PartReaders::template_at))]
 fn template_of(alloc: Global, notes: &NoteDescs<'_>) -> Result<Template, PieceError>
     ensures gives { Gives said_by result (template_at (notes_view notes.now)) }
     ensures text { IfOk result (λ t. t.text ≡ notes.now.text.now) }

@@ -6,13 +6,13 @@ use Rattle.fd_prob.specs.declared.problem.Assignment.{Assignment}
 use Rattle.fd_prob.specs.declared.slot.Slot.{Slot}
 use Rattle.fd_prob.specs.declared.slot.Slot.TheVariants as slots
 use Rattle.fd_prob.specs.Relations.{is_same, value_of}
-use Rattle.fd_narrow.specs.declared.orders.Order.{Order}
-use Rattle.fd_narrow.specs.declared.orders.Order.TheVariants.{Signed, Unsigned}
+use Rattle.word_sets.specs.declared.orders.Order.{Order}
+use Rattle.word_sets.specs.declared.orders.Order.TheVariants.{Signed, Unsigned}
 use Rattle.fd_narrow.specs.declared.standings.Standing.{Standing}
 use Rattle.fd_narrow.specs.declared.standings.Standing.TheVariants.{Less, Equal, Greater}
 use Rattle.fd_prob.specs.declared.relation.Rel.{Rel}
 use Rattle.fd_narrow.specs.Narrowing.{domain_in}
-use Rattle.fd_narrow.specs.Standings.{IsRuledOut, IsUnfit, Stands, order_of, standing}
+use Rattle.fd_narrow.specs.Internal.Standings.{IsRuledOut, IsUnfit, Stands, order_of, standing}
 use Rattle.set_sums.proofs.Members.{element}
 use Rattle.fd_narrow.proofs.Totals.{there}
 

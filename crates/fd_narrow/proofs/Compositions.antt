@@ -4,7 +4,7 @@ use Rattle.rv_isa.specs.declared.operation.Op.{Op}
 use Rattle.fd_prob.specs.declared.problem.Assignment.{Assignment}
 use Rattle.fd_prob.specs.declared.relation.Rel.{Rel}
 use Rattle.fd_narrow.specs.Narrowing.{IsInside, Narrows}
-use Rattle.fd_narrow.specs.Steps.{IsNever, Leaves}
+use Rattle.fd_narrow.specs.Internal.Steps.{IsNever, Leaves}
 
 -- nothing is taken
 pub nothing : (P : Assignment → Type 0) (doms : List (List ℕ)) → Leaves P doms doms

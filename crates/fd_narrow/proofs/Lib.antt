@@ -8,6 +8,4 @@ pub mod Ranks
 pub mod Comparing
 pub mod RowParts
 pub mod Jumps
-pub mod Legality
-pub mod Origins
 pub mod Operands

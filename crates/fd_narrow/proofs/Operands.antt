@@ -1,30 +1,26 @@
 -- What is written to control and status registers.
-use Rattle.std.proofs.Common.{◌≡◌, ◌==◌, ℕ, ◌<◌, ◌≤◌, ◌^◌, ◌&&◌, ⊎_elim, inl, inr, Bool, true, false, nat_eq, ◌||◌, All, List, [], ◌∷◌, Option, Some, None, IsTrue, length, refl, sym, ap, ◌∙◌, subst, arith, eqb-true}
-use Rattle.std.specs.List.{filter, find, list_any}
+use Rattle.std.proofs.Common.{◌≡◌, ℕ, ◌<◌, ◌^◌, ◌&&◌, ⊎_elim, inl, inr, Bool, true, false, nat_eq, All, List, [], ◌∷◌, Option, Some, None, IsTrue, length, refl, sym, ap, ◌∙◌, subst, eqb-true}
+use Rattle.std.specs.List.{filter}
 use Rattle.std.specs.Prelude.{◌↔◌, if◌then◌else◌}
-use Rattle.std.proofs.lemmas.Bool.Decides.{nat_tests}
 use Rattle.dom_set.specs.Elements.{is_in, is_within}
-use Rattle.rv_csr.specs.declared.table.Register.{Register}
-use Rattle.rv_csr.specs.Table.{address_of, is_legal_at, is_legal_for, registers}
+use Rattle.rv_csr.specs.Table.{is_legal_at}
 use Rattle.fd_prob.specs.declared.problem.Assignment.{Assignment}
 use Rattle.fd_prob.specs.declared.slot.Slot.{Slot}
 use Rattle.fd_prob.specs.declared.slot.Slot.TheVariants as slots
 use Rattle.fd_prob.specs.Relations.{is_none_or_legal, value_of}
-use Rattle.fd_narrow.specs.declared.sources.Made.{Made}
-use Rattle.fd_narrow.specs.declared.writes.Change.{Change}
+use Rattle.word_sets.specs.declared.sources.Made.{Made}
+use Rattle.word_sets.specs.declared.changes.Change.{Change}
 use Rattle.fd_narrow.specs.Narrowing.{IsInside, domain_in}
-use Rattle.fd_narrow.specs.Sources.{CanBe, IsLegalSource, made}
-use Rattle.set_sums.specs.Spans.{IsOfRanges}
-use Rattle.fd_narrow.specs.Steps.{IsValueIn, Leaves}
-use Rattle.fd_narrow.specs.Writes.{IsLegalFrom, IsLegalOperand, by_register, changed}
+use Rattle.word_sets.specs.Internal.Sources.{CanBe, IsLegalSource, made}
+use Rattle.set_sums.specs.Internal.Spans.{IsOfRanges}
+use Rattle.fd_narrow.specs.Internal.Steps.{IsValueIn, Leaves}
+use Rattle.fd_narrow.specs.Internal.Writes.{IsLegalFrom, IsLegalOperand, by_register}
+use Rattle.word_sets.specs.Internal.Changes.{changed}
 use Rattle.fd_narrow.proofs.Compositions.{weakened}
-use Rattle.set_sums.proofs.Members.{element, is_in-filter, joined, right, same}
+use Rattle.set_sums.proofs.Members.{element, is_in-filter, joined}
 use Rattle.fd_narrow.proofs.Sameness.{none_in}
 use Rattle.set_sums.proofs.Spans.{true_or_false}
 use Rattle.fd_narrow.proofs.Totals.{there}
-
-pub no_register : (n v : ℕ) → 2 ^ 16 ≤ n → is_legal_at n v ≡ false
-no_register n v h = grind (arith, nat_tests)
 
 -- what is written, where something is, and else that nothing is
 if_written : (b : Bool) (csr n : ℕ) → b ≡ false → IsTrue (is_none_or_legal csr (if b then None else Some n)) → IsTrue (is_legal_at csr n)
@@ -62,16 +58,3 @@ rs1_narrows a b csr how change known set operands some x0 makes can words is at_
           let source : IsTrue (is_in set (value_of x slots.A)) = (is (value_of x slots.A) word).1 (inr (value_of x slots.OldCsr, words x inside, can x inside, subst (λ (n : ℕ). IsTrue (is_legal_at csr n)) (sym (makes (value_of x slots.OldCsr) (value_of x slots.A))) legal)) in
           let still : IsTrue (is_in some (value_of x slots.A)) = ap (λ (d : List ℕ). is_in d (value_of x slots.A)) filtered ∙ is_in-filter (is_in set) operands (value_of x slots.A) ∙ joined (is_in set (value_of x slots.A)) (is_in operands (value_of x slots.A)) source here in
           cc (still, none_in some none (value_of x slots.A))
-
--- where a word is legal there is a register
-legal_found : (test : Register → Bool) (all : List Register) (n : ℕ) → IsTrue (is_legal_for (find test all) n) → IsTrue (list_any test all)
-legal_found test [] n h = absurd (cc h)
-legal_found test (register ∷ all) n h = first_or_later (test register) (find test all) (list_any test all) h (legal_found test all n) where
-  first_or_later : (b : Bool) (rest : Option Register) (later : Bool) → IsTrue (is_legal_for (if b then Some register else rest) n) → (IsTrue (is_legal_for rest n) → IsTrue later) → IsTrue (b || later)
-  first_or_later true rest later k f = refl
-  first_or_later false rest later k f = f k
-
-pub at_addresses : (word : ℕ) (all : List Register) (ranges : List (ℕ × ℕ)) (set : List ℕ) → all ≡ registers → ((v : ℕ) → is_within ranges v ≡ (list_any (λ register. address_of register == v) all && is_legal_at v word)) → IsOfRanges ranges set → (v : ℕ) → v < 2 ^ 32 → is_in set v ≡ is_legal_at v word
-at_addresses word all ranges set are within is v small = same (is_in set v) (is_legal_at v word)
-    (λ h. right (list_any (λ register. address_of register == v) all) (is_legal_at v word) (sym (within v) ∙ is.within v h))
-    (λ h. is.all v small (within v ∙ joined (list_any (λ register. address_of register == v) all) (is_legal_at v word) (subst (λ (some : List Register). IsTrue (list_any (λ register. address_of register == v) some)) (sym are) (legal_found (λ register. address_of register == v) registers word h)) h))

@@ -1,27 +1,18 @@
 -- What the orders of words say of variables.
-use Rattle.std.proofs.Common.{◌≡◌, ℕ, ◌+◌, ◌-◌, ◌%◌, ◌<◌, ◌≤◌, ◌^◌, nat_lt, Bool, true, false, List, All, IsTrue, sym, ap, ◌∙◌, subst, arith}
+use Rattle.std.proofs.Common.{◌≡◌, ℕ, ◌+◌, ◌-◌, ◌<◌, ◌≤◌, ◌^◌, nat_lt, true, false, List, arith}
 use Rattle.std.proofs.lemmas.Bool.{ltb-true}
 use Rattle.std.proofs.lemmas.Bool.Decides.{nat_tests}
-use Rattle.dom_set.specs.Elements.{is_in}
 use Rattle.fd_prob.specs.declared.problem.Assignment.{Assignment}
 use Rattle.fd_prob.specs.declared.slot.Slot.{Slot}
 use Rattle.fd_prob.specs.Relations.{value_of}
-use Rattle.fd_narrow.specs.declared.orders.Order.{Order}
-use Rattle.fd_narrow.specs.declared.orders.Order.TheVariants.{Signed, Unsigned}
+use Rattle.word_sets.specs.declared.orders.Order.{Order}
+use Rattle.word_sets.specs.declared.orders.Order.TheVariants.{Signed, Unsigned}
 use Rattle.fd_narrow.specs.Narrowing.{IsInside, domain_in}
-use Rattle.fd_narrow.specs.Orders.{HasEnds, IsOrdered, IsRanked, rank}
-use Rattle.fd_narrow.specs.Steps.{Leaves}
+use Rattle.fd_narrow.specs.Internal.Orders.{IsOrdered, IsRanked}
+use Rattle.word_sets.specs.Internal.Orders.{HasEnds, rank}
+use Rattle.fd_narrow.specs.Internal.Steps.{Leaves}
 use Rattle.fd_narrow.proofs.Compositions.{weakened}
 use Rattle.set_sums.proofs.Members.{element}
-
-turned_back : (v : ℕ) → v < 2 ^ 32 → ((v + 2 ^ 31) % 2 ^ 32 + (2 ^ 32 - 2 ^ 31)) % 2 ^ 32 ≡ v
-turned_back v small = omega arith
-
-below_words : (n : ℕ) → n % 2 ^ 32 < 2 ^ 32
-below_words n = omega arith
-
-pub signed_ranks : (set ranks : List ℕ) → All (λ v. v < 2 ^ 32) set → ((v : ℕ) → v < 2 ^ 32 → is_in ranks v ≡ is_in set ((v + (2 ^ 32 - 2 ^ 31)) % 2 ^ 32)) → (v : ℕ) → IsTrue (is_in set v) → IsTrue (is_in ranks (rank Signed v))
-signed_ranks set ranks words is v h = subst (λ (b : Bool). IsTrue b) (sym (is ((v + 2 ^ 31) % 2 ^ 32) (below_words (v + 2 ^ 31)) ∙ ap (is_in set) (turned_back v (element (λ n. n < 2 ^ 32) set v words h)))) h
 
 not_less : (m n : ℕ) → nat_lt m n ≡ false → n ≤ m
 not_less m n h = grind (arith, nat_tests)

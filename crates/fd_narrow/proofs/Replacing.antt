@@ -11,7 +11,7 @@ use Rattle.fd_prob.specs.declared.slot.Slot.TheVariants as slots
 use Rattle.fd_prob.specs.Relations.{value_of}
 use Rattle.fd_prob.specs.Slots.{slot_number}
 use Rattle.fd_narrow.specs.Narrowing.{IsInside, domain_in}
-use Rattle.fd_narrow.specs.Steps.{IsValueIn, IsValueOutside, Leaves}
+use Rattle.fd_narrow.specs.Internal.Steps.{IsValueIn, IsValueOutside, Leaves}
 use Rattle.set_sums.proofs.Members.{element, is_in-filter, joined, right}
 
 slot_below : (s : Slot) → slot_number s < 14

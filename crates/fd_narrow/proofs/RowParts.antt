@@ -1,12 +1,14 @@
 -- What rows say of variables.
-use Rattle.std.proofs.Common.{◌≡◌, ℕ, ◌+◌, ◌<◌, ◌&&◌, ◌||◌, ◌⊎◌, inl, inr, ⊎_elim, not, Bool, true, false, List, [], ◌∷◌, ◌++◌, length, get_or, take, IsTrue, refl, sym, ap, ◌∙◌, subst}
-use Rattle.std.specs.List.{list_all, list_any}
+use Rattle.std.proofs.Common.{◌≡◌, ℕ, ◌+◌, ◌<◌, ◌≤◌, ◌&&◌, ◌||◌, ◌⊎◌, inl, inr, ⊎_elim, not, Bool, true, false, List, [], ◌∷◌, ◌++◌, length, get_or, take, Option, Some, None, IsTrue, refl, sym, ap, ◌∙◌, subst}
+use Rattle.std.specs.Borrow.{Bor}
+use Rattle.std.specs.Prelude.{IfSome}
+use Rattle.std.specs.List.{list_all, list_any, filter}
+use Rattle.std.proofs.lemmas.List.{take_all}
 use Rattle.std.proofs.lemmas.List.Folds.{list_all-append, list_all_more, list_any-append, list_any_more}
 use Rattle.rv_isa.specs.declared.operation.Op.{Op}
 use Rattle.fd_prob.specs.declared.relation.Rel.{Rel}
 use Rattle.fd_narrow.specs.Narrowing.{IsInside}
-use Rattle.fd_narrow.specs.Steps.{IsValueOutside, Leaves}
-use Rattle.std.specs.List.{filter}
+use Rattle.fd_narrow.specs.Internal.Steps.{IsValueOutside, Leaves}
 use Rattle.dom_set.specs.Elements.{is_in}
 use Rattle.fd_prob.specs.declared.problem.Assignment.{Assignment}
 use Rattle.fd_prob.specs.declared.relation.Quad.{Quad}
@@ -15,7 +17,7 @@ use Rattle.fd_prob.specs.declared.slot.Slot.TheVariants as slots
 use Rattle.fd_prob.specs.Relations.{holds, is_in_row, value_of}
 use Rattle.fd_narrow.specs.declared.rows.Part.{Part}
 use Rattle.fd_narrow.specs.declared.rows.Part.TheVariants.{Address, Root, Leaf, Word}
-use Rattle.fd_narrow.specs.Parts.{IsLess, IsMissed, part_of, slot_of}
+use Rattle.fd_narrow.specs.Internal.Parts.{IsLess, IsMissed, part_of, slot_of}
 use Rattle.set_sums.proofs.Members.{is_in-filter, left, right}
 
 pub row_part : (part : Part) (x : Assignment) (row : Quad) → IsTrue (is_in_row x row) → IsTrue (is_in (part_of part row) (value_of x (slot_of part)))
@@ -83,6 +85,50 @@ pub part_taken : (doms now new : List (List ℕ)) (part : Part) (rows : List Qua
 part_taken doms now new part rows rest slot set slot_is set_is before missed taken =
     rest_taken doms now new part rows (part_of part rest) before (missed part)
     (subst (λ (s : Slot). Leaves (IsValueOutside s (part_of part rest)) now new) slot_is (subst (λ (d : List ℕ). Leaves (IsValueOutside slot d) now new) set_is taken))
+
+-- the row that alone may hold, if there is one, is the one that holds
+abbrev pub HoldsOnly : Option (Bor Quad) → Assignment → Type 0
+HoldsOnly None x = ⊥
+HoldsOnly (Some row) x = IsTrue (is_in_row x row.now)
+
+-- the variable is in the row's set
+pub part_narrowed : (doms now new : List (List ℕ)) (part : Part) (row : Quad) (slot : Slot) (set : List ℕ) → slot ≡ slot_of part → set ≡ part_of part row → Leaves (λ x. IsTrue (is_in_row x row)) doms now → Leaves (λ x. IsTrue (is_in set (value_of x slot))) now new → Leaves (λ x. IsTrue (is_in_row x row)) doms new
+part_narrowed doms now new part row slot set slot_is set_is before narrowed =
+    let step : Leaves (λ x. IsTrue (is_in (part_of part row) (value_of x (slot_of part)))) now new =
+    subst (λ (s : Slot). Leaves (λ x. IsTrue (is_in (part_of part row) (value_of x s))) now new) slot_is (subst (λ (d : List ℕ). Leaves (λ x. IsTrue (is_in d (value_of x slot))) now new) set_is narrowed) in
+    record {
+      within = λ x inside. before.within x (step.within x inside);
+      keeps = λ x inside h. step.keeps x (before.keeps x inside h) (row_part part x row h);
+    }
+
+-- what meets one of the rows is in the only one that may hold
+pub only_narrowed : (doms new : List (List ℕ)) (rows : List Quad) (row : Quad) → ((x : Assignment) → IsInside doms x → IsTrue (list_any (is_in_row x) rows) → IsTrue (is_in_row x row)) → Leaves (λ x. IsTrue (is_in_row x row)) doms new → Leaves (λ x. IsTrue (list_any (is_in_row x) rows)) doms new
+only_narrowed doms new rows row only narrowed = record {
+  within = narrowed.within;
+  keeps = λ x inside h. narrowed.keeps x inside (only x inside h);
+}
+
+-- one more row was looked at, and it can't hold
+pub only_kept : (rows : List Quad) (i : ℕ) (row : Quad) (x : Assignment) (only : Option (Bor Quad)) → i < length rows → row ≡ get_or rows i row → (IsTrue (list_any (is_in_row x) (take i rows)) → HoldsOnly only x) → (IsTrue (is_in_row x row) → ⊥)
+    → IsTrue (list_any (is_in_row x) (take (i + 1) rows)) → HoldsOnly only x
+only_kept rows i row x only lt is before never h = ⊎_elim
+    before
+    (λ here. absurd (never (subst (λ (r : Quad). IsTrue (is_in_row x r)) (sym is) here)))
+    (either (list_any (is_in_row x) (take i rows)) (is_in_row x (get_or rows i row)) (subst (λ (b : Bool). IsTrue b) (list_any_more (is_in_row x) rows i row lt) h))
+
+-- and it is the first that may hold
+pub only_first : (rows : List Quad) (i : ℕ) (row : Quad) (x : Assignment) → i < length rows → row ≡ get_or rows i row → (IsTrue (list_any (is_in_row x) (take i rows)) → ⊥)
+    → IsTrue (list_any (is_in_row x) (take (i + 1) rows)) → IsTrue (is_in_row x row)
+only_first rows i row x lt is none h = ⊎_elim
+    (λ earlier. absurd (none earlier))
+    (λ here. subst (λ (r : Quad). IsTrue (is_in_row x r)) (sym is) here)
+    (either (list_any (is_in_row x) (take i rows)) (is_in_row x (get_or rows i row)) (subst (λ (b : Bool). IsTrue b) (list_any_more (is_in_row x) rows i row lt) h))
+
+-- where all were looked at, it is the only one that may hold
+pub only_told : (doms : List (List ℕ)) (rows : List Quad) (i : ℕ) (only : Option (Bor Quad)) → length rows ≤ i → ((x : Assignment) → IsInside doms x → IsTrue (list_any (is_in_row x) (take i rows)) → HoldsOnly only x)
+    → IfSome only (λ row. (x : Assignment) → IsInside doms x → IsTrue (list_any (is_in_row x) rows) → IsTrue (is_in_row x row.now))
+only_told doms rows i None all told = tt
+only_told doms rows i (Some row) all told = λ x inside h. told x inside (subst (λ (rs : List Quad). IsTrue (list_any (is_in_row x) rs)) (sym (take_all i rows all)) h)
 
 -- a further row at the end
 pub one_more : (x : Assignment) (rows : List Quad) (copy row : Quad) → copy ≡ row → list_any (is_in_row x) (rows ++ copy ∷ []) ≡ (list_any (is_in_row x) rows || is_in_row x row)

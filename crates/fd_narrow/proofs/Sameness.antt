@@ -7,8 +7,8 @@ use Rattle.fd_prob.specs.declared.slot.Slot.{Slot}
 use Rattle.fd_prob.specs.declared.slot.Slot.TheVariants as slots
 use Rattle.fd_prob.specs.Relations.{is_linked, is_same, value_of}
 use Rattle.fd_narrow.specs.Narrowing.{IsInside, domain_in}
-use Rattle.set_sums.specs.Spans.{IsOfRanges}
-use Rattle.fd_narrow.specs.Steps.{IsAnother, IsValueIn, IsValueOutside, Leaves}
+use Rattle.set_sums.specs.Internal.Spans.{IsOfRanges}
+use Rattle.fd_narrow.specs.Internal.Steps.{IsAnother, IsValueIn, IsValueOutside, Leaves}
 use Rattle.fd_narrow.proofs.Compositions.{followed, weakened}
 use Rattle.set_sums.proofs.Members.{is_in-filter, joined, same}
 use Rattle.set_sums.proofs.Spans.{of_pair, only_pair, true_or_false}

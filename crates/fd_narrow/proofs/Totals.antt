@@ -5,8 +5,8 @@ use Rattle.fd_prob.specs.declared.problem.Assignment.{Assignment}
 use Rattle.fd_prob.specs.declared.slot.Slot.{Slot}
 use Rattle.fd_prob.specs.Relations.{is_sum, value_of}
 use Rattle.fd_narrow.specs.Narrowing.{IsInside, domain_in}
-use Rattle.set_sums.specs.Spans.{HasDifferencesWithin, HasHalves, HasSumsWithin}
-use Rattle.fd_narrow.specs.Steps.{IsValueIn, Leaves}
+use Rattle.set_sums.specs.Internal.Spans.{HasDifferencesWithin, HasHalves, HasSumsWithin}
+use Rattle.fd_narrow.specs.Internal.Steps.{IsValueIn, Leaves}
 use Rattle.fd_narrow.proofs.Compositions.{followed, weakened}
 
 summed : (x : Assignment) (s t u : Slot) → IsTrue (is_sum x s t u) → (value_of x s + value_of x t) % 2 ^ 32 ≡ value_of x u

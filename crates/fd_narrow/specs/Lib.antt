@@ -1,10 +1,2 @@
 pub mod Narrowing
-pub mod Steps
-pub mod Tables
-pub mod Orders
-pub mod Standings
-pub mod Parts
-pub mod Targets
-pub mod Sources
-pub mod Writes
-pub mod Mentions
+pub mod Internal

@@ -3,7 +3,7 @@ ghost use Rattle.std.specs.Prelude.{◌≡◌, length, IfOk, IfSome, OnOk, slice
 ghost use Rattle.fd_prob.specs.Fitting.{IsCase};
 ghost use Rattle.fd_prob.specs.Slots.{slot_number};
 ghost use Rattle.fd_narrow.specs.Narrowing.{domain_in};
-ghost use Rattle.fd_narrow.specs.Steps.{IsNever, IsOnly, IsValueIn, IsValueOutside, Leaves};
+ghost use Rattle.fd_narrow.specs.Internal.Steps.{IsNever, IsOnly, IsValueIn, IsValueOutside, Leaves};
 
 use dom_set::{OutOfMemory, Set};
 use fd_prob::{Case, Slot, copy_sets};
@@ -14,14 +14,10 @@ use std::marker::Model;
 #[derive(Clone, Copy)]
 struct Counts {
     size: Option<u64>,
-    pieces: Option<usize>,
 }
 
 /// Where nothing was counted yet.
-const UNCOUNTED: Counts = Counts {
-    size: None,
-    pieces: None,
-};
+const UNCOUNTED: Counts = Counts { size: None };
 
 /// The domains of the variables of a case, in their order.
 #[derive(Drop)]
@@ -117,18 +113,6 @@ impl Domains {
         let size = self.domain(slot).size();
         self.counts[slot.number()].size = Some(size);
         size
-    }
-
-    /// In how many pieces a variable's domain is.
-    pub(crate) fn pieces(&mut self, alloc: Global, slot: Slot) -> Result<usize, OutOfMemory>
-        ensures { self.new ≡ self.old }
-    {
-        if let Some(pieces) = self.counts[slot.number()].pieces {
-            return Ok(pieces);
-        }
-        let pieces = self.domain(slot).spans(alloc)?.len();
-        self.counts[slot.number()].pieces = Some(pieces);
-        Ok(pieces)
     }
 
     /// Whether a variable has no value left.

@@ -1,7 +1,7 @@
 // Variables that have one value, or two.
 ghost use Rattle.std.specs.Prelude.{not, IsTrue, OnOk};
 ghost use Rattle.fd_prob.specs.Relations.{is_linked, is_same};
-ghost use Rattle.fd_narrow.specs.Steps.{IsAnother, Leaves};
+ghost use Rattle.fd_narrow.specs.Internal.Steps.{IsAnother, Leaves};
 
 use crate::domains::Domains;
 use dom_set::OutOfMemory;

@@ -4,7 +4,7 @@ ghost use Rattle.dom_set.specs.Elements.{is_in};
 ghost use Rattle.fd_prob.specs.Relations.{value_of};
 ghost use Rattle.fd_prob.specs.declared.problem.Assignment.{Assignment};
 ghost use Rattle.fd_narrow.specs.Narrowing.{IsInside};
-ghost use Rattle.fd_narrow.specs.Steps.{Leaves};
+ghost use Rattle.fd_narrow.specs.Internal.Steps.{IsValueIn, Leaves};
 
 use crate::domains::Domains;
 use dom_set::{OutOfMemory, Set};
@@ -15,7 +15,10 @@ use std::alloc::Global;
 const FEW: usize = 4;
 
 /// How many pairs of pieces of a domain and a set are looked at.
-const PAIRS: usize = 2048;
+const PAIRS: usize = 1 << 18;
+
+/// In how many pieces a domain is left, where what it has in common with a set was found.
+const MOST: usize = 2048;
 
 /// The lowest bits that are looked at.
 const LOW: u32 = 3;
@@ -43,21 +46,24 @@ impl Domains {
         }
     }
 
-    /// Whether what a variable's domain and a set have in common is told soon, and in no more pieces than are soon gone
-    /// through.
-    fn meets_soon(&mut self, alloc: Global, slot: Slot, set: &Set) -> Result<bool, OutOfMemory>
-        ensures { self.new ≡ self.old }
+    /// Whether what a variable's domain and a set have in common is told soon.
+    fn meets_soon(&self, slot: Slot, set: &Set) -> bool {
+        self.domain(slot).pieces().saturating_mul(set.pieces()) <= PAIRS
+    }
+
+    /// Takes from a variable's domain what is not in the set, unless that leaves it in too many pieces.
+    fn cut_to_few(&mut self, alloc: Global, slot: Slot, set: &Set) -> Result<(), OutOfMemory>
+        ensures { OnOk result (Leaves (IsValueIn slot set.now) self.old self.new) }
     {
-        let pieces = self.pieces(alloc, slot)?;
-        if pieces <= FEW {
-            return Ok(true);
+        // `count` says that there is a domain at the variable's place.
+        self.count();
+        let domain = self.domain(slot);
+        domain.element_laws();
+        let left = domain.and(alloc, set)?;
+        if left.pieces() <= MOST.max(domain.pieces()) {
+            self.set(slot, left);
         }
-        // A set with a number has a piece.
-        if pieces > PAIRS {
-            return Ok(set.is_empty());
-        }
-        let others = set.spans(alloc)?.len();
-        Ok(pieces.saturating_mul(others) <= PAIRS)
+        Ok(())
     }
 
     /// The variable's value is in the set. Where the domain would fall into many pieces it is left as it is: a search tests
@@ -70,10 +76,13 @@ impl Domains {
     ) -> Result<(), OutOfMemory>
         ensures { OnOk result (Leaves (λ x. IsTrue (is_in set.now (value_of x slot))) self.old self.new) }
     {
-        if !self.meets_soon(alloc, slot, set)? {
+        if self.domain(slot).pieces() <= FEW {
+            return self.cut(alloc, slot, set);
+        }
+        if !self.meets_soon(slot, set) {
             self.empty_apart(alloc, slot, set);
             return Ok(());
         }
-        self.cut(alloc, slot, set)
+        self.cut_to_few(alloc, slot, set)
     }
 }

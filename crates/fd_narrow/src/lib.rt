@@ -2,16 +2,12 @@
 //! says of them: values with which it cannot be met are taken away, and none that fits is lost.
 #![tactic(auto)]
 
-mod addresses;
 mod domains;
 mod equalities;
 mod inside;
-mod legal;
-mod mentioned;
 mod narrowing;
 mod orders;
 mod rows;
-mod sources;
 mod standings;
 mod sums;
 mod tables;
@@ -20,5 +16,4 @@ mod writes;
 
 pub use dom_set::OutOfMemory;
 pub use domains::Domains;
-pub use mentioned::mentions;
 pub use narrowing::Losses;

@@ -2,12 +2,11 @@
 ghost use Rattle.std.specs.Prelude.{◌≡◌, IfOk, IsTrue, OnOk};
 ghost use Rattle.fd_prob.specs.Relations.{holds};
 ghost use Rattle.fd_narrow.specs.Narrowing.{Narrows};
-ghost use Rattle.fd_narrow.specs.Steps.{Leaves};
+ghost use Rattle.fd_narrow.specs.Internal.Steps.{Leaves};
 
 use crate::domains::Domains;
-use crate::mentioned::mentions;
 use dom_set::OutOfMemory;
-use fd_prob::{Rel, SLOTS, Slot};
+use fd_prob::{Rel, SLOTS, Slot, mentions};
 use rv_isa::Op;
 use std::alloc::Global;
 

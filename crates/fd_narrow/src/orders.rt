@@ -1,68 +1,26 @@
 // Branches: variables that are equal or in order.
-ghost use Rattle.std.specs.Prelude.{◌≡◌, ℕ, ◌^◌, ◌<◌, ◌≤◌, All, IfOk, IfSome, IsTrue, OnOk, true, false};
-ghost use Rattle.dom_set.specs.Elements.{is_in};
+ghost use Rattle.std.specs.Prelude.{◌≡◌, IfOk, IfSome, IsTrue, OnOk, true, false};
 ghost use Rattle.fd_prob.specs.Relations.{has_condition, is_same};
 ghost use Rattle.fd_prob.specs.declared.slot.Slot.TheVariants as slots;
 ghost use Rattle.fd_narrow.specs.Narrowing.{domain_in};
-ghost use Rattle.fd_narrow.specs.Orders.{HasEnds, IsOrdered, IsRanked, rank};
-ghost use Rattle.fd_narrow.specs.Steps.{Leaves};
+ghost use Rattle.fd_narrow.specs.Internal.Orders.{IsOrdered, IsRanked};
+ghost use Rattle.fd_narrow.specs.Internal.Steps.{Leaves};
+ghost use Rattle.word_sets.specs.Internal.Orders.{HasEnds};
 
 use crate::domains::Domains;
-use dom_set::{OutOfMemory, Set};
+use dom_set::OutOfMemory;
 use fd_prob::Slot;
 use rv_isa::Op;
-use set_sums::{HALF, Span, ends, shifted, words_of};
+use set_sums::Span;
 use std::alloc::Global;
-
-/// How words are compared.
-#[derive(Clone, Copy, Debug, PartialEq, Eq)]
-pub enum Order {
-    Unsigned,
-    Signed,
-}
-
-/// Where the elements stand in the order.
-fn ranks(alloc: Global, set: &Set, order: Order) -> Result<Set, OutOfMemory>
-    requires { All (λ v. v < 2 ^ 32) set.now }
-    ensures { IfOk result (λ ranks. (v : ℕ) → IsTrue (is_in set.now v) → IsTrue (is_in ranks (rank order v))) }
-{
-    match order {
-        Order::Unsigned => {
-            let ranks = set.copy(alloc)?;
-            Ok(ranks)
-        }
-        Order::Signed => {
-            let ranks = shifted(alloc, set, HALF)?;
-            Ok(ranks)
-        }
-    }
-}
-
-/// The words that stand between two ranks in the order.
-fn between(alloc: Global, order: Order, span: Span) -> Result<Set, OutOfMemory>
-    ensures { IfOk result (λ set. (v : ℕ) → v < 2 ^ 32 → span.0 ≤ rank order v → rank order v ≤ span.1 → IsTrue (is_in set v)) }
-{
-    let ranks = words_of(alloc, &[span])?;
-    match order {
-        Order::Unsigned => Ok(ranks),
-        Order::Signed => {
-            let words = shifted(alloc, &ranks, HALF)?;
-            Ok(words)
-        }
-    }
-}
+use word_sets::{Order, between, rank_ends};
 
 impl Domains {
     /// The least and the greatest rank of a variable's values, unless it has none.
     fn ends_of(&self, alloc: Global, slot: Slot, order: Order) -> Result<Option<Span>, OutOfMemory>
         ensures { IfOk result (λ found. IfSome found (HasEnds order (domain_in self.now slot))) }
     {
-        let domain = self.domain(slot);
-        if domain.size() == 0 {
-            return Ok(None);
-        }
-        let ranks = ranks(alloc, domain, order)?;
-        Ok(ends(&ranks))
+        rank_ends(alloc, order, self.domain(slot))
     }
 
     /// Cuts the variable to the values between two ranks.

@@ -1,12 +1,12 @@
 // Rows of an address and words of memory, of which one has to hold.
-ghost use Rattle.std.specs.Prelude.{◌≡◌, ◌||◌, ℕ, true, false, IfOk, IsTrue, OnOk};
+ghost use Rattle.std.specs.Prelude.{◌≡◌, ◌||◌, ℕ, true, false, IfOk, IfSome, IsTrue, OnOk};
 ghost use Rattle.std.specs.List.{list_all, list_any};
 ghost use Rattle.rv_isa.specs.declared.operation.Op.{Op};
 ghost use Rattle.dom_set.specs.Elements.{is_in};
 ghost use Rattle.fd_prob.specs.Relations.{holds, is_in_row, value_of};
 ghost use Rattle.fd_narrow.specs.Narrowing.{IsInside, domain_in};
-ghost use Rattle.fd_narrow.specs.Parts.{IsLess, IsMissed, part_of, slot_of};
-ghost use Rattle.fd_narrow.specs.Steps.{Leaves};
+ghost use Rattle.fd_narrow.specs.Internal.Parts.{IsLess, IsMissed, part_of, slot_of};
+ghost use Rattle.fd_narrow.specs.Internal.Steps.{Leaves};
 ghost use Rattle.fd_prob.specs.declared.problem.Assignment.{Assignment};
 
 use crate::domains::Domains;
@@ -165,10 +165,43 @@ impl Domains {
         Ok(made)
     }
 
+    /// The variables of the four parts are in the sets of the row.
+    fn narrow_row(&mut self, alloc: Global, row: &Quad) -> Result<(), OutOfMemory>
+        ensures { OnOk result (Leaves (λ x. IsTrue (is_in_row x row.now)) self.old self.new) }
+    {
+        for part in PARTS {
+            self.narrow_in(alloc, part.slot(), part.of(row))?;
+        }
+        Ok(())
+    }
+
+    /// The only row that may hold, where there is just one.
+    fn only_possible<'a>(
+        &self,
+        alloc: Global,
+        rows: &'a [Quad],
+    ) -> Result<Option<&'a Quad>, OutOfMemory>
+        ensures { IfOk result (λ only. IfSome only (λ row. (x : Assignment) → IsInside self.now x → IsTrue (list_any (is_in_row x) rows.now) → IsTrue (is_in_row x row.now))) }
+    {
+        let mut only: Option<&Quad> = None;
+        for row in rows {
+            if self.may_hold(alloc, row)? {
+                if only.is_some() {
+                    return Ok(None);
+                }
+                only = Some(row);
+            }
+        }
+        Ok(only)
+    }
+
     /// One of the rows has the address and the words.
     pub(crate) fn narrow_rows(&mut self, alloc: Global, rows: &[Quad]) -> Result<(), OutOfMemory>
         ensures { OnOk result (Leaves (λ x. IsTrue (list_any (is_in_row x) rows.now)) self.old self.new) }
     {
+        if let Some(row) = self.only_possible(alloc, rows)? {
+            return self.narrow_row(alloc, row);
+        }
         // What one part loses may rule out rows for the next: that is left to a later pass.
         let rest = self.rest_of(alloc, rows)?;
         for part in PARTS {

@@ -5,7 +5,7 @@ ghost use Rattle.fd_prob.specs.declared.problem.Assignment.{Assignment};
 ghost use Rattle.fd_prob.specs.declared.slot.Slot.TheVariants as slots;
 ghost use Rattle.fd_narrow.specs.Narrowing.{IsInside, Narrows};
 ghost use Rattle.fd_narrow.specs.declared.standings.Standing.TheVariants.{Equal};
-ghost use Rattle.fd_narrow.specs.Standings.{IsRuledOut, IsUnfit, Stands, order_of, standing};
+ghost use Rattle.fd_narrow.specs.Internal.Standings.{IsRuledOut, IsUnfit, Stands, order_of, standing};
 
 use crate::domains::Domains;
 use fd_prob::{Rel, Slot};

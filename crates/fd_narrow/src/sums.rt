@@ -1,7 +1,7 @@
 // Sums of variables.
 ghost use Rattle.std.specs.Prelude.{◌≡◌, ◌+◌, ◌%◌, ◌^◌, IsTrue, OnOk};
 ghost use Rattle.fd_prob.specs.Relations.{is_sum, value_of};
-ghost use Rattle.fd_narrow.specs.Steps.{Leaves};
+ghost use Rattle.fd_narrow.specs.Internal.Steps.{Leaves};
 
 use crate::domains::Domains;
 use dom_set::OutOfMemory;
@@ -14,6 +14,14 @@ const FEW: usize = 8;
 
 /// So many pieces are many for a sum.
 const MANY: usize = 256;
+
+/// Two variables, and the one that they add up to, modulo 2^32.
+#[derive(Clone, Copy)]
+struct Addition {
+    s: Slot,
+    t: Slot,
+    sum: Slot,
+}
 
 impl Domains {
     /// Whether the first variable has one value and the second has not. Then what is left of the second and of their sum,
@@ -31,54 +39,50 @@ impl Domains {
     /// variable leads to the sum. Where the other part has one value, a search comes first to a sum that stands before the
     /// variable, and then the variable has its one value; what is left of it until then may be in far more pieces than the sum.
     /// What is left of a variable that may have any value tells little where the sum is in many pieces.
-    fn is_left_alone(
-        &mut self,
-        alloc: Global,
-        s: Slot,
-        t: Slot,
-        sum: Slot,
-    ) -> Result<bool, OutOfMemory>
-        ensures { self.new ≡ self.old }
-    {
-        if self.is_whole(t) {
-            return Ok(true);
+    fn is_left_alone(&self, of: Addition) -> bool {
+        if self.is_whole(of.t) {
+            return true;
         }
-        let pieces = self.pieces(alloc, sum)?;
-        if self.domain(t).is_single() {
-            return Ok(pieces > FEW && s.number() > sum.number());
+        let pieces = self.domain(of.sum).pieces();
+        if self.domain(of.t).is_single() {
+            return pieces > FEW && of.s.number() > of.sum.number();
         }
-        Ok(pieces > MANY && self.is_whole(s))
+        pieces > MANY && self.is_whole(of.s)
     }
 
     /// Cuts the sum to what the two variables can add up to. Whatever is added to each word gives each word.
-    fn narrow_total(
-        &mut self,
-        alloc: Global,
-        s: Slot,
-        t: Slot,
-        sum: Slot,
-    ) -> Result<(), OutOfMemory>
-        ensures { OnOk result (Leaves (λ x. IsTrue (is_sum x s t sum)) self.old self.new) }
+    fn narrow_total(&mut self, alloc: Global, of: Addition) -> Result<(), OutOfMemory>
+        ensures { OnOk result (Leaves (λ x. IsTrue (is_sum x of.s of.t of.sum)) self.old self.new) }
     {
-        if self.is_whole(s) || self.is_whole(t) {
+        if self.is_whole(of.s) || self.is_whole(of.t) {
             return Ok(());
         }
-        let totals = sums_within(alloc, self.domain(s), self.domain(t), self.domain(sum))?;
-        self.cut(alloc, sum, &totals)
+        let totals = sums_within(
+            alloc,
+            self.domain(of.s),
+            self.domain(of.t),
+            self.domain(of.sum),
+        )?;
+        self.cut(alloc, of.sum, &totals)
     }
 
     /// Cuts a variable to what leads to the sum when the other is added.
-    fn narrow_part(&mut self, alloc: Global, s: Slot, t: Slot, sum: Slot) -> Result<(), OutOfMemory>
-        ensures { OnOk result (Leaves (λ x. IsTrue (is_sum x s t sum)) self.old self.new) }
+    fn narrow_part(&mut self, alloc: Global, of: Addition) -> Result<(), OutOfMemory>
+        ensures { OnOk result (Leaves (λ x. IsTrue (is_sum x of.s of.t of.sum)) self.old self.new) }
     {
-        if self.is_only_one_fixed(s, t) {
+        if self.is_only_one_fixed(of.s, of.t) {
             return Ok(());
         }
-        if self.is_left_alone(alloc, s, t, sum)? {
+        if self.is_left_alone(of) {
             return Ok(());
         }
-        let parts = differences_within(alloc, self.domain(sum), self.domain(t), self.domain(s))?;
-        self.cut(alloc, s, &parts)
+        let parts = differences_within(
+            alloc,
+            self.domain(of.sum),
+            self.domain(of.t),
+            self.domain(of.s),
+        )?;
+        self.cut(alloc, of.s, &parts)
     }
 
     /// Cuts a variable to 0: a sum is one of its own parts just where the other part is 0.
@@ -93,7 +97,7 @@ impl Domains {
     fn narrow_doubled(&mut self, alloc: Global, s: Slot, sum: Slot) -> Result<(), OutOfMemory>
         ensures { OnOk result (Leaves (λ x. IsTrue (is_sum x s s sum)) self.old self.new) }
     {
-        self.narrow_total(alloc, s, s, sum)?;
+        self.narrow_total(alloc, Addition { s, t: s, sum })?;
         let parts = halved(alloc, self.domain(sum))?;
         self.cut(alloc, s, &parts)
     }
@@ -103,33 +107,29 @@ impl Domains {
     fn narrow_touched(
         &mut self,
         alloc: Global,
-        s: Slot,
-        t: Slot,
-        sum: Slot,
+        of: Addition,
         alone: bool,
     ) -> Result<(), OutOfMemory>
-        ensures { OnOk result (Leaves (λ x. IsTrue (is_sum x s t sum)) self.old self.new) }
+        ensures { OnOk result (Leaves (λ x. IsTrue (is_sum x of.s of.t of.sum)) self.old self.new) }
     {
-        if alone && s == Slot::Imm {
+        if alone && of.s == Slot::Imm {
             return Ok(());
         }
-        self.narrow_part(alloc, s, t, sum)
+        self.narrow_part(alloc, of)
     }
 
-    /// The first two of three variables add up to the third.
-    fn narrow_parts(
-        &mut self,
-        alloc: Global,
-        s: Slot,
-        t: Slot,
-        sum: Slot,
-        alone: bool,
-    ) -> Result<(), OutOfMemory>
-        ensures { OnOk result (Leaves (λ x. IsTrue (is_sum x s t sum)) self.old self.new) }
+    /// Three variables of which the first two add up to the third.
+    fn narrow_parts(&mut self, alloc: Global, of: Addition, alone: bool) -> Result<(), OutOfMemory>
+        ensures { OnOk result (Leaves (λ x. IsTrue (is_sum x of.s of.t of.sum)) self.old self.new) }
     {
-        self.narrow_total(alloc, s, t, sum)?;
-        self.narrow_touched(alloc, s, t, sum, alone)?;
-        self.narrow_touched(alloc, t, s, sum, alone)
+        self.narrow_total(alloc, of)?;
+        self.narrow_touched(alloc, of, alone)?;
+        let turned = Addition {
+            s: of.t,
+            t: of.s,
+            sum: of.sum,
+        };
+        self.narrow_touched(alloc, turned, alone)
     }
 
     /// The first two variables add up to the third, modulo 2^32; `alone` says that this was asked before, and that since then
@@ -151,7 +151,7 @@ impl Domains {
         } else if s == t {
             self.narrow_doubled(alloc, s, sum)
         } else {
-            self.narrow_parts(alloc, s, t, sum, alone)
+            self.narrow_parts(alloc, Addition { s, t, sum }, alone)
         }
     }
 }

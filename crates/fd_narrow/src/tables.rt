@@ -1,127 +1,14 @@
-// Tables of values.
-ghost use Rattle.std.specs.Prelude.{◌≡◌, ◌-◌, ◌^◌, IsTrue, IfOk, OnOk, length, min};
+// What tables of values leave of variables.
+ghost use Rattle.std.specs.Prelude.{◌≡◌, IsTrue, OnOk};
 ghost use Rattle.fd_prob.specs.Relations.{is_held, value_of};
-ghost use Rattle.fd_narrow.specs.Steps.{IsOnly, Leaves};
-ghost use Rattle.fd_narrow.specs.Tables.{AreListed, AreOthers, AreRefused};
+ghost use Rattle.fd_narrow.specs.Internal.Steps.{IsOnly, Leaves};
 
 use crate::domains::Domains;
-use dom_set::{OutOfMemory, Set};
+use dom_set::OutOfMemory;
 use fd_prob::Slot;
-use set_sums::{Span, words_of};
+use set_sums::words_of;
 use std::alloc::Global;
-
-/// Indices of a table, and values that it has there.
-#[derive(Drop)]
-struct Entries {
-    indices: Vec<Span>,
-    values: Vec<Span>,
-}
-
-/// The word from which on the table has no index that counts.
-fn end_of(table: &[Option<u32>]) -> u32
-    ensures { result ≡ min (length table.now) (2 ^ 32 - 1) }
-{
-    u32::try_from(table.len()).unwrap_or(u32::MAX)
-}
-
-/// Adds the index, if the table has a value there that is not in the set.
-fn push_refused(
-    indices: &mut Vec<Span>,
-    i: u32,
-    table: &[Option<u32>],
-    values: &Set,
-) -> Result<(), OutOfMemory>
-    requires { AreRefused table.now values.now indices.old.items }
-    ensures { OnOk result (AreRefused table.now values.now indices.new.items) }
-{
-    match table.get(i as usize) {
-        Some(Some(value)) => {
-            if values.has(*value) {
-                return Ok(());
-            }
-            indices.push((i, i))?;
-            Ok(())
-        }
-        Some(None) => Ok(()),
-        None => Ok(()),
-    }
-}
-
-/// The indices at which the table has a value that is not in the set.
-fn refused_indices(
-    alloc: Global,
-    table: &[Option<u32>],
-    values: &Set,
-) -> Result<Vec<Span>, OutOfMemory>
-    ensures { IfOk result (λ r. AreRefused table.now values.now r.items) }
-{
-    let mut refused = Vec::new(alloc);
-    for i in 0..end_of(table) {
-        push_refused(&mut refused, i, table, values)?;
-    }
-    Ok(refused)
-}
-
-/// Adds the index, if the table has another value there.
-fn push_other(indices: &mut Vec<Span>, i: u32, table: &[Option<u32>]) -> Result<(), OutOfMemory>
-    requires { AreOthers table.now indices.old.items }
-    ensures { OnOk result (AreOthers table.now indices.new.items) }
-{
-    match table.get(i as usize) {
-        Some(Some(value)) => {
-            if *value == i {
-                return Ok(());
-            }
-            indices.push((i, i))?;
-            Ok(())
-        }
-        Some(None) => Ok(()),
-        None => Ok(()),
-    }
-}
-
-/// The indices at which the table has a value other than the index.
-fn other_indices(alloc: Global, table: &[Option<u32>]) -> Result<Vec<Span>, OutOfMemory>
-    ensures { IfOk result (λ r. AreOthers table.now r.items) }
-{
-    let mut others = Vec::new(alloc);
-    for i in 0..end_of(table) {
-        push_other(&mut others, i, table)?;
-    }
-    Ok(others)
-}
-
-/// Adds the index and the value that the table has there, if it has one.
-fn push_entry(entries: &mut Entries, i: u32, table: &[Option<u32>]) -> Result<(), OutOfMemory>
-    requires { AreListed table.now entries.old.indices.items entries.old.values.items }
-    ensures { OnOk result (AreListed table.now entries.new.indices.items entries.new.values.items) }
-{
-    match table.get(i as usize) {
-        Some(Some(value)) => {
-            entries.values.push((*value, *value))?;
-            entries.indices.push((i, i))?;
-            Ok(())
-        }
-        Some(None) => Ok(()),
-        None => Ok(()),
-    }
-}
-
-/// The indices of the set at which the table has a value, and these values.
-fn entries_among(alloc: Global, table: &[Option<u32>], among: &Set) -> Result<Entries, OutOfMemory>
-    ensures { IfOk result (λ r. AreListed table.now r.indices.items r.values.items) }
-{
-    let mut entries = Entries {
-        indices: Vec::new(alloc),
-        values: Vec::new(alloc),
-    };
-    for i in 0..end_of(table) {
-        if among.has(i) {
-            push_entry(&mut entries, i, table)?;
-        }
-    }
-    Ok(entries)
-}
+use word_sets::{entries_among, other_indices, refused_indices};
 
 impl Domains {
     /// Takes the indices away at which the table has a value that the variable can't have.

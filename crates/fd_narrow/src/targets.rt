@@ -1,26 +1,17 @@
 // Where branches and jumps go.
-ghost use Rattle.std.specs.Prelude.{ℕ, ◌+◌, ◌-◌, ◌%◌, ◌^◌, IfOk, IsTrue, OnOk};
+ghost use Rattle.std.specs.Prelude.{ℕ, ◌+◌, ◌-◌, ◌%◌, ◌^◌, IsTrue, OnOk};
 ghost use Rattle.dom_set.specs.Elements.{is_in};
 ghost use Rattle.fd_prob.specs.Relations.{has_target, value_of};
 ghost use Rattle.fd_prob.specs.declared.slot.Slot.TheVariants as slots;
-ghost use Rattle.fd_narrow.specs.Steps.{Leaves};
-ghost use Rattle.fd_narrow.specs.Targets.{HasOddToo};
+ghost use Rattle.fd_narrow.specs.Internal.Steps.{Leaves};
 
 use crate::domains::Domains;
-use dom_set::{OutOfMemory, Set, set_laws};
+use dom_set::{OutOfMemory, Set};
 use fd_prob::Slot;
 use rv_isa::Op;
 use set_sums::{differences_within, shifted};
 use std::alloc::Global;
-
-/// The words that are elements when bit 0 is cleared.
-fn with_odd(alloc: Global, set: &Set) -> Result<Set, OutOfMemory>
-    ensures { IfOk result (HasOddToo set.now) }
-{
-    set_laws();
-    let both = set.with_odd(alloc)?;
-    Ok(both)
-}
+use word_sets::with_odd;
 
 impl Domains {
     /// The pc plus the immediate is in the set.

@@ -5,48 +5,17 @@ ghost use Rattle.fd_prob.specs.declared.problem.Assignment.{Assignment};
 ghost use Rattle.fd_prob.specs.Relations.{is_none_or_legal, value_of, writes_legal, written_by};
 ghost use Rattle.fd_prob.specs.declared.slot.Slot.TheVariants as slots;
 ghost use Rattle.fd_narrow.specs.Narrowing.{IsInside};
-ghost use Rattle.fd_narrow.specs.Sources.{CanBe, made};
-ghost use Rattle.fd_narrow.specs.Steps.{Leaves};
-ghost use Rattle.fd_narrow.specs.Writes.{IsLegalFrom, IsLegalOperand, by_register, changed, written};
+ghost use Rattle.fd_narrow.specs.Internal.Steps.{Leaves};
+ghost use Rattle.fd_narrow.specs.Internal.Writes.{IsLegalFrom, IsLegalOperand, by_register, written};
+ghost use Rattle.word_sets.specs.Internal.Sources.{CanBe};
 
-use crate::addresses::addresses;
 use crate::domains::Domains;
-use crate::sources::{Made, legal_sources};
 use dom_set::OutOfMemory;
 use fd_prob::Slot;
 use rv_isa::Op;
 use set_sums::words_of;
 use std::alloc::Global;
-
-/// What becomes of the bits that an operand has (Unprivileged, Zicsr).
-#[derive(Clone, Copy, Debug, PartialEq, Eq)]
-pub enum Change {
-    Sets,
-    Clears,
-}
-
-impl Change {
-    /// How what is written comes of an open operand and the old value.
-    #[tactic(auto, using(std::proofs::lemmas::Nat::or_comm))]
-    fn by_operand(self) -> Made
-        ensures { (old operand : ℕ) → made result operand old ≡ changed self old operand }
-    {
-        match self {
-            Change::Sets => Made::With,
-            Change::Clears => Made::From,
-        }
-    }
-
-    /// How it comes of an open old value and the operand.
-    fn by_old(self) -> Made
-        ensures { (old operand : ℕ) → made result old operand ≡ changed self old operand }
-    {
-        match self {
-            Change::Sets => Made::With,
-            Change::Clears => Made::Without,
-        }
-    }
-}
+use word_sets::{Change, Made, legal_addresses, legal_sources};
 
 impl Domains {
     /// The value of a variable, if it is known. Its values are words.
@@ -222,7 +191,7 @@ impl Domains {
     {
         match self.word_written(op) {
             Some(word) => {
-                let set = addresses(alloc, word)?;
+                let set = legal_addresses(alloc, word)?;
                 self.cut(alloc, Slot::Csr, &set)
             }
             None => Ok(()),

@@ -4,6 +4,7 @@ pub mod Fitting
 pub mod Spaces
 pub mod Order
 pub mod Extras
-pub mod Joined
 pub mod Joining
 pub mod Laws
+pub mod Mentions
+pub mod Internal

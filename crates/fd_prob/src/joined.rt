@@ -3,7 +3,7 @@ ghost use Rattle.std.specs.Prelude.{◌≤◌, ◌≡◌, ◌↔◌, ◌<◌, �
 ghost use Rattle.std.specs.List.{list_all, list_any};
 ghost use Rattle.rv_isa.specs.declared.operation.Op.{Op};
 ghost use Rattle.fd_prob.specs.declared.problem.Assignment.{Assignment};
-ghost use Rattle.fd_prob.specs.Joined.{all_hold};
+ghost use Rattle.fd_prob.specs.Internal.Joined.{all_hold};
 ghost use Rattle.fd_prob.specs.Joining.{AreCommonRows, IsCommonRow, IsCommonSet, IsRestated, is_in_some_row, is_rows, some_row_holds};
 ghost use Rattle.fd_prob.specs.Relations.{holds, is_in_row};
 

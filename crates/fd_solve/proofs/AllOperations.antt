@@ -14,7 +14,7 @@ use Rattle.fd_prob.specs.Relations.{value_of}
 use Rattle.fd_prob.specs.Slots.{slot_number}
 use Rattle.fd_solve.specs.Answers.{IsLeast, NothingFits}
 use Rattle.case_search.specs.Search.{IsLeastOf}
-use Rattle.fd_solve.specs.Operations.{ArePivots, IsFitting, IsLeastFrom, IsMadeOfAny, NoneBetween}
+use Rattle.fd_solve.specs.Internal.Operations.{ArePivots, IsFitting, IsLeastFrom, IsMadeOfAny, NoneBetween}
 use Rattle.case_search.proofs.Putting.{value_word}
 use Rattle.case_search.proofs.Ranks.{rank_round, rank_up}
 

@@ -25,10 +25,10 @@ use Rattle.fd_solve.specs.Answers.{NothingFits}
 use Rattle.fd_solve.specs.declared.answers.Solved.TheVariants as answers
 use Rattle.fd_solve.specs.declared.known.Known.{Known}
 use Rattle.fd_solve.specs.declared.known.Known.TheVariants.{Answer, Fits}
-use Rattle.fd_solve.specs.Equivalent.{AreEquivalent, StandsIn}
-use Rattle.fd_solve.specs.Known.{IsKnown, dropping}
-use Rattle.fd_solve.specs.Meeting.{is_in_cut, meets_bias}
-use Rattle.fd_solve.specs.Asking.{AsksFor, HasNone, with_doms}
+use Rattle.fd_solve.specs.Internal.Equivalent.{AreEquivalent, StandsIn}
+use Rattle.fd_solve.specs.Internal.Known.{IsKnown, dropping}
+use Rattle.fd_solve.specs.Internal.Meeting.{is_in_cut, meets_bias}
+use Rattle.fd_solve.specs.Internal.Asking.{AsksFor, HasNone, with_doms}
 use Rattle.case_search.proofs.Inside.{domain_is}
 use Rattle.fd_solve.proofs.Equivalence.{equivalent_each}
 use Rattle.fd_solve.proofs.FittingMarks.{one_bias, one_less}

@@ -12,15 +12,15 @@ use Rattle.fd_prob.specs.Fitting.{IsProblem}
 use Rattle.fd_prob.specs.Spaces.{space}
 use Rattle.fd_solve.specs.declared.leaf.Taken.{Taken}
 use Rattle.fd_solve.specs.Answers.{AreTaken, Kept, NothingFits}
-use Rattle.fd_solve.specs.Known.{IsKnown, dropping, has_none, was_spent}
-use Rattle.fd_solve.specs.Marks.{AreSound, HasFirstsOf, base_of, with_marked}
+use Rattle.fd_solve.specs.Internal.Known.{IsKnown, dropping, has_none, was_spent}
+use Rattle.fd_solve.specs.Internal.Marks.{AreSound, HasFirstsOf, base_of, with_marked}
 use Rattle.fd_solve.specs.declared.ready.Ready.{Ready}
-use Rattle.fd_solve.specs.Ready.{IsReady}
-use Rattle.fd_solve.specs.Shrinking.{shrinks}
-use Rattle.fd_solve.specs.Taking.{IsTakenBy, IsTold, kept_of}
+use Rattle.fd_solve.specs.Internal.Ready.{IsReady}
+use Rattle.fd_solve.specs.Internal.Shrinking.{shrinks}
+use Rattle.fd_solve.specs.Internal.Taking.{IsTakenBy, IsTold, kept_of}
 use Rattle.fd_solve.proofs.Existing.{some_least}
 use Rattle.fd_solve.proofs.FirstMarks.{ready_after}
-use Rattle.fd_solve.proofs.Lists.{drop_here, drop_past}
+use Rattle.case_search.proofs.Lists.{drop_here, drop_past}
 use Rattle.fd_solve.proofs.Marking.{many_marked, marked_false, marked_true, whole_marked}
 use Rattle.fd_solve.proofs.FittingMarks.{nothing_more}
 use Rattle.fd_solve.proofs.Shrinking.{space_shrinks}

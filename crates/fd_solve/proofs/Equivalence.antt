@@ -15,13 +15,13 @@ use Rattle.fd_prob.specs.Fitting.{IsCase, IsProblem, fits_case}
 use Rattle.fd_prob.proofs.Fitted.{fits_its_case, of_case}
 use Rattle.fd_prob.specs.Order.{IsAssignment}
 use Rattle.case_search.specs.Equivalent.{IsEquivalent}
-use Rattle.fd_solve.specs.Equivalent.{AreBrought, AreEquivalent, AreMarked, AreTried, IsTried, StandFor, StandsIn}
-use Rattle.fd_solve.specs.Marks.{marked_case, with_marked}
-use Rattle.fd_solve.specs.Meeting.{meets_marked}
+use Rattle.fd_solve.specs.Internal.Equivalent.{AreBrought, AreEquivalent, AreMarked, AreTried, IsTried, StandFor, StandsIn}
+use Rattle.fd_solve.specs.Internal.Marks.{marked_case, with_marked}
+use Rattle.fd_solve.specs.Internal.Meeting.{meets_marked}
 use Rattle.case_search.specs.Search.{IsMadeOf, LeastOrNone}
 use Rattle.fd_solve.proofs.FirstMarks.{all_begun}
 use Rattle.fd_solve.proofs.FittingMarks.{all_marks}
-use Rattle.fd_solve.proofs.Lists.{any_default, drop_here, drop_past}
+use Rattle.case_search.proofs.Lists.{any_default, drop_here, drop_past}
 use Rattle.fd_solve.proofs.Marking.{many_marked, marked_at, marked_case_whole, marked_op}
 use Rattle.case_search.proofs.Orders.{as_well}
 

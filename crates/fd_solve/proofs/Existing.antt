@@ -13,8 +13,8 @@ use Rattle.fd_prob.specs.Relations.{value_of}
 use Rattle.fd_prob.specs.Slots.{slot_number}
 use Rattle.fd_prob.proofs.Places.{in_place, place_below, same_slot}
 use Rattle.fd_solve.specs.Answers.{IsLeast}
-use Rattle.case_search.specs.Free.{put}
-use Rattle.fd_solve.specs.Operations.{IsFitting}
+use Rattle.case_search.specs.Internal.Free.{put}
+use Rattle.fd_solve.specs.Internal.Operations.{IsFitting}
 use Rattle.case_search.proofs.Putting.{put_here, put_there, put_word, true_or_false, value_word}
 use Rattle.fd_solve.proofs.StrictOrder.{pivot_alike}
 

@@ -7,7 +7,7 @@ use Rattle.std.proofs.lemmas.Option.{same_Some}
 use Rattle.std.proofs.lemmas.Bool.Decides.{nat_tests}
 use Rattle.std.proofs.lemmas.List.{take_more}
 use Rattle.std.proofs.lemmas.List.Folds.{find-append}
-use Rattle.fd_solve.specs.Operations.{ArePivots}
+use Rattle.fd_solve.specs.Internal.Operations.{ArePivots}
 use Rattle.dom_set.specs.Elements.{is_in}
 use Rattle.fd_prob.specs.declared.problem.Case.{Case}
 use Rattle.fd_prob.specs.declared.problem.Extra.{Extra}
@@ -18,10 +18,10 @@ use Rattle.fd_prob.specs.Extras.{extended, extended_case, extended_cases}
 use Rattle.fd_prob.specs.Fitting.{IsCase, domain_of}
 use Rattle.fd_prob.specs.Order.{allowed_ops, domain_in, draw_of, picked, pivot_of}
 use Rattle.fd_prob.specs.Spaces.{access_space, allowed_case, allowed_cases, if_allowed, is_access, numbers_from, operation_space, pages_in, saturated, space, sum_of}
-use Rattle.fd_solve.specs.Marks.{HasFirstsOf, bare, cut_case, first_of}
+use Rattle.fd_solve.specs.Internal.Marks.{HasFirstsOf, bare, cut_case, first_of}
 use Rattle.fd_solve.proofs.AllOperations.{op_or_later}
 use Rattle.fd_solve.proofs.Pivoting.{pivot_later}
-use Rattle.fd_solve.proofs.Extensions.{length_cuts}
+use Rattle.case_search.proofs.Extensions.{length_cuts}
 
 pub own_firsts : (p : Problem) → HasFirstsOf p p
 own_firsts p = record { cases = λ op. refl; pivots = refl; pairs = refl; fetch = refl }

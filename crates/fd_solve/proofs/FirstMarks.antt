@@ -9,9 +9,9 @@ use Rattle.fd_prob.specs.declared.problem.Problem.{Problem}
 use Rattle.fd_prob.specs.Extras.{extended}
 use Rattle.fd_prob.specs.Fitting.{IsProblem}
 use Rattle.fd_solve.specs.declared.ready.Ready.{Ready}
-use Rattle.fd_solve.specs.Equivalent.{StandFor}
-use Rattle.fd_solve.specs.Marks.{with_marked}
-use Rattle.fd_solve.specs.Ready.{IsReady}
+use Rattle.fd_solve.specs.Internal.Equivalent.{StandFor}
+use Rattle.fd_solve.specs.Internal.Marks.{with_marked}
+use Rattle.fd_solve.specs.Internal.Ready.{IsReady}
 use Rattle.fd_solve.proofs.Marking.{many_marked, whole_marked}
 
 no_biases : (marks : List Bool) (p : Problem) → with_marked marks [] p ≡ p

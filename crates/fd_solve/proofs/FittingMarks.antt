@@ -1,5 +1,5 @@
 -- What fits a problem with its marked biases.
-use Rattle.std.proofs.Common.{◌≡◌, ℕ, ◌+◌, ◌<◌, ◌≤◌, Bool, true, false, not, ◌&&◌, ◌||◌, ◌==◌, List, [], ◌∷◌, ◌++◌, All, length, drop, get_or, refl, sym, ap, ◌∙◌, arith}
+use Rattle.std.proofs.Common.{◌≡◌, ℕ, ◌+◌, ◌<◌, ◌≤◌, Bool, true, false, not, ◌&&◌, ◌||◌, ◌==◌, List, [], ◌∷◌, ◌++◌, All, length, drop, get_or, refl, sym, ap, ◌∙◌, subst, arith}
 use Rattle.std.specs.Prelude.{if◌then◌else◌, filter, slice_set}
 use Rattle.std.specs.List.{list_any, list_all}
 use Rattle.std.proofs.lemmas.List.Elements.{All-head, All-tail}
@@ -22,13 +22,13 @@ use Rattle.fd_prob.specs.Relations.{holds, value_of}
 use Rattle.fd_prob.specs.Slots.{slot_number}
 use Rattle.fd_prob.proofs.Fitted.{all_within, each_within}
 use Rattle.fd_solve.specs.Answers.{NothingFits}
-use Rattle.fd_solve.specs.Marks.{marked_case, with_marked}
-use Rattle.fd_solve.specs.Meeting.{is_in_cut, meets_bias, meets_marked}
-use Rattle.fd_solve.specs.Asking.{with_doms}
+use Rattle.fd_solve.specs.Internal.Marks.{marked_case, with_marked}
+use Rattle.fd_solve.specs.Internal.Meeting.{is_in_cut, meets_bias, meets_marked}
+use Rattle.fd_solve.specs.Internal.Asking.{with_doms}
 use Rattle.case_search.proofs.Inside.{each_of, inside_of, within_same}
 use Rattle.case_search.proofs.Putting.{put_in, put_out, value_in}
-use Rattle.fd_solve.proofs.Extensions.{case_whole, length_cut}
-use Rattle.fd_solve.proofs.Lists.{drop_here, drop_past}
+use Rattle.case_search.proofs.Extensions.{case_whole, length_cut}
+use Rattle.case_search.proofs.Lists.{drop_here, drop_past}
 use Rattle.fd_solve.proofs.Marking.{many_marked, marked_at}
 
 -- one domain less what a test leaves out
@@ -165,11 +165,13 @@ pub nothing_more : (e : Extra) (p : Problem) → IsProblem p → NothingFits p �
 nothing_more e p is none y words h = none y words (less_cases e e.cases p.cases y is h)
 
 -- the case at a place, and those after it
-pub case_and_rest : (marks : List Bool) (es : List Extra) (p : Problem) (x : Assignment) (i : ℕ) (c : Case) → All (λ e. length e.cases ≡ length p.cases) es → i < length p.cases → c ≡ get_or p.cases i c
+pub case_and_rest : (marks : List Bool) (es : List Extra) (p : Problem) (x : Assignment) (cases : List Case) (i : ℕ) (c : Case) → All (λ e. length e.cases ≡ length p.cases) es → cases ≡ p.cases → i < length cases → c ≡ get_or cases i c
     → list_any (fits_case x) (drop i (with_marked marks es p).cases) ≡ (fits_case x (marked_case marks es i c) || list_any (fits_case x) (drop (i + 1) (with_marked marks es p).cases))
-case_and_rest marks es p x i c entries less here =
+case_and_rest marks es p x cases i c entries own less here =
     let many : length (with_marked marks es p).cases ≡ length p.cases = many_marked marks es p (length p.cases) entries refl in
-    ap (list_any (fits_case x)) (drop_here (with_marked marks es p).cases i (marked_case marks es i c) (omega (arith, less, many)) (marked_at marks es p (length p.cases) i c entries refl less here))
+    let within : i < length p.cases = subst (λ (cs : List Case). i < length cs) own less in
+    let is : c ≡ get_or p.cases i c = here ∙ ap (λ (cs : List Case). get_or cs i c) own in
+    ap (list_any (fits_case x)) (drop_here (with_marked marks es p).cases i (marked_case marks es i c) (omega (arith, within, many)) (marked_at marks es p (length p.cases) i c entries refl within is))
 
 pub none_after : (marks : List Bool) (es : List Extra) (p : Problem) (x : Assignment) (i : ℕ) → All (λ e. length e.cases ≡ length p.cases) es → length p.cases ≤ i → list_any (fits_case x) (drop i (with_marked marks es p).cases) ≡ false
 none_after marks es p x i entries end =

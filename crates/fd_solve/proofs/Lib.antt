@@ -1,4 +1,3 @@
-pub mod Lists
 pub mod OneOperation
 pub mod AllOperations
 pub mod Allowed
@@ -6,9 +5,8 @@ pub mod Pivoting
 pub mod PivotWords
 pub mod StrictOrder
 pub mod OneAnswer
-pub mod Extensions
 pub mod Marking
-pub mod MetRows
+pub mod DeadCases
 pub mod FirstMarks
 pub mod FirstCases
 pub mod Shrinking
@@ -18,3 +16,4 @@ pub mod Biases
 pub mod Dropping
 pub mod Equivalence
 pub mod Asking
+pub mod Barred

@@ -7,9 +7,9 @@ use Rattle.fd_prob.specs.declared.problem.Extra.{Extra}
 use Rattle.fd_prob.specs.declared.problem.Problem.{Problem}
 use Rattle.fd_prob.specs.Extras.{extended, extended_case, extended_cases}
 use Rattle.fd_prob.specs.Fitting.{IsCase, IsProblem}
-use Rattle.fd_solve.specs.Marks.{marked_case, with_marked}
-use Rattle.fd_solve.proofs.Extensions.{as_many, case_whole, whole}
-use Rattle.fd_solve.proofs.Lists.{drop_here}
+use Rattle.fd_solve.specs.Internal.Marks.{marked_case, with_marked}
+use Rattle.case_search.proofs.Extensions.{as_many, case_whole, whole}
+use Rattle.case_search.proofs.Lists.{drop_here}
 
 pub marked_true : (marks : List Bool) (es : List Extra) (p : Problem) (e : Extra) → length marks < length es → e ≡ get_or es (length marks) e → with_marked (marks ++ true ∷ []) es p ≡ extended e (with_marked marks es p)
 marked_true [] [] p e lt here = absurd (omega (arith, lt))

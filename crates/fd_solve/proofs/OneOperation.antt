@@ -9,8 +9,8 @@ use Rattle.fd_prob.specs.Laws.{IsOfCase}
 use Rattle.fd_prob.specs.Order.{IsAssignment}
 use Rattle.fd_prob.specs.Relations.{value_of}
 use Rattle.case_search.specs.Search.{Before, IsLesser, IsMadeOf, LeastOrNone}
-use Rattle.fd_solve.specs.Operations.{IsMadeOfAny}
-use Rattle.fd_solve.proofs.Lists.{any_default}
+use Rattle.fd_solve.specs.Internal.Operations.{IsMadeOfAny}
+use Rattle.case_search.proofs.Lists.{any_default}
 use Rattle.case_search.proofs.Orders.{as_well, lesser_of_both}
 
 -- the assignment has the operation and is of one of the first n cases

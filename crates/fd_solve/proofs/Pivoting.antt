@@ -7,7 +7,7 @@ use Rattle.fd_prob.specs.declared.slot.Slot.TheVariants as slots
 use Rattle.fd_prob.specs.Fitting.{domain_of}
 use Rattle.fd_prob.specs.Order.{domain_in, draw_of, picked, pivot_of}
 use Rattle.fd_prob.specs.Slots.{slot_number}
-use Rattle.fd_solve.specs.Operations.{ArePivots}
+use Rattle.fd_solve.specs.Internal.Operations.{ArePivots}
 use Rattle.fd_solve.proofs.AllOperations.{op_or_later}
 
 -- but for that of the operation itself, a pivot is picked in the operation's first case

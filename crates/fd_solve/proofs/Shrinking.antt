@@ -17,8 +17,8 @@ use Rattle.fd_prob.specs.Slots.{slot_number}
 use Rattle.fd_prob.specs.Spaces.{access_space, allowed_case, allowed_cases, counted_fields, has_page, if_allowed, is_access, numbers_from, operation_space, pages_in, pages_of, product_of, saturated, size_in, source_of, space, sum_of}
 use Rattle.rv_isa.specs.Numbers.{op_numbered}
 use Rattle.rv_isa.specs.Table.{row_of}
-use Rattle.fd_solve.specs.Marks.{bare, cut_case, first_of}
-use Rattle.fd_solve.specs.Shrinking.{may_grow, shrinks}
+use Rattle.fd_solve.specs.Internal.Marks.{bare, cut_case, first_of}
+use Rattle.fd_solve.specs.Internal.Shrinking.{may_grow, shrinks}
 use Rattle.fd_solve.proofs.FirstCases.{allowed_bare, bare_find, bare_map, bare_pages, bare_space, first_extended}
 
 -- ---- lists of which some elements were taken away

@@ -1,12 +1,4 @@
-pub mod Equivalent
 pub mod Answers
 pub mod Dropping
-pub mod Known
-pub mod Marks
-pub mod Meeting
-pub mod Ready
-pub mod Asking
 pub mod Laws
-pub mod Taking
-pub mod Shrinking
-pub mod Operations
+pub mod Internal

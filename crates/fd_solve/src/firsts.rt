@@ -4,9 +4,9 @@ ghost use Rattle.std.specs.Option.{option_or};
 ghost use Rattle.fd_prob.specs.declared.problem.Problem.{Problem};
 ghost use Rattle.fd_prob.specs.Extras.{extended};
 ghost use Rattle.fd_prob.specs.Fitting.{IsCase, IsProblem};
-ghost use Rattle.fd_solve.specs.Marks.{HasFirstsOf, cut_case, first_of};
+ghost use Rattle.fd_solve.specs.Internal.Marks.{HasFirstsOf, cut_case, first_of};
 
-use crate::extended::cut_by_all;
+use case_search::cut_by_all;
 use dom_set::OutOfMemory;
 use fd_prob::{Case, Extra, Items, Problem, copy_sets, first_case};
 use std::alloc::Global;

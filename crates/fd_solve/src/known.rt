@@ -2,10 +2,10 @@
 ghost use Rattle.std.specs.Prelude.{◌≡◌, ◌<◌, ◌≤◌, ◌-◌, nat_lt, true, IfOk, OnOk, length};
 ghost use Rattle.fd_prob.specs.Spaces.{space};
 ghost use Rattle.fd_solve.specs.Answers.{IsAnswer, NothingFits};
-ghost use Rattle.fd_solve.specs.Equivalent.{AreTried};
-ghost use Rattle.fd_solve.specs.Known.{IsKnown, dropping, fitting_of, has_none, was_spent};
-ghost use Rattle.fd_solve.specs.Marks.{IsSound, whole_of};
-ghost use Rattle.fd_solve.specs.Ready.{IsReady};
+ghost use Rattle.fd_solve.specs.Internal.Equivalent.{AreTried};
+ghost use Rattle.fd_solve.specs.Internal.Known.{IsKnown, dropping, fitting_of, has_none, was_spent};
+ghost use Rattle.fd_solve.specs.Internal.Marks.{IsSound, whole_of};
+ghost use Rattle.fd_solve.specs.Internal.Ready.{IsReady};
 
 use crate::answers::Solved;
 use crate::marked::Marked;

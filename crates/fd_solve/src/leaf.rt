@@ -5,12 +5,12 @@ ghost use Rattle.std.specs.Prelude.{◌≡◌, ◌+◌, ◌-◌, ◌<◌, ◌≤
 ghost use Rattle.fd_prob.specs.Fitting.{IsCase, IsProblem};
 ghost use Rattle.fd_prob.specs.Spaces.{space};
 ghost use Rattle.fd_solve.specs.Answers.{IsAnswer, IsLeafAnswer, NothingFits};
-ghost use Rattle.fd_solve.specs.Equivalent.{AreTried};
-ghost use Rattle.fd_solve.specs.Known.{IsKnown, has_none, was_spent};
-ghost use Rattle.fd_solve.specs.Marks.{IsSound, whole_of, with_marked};
-ghost use Rattle.fd_solve.specs.Ready.{IsReady};
-ghost use Rattle.fd_solve.specs.Shrinking.{shrinks};
-ghost use Rattle.fd_solve.specs.Taking.{IsTakenBy, IsTold, kept_of};
+ghost use Rattle.fd_solve.specs.Internal.Equivalent.{AreTried};
+ghost use Rattle.fd_solve.specs.Internal.Known.{IsKnown, has_none, was_spent};
+ghost use Rattle.fd_solve.specs.Internal.Marks.{IsSound, whole_of, with_marked};
+ghost use Rattle.fd_solve.specs.Internal.Ready.{IsReady};
+ghost use Rattle.fd_solve.specs.Internal.Shrinking.{shrinks};
+ghost use Rattle.fd_solve.specs.Internal.Taking.{IsTakenBy, IsTold, kept_of};
 
 use crate::answers::{LeafAnswer, Solved};
 use crate::firsts::cut_problem;
@@ -60,22 +60,21 @@ fn known_next(
 const FEW: usize = 256;
 
 /// Whether the domain is in many pieces.
-fn is_large(alloc: Global, domain: &Set) -> Result<bool, OutOfMemory> {
-    let spans = domain.spans(alloc)?;
-    Ok(spans.len() > FEW)
+fn is_large(domain: &Set) -> bool {
+    domain.pieces() > FEW
 }
 
 /// Whether the addresses of one of the cases, or the values of rs1 in it, are in many pieces, so that to narrow it takes far
 /// longer than to copy it.
-fn are_large(alloc: Global, cases: &[Case]) -> Result<bool, OutOfMemory>
+fn are_large(cases: &[Case]) -> bool
     requires { All IsCase cases.now }
 {
     for case in cases {
-        if is_large(alloc, case.domain(Slot::Ea))? || is_large(alloc, case.domain(Slot::A))? {
-            return Ok(true);
+        if is_large(case.domain(Slot::Ea)) || is_large(case.domain(Slot::A)) {
+            return true;
         }
     }
-    Ok(false)
+    false
 }
 
 /// The biases that were taken so far.
@@ -201,7 +200,7 @@ pub fn solve_leaf(
         marks: Vec::new(alloc),
         firsts: None,
         known: Known::Answer(answer_alone(alloc, p, nodes)?),
-        ready: Ready::new(are_large(alloc, p.cases.as_slice())?),
+        ready: Ready::new(are_large(p.cases.as_slice())),
         dropped: Items::new(alloc),
     };
     for bias in biases {

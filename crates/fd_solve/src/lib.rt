@@ -6,7 +6,6 @@
 
 mod answers;
 mod cases;
-mod extended;
 mod firsts;
 mod known;
 mod laws;

@@ -5,11 +5,11 @@ ghost use Rattle.fd_prob.specs.Fitting.{IsCase};
 ghost use Rattle.fd_prob.specs.Order.{pivot_of};
 ghost use Rattle.fd_prob.specs.declared.slot.Slot.TheVariants as slots;
 ghost use Rattle.case_search.specs.Equivalent.{IsEquivalent};
-ghost use Rattle.fd_solve.specs.Marks.{IsSound, base_of, marked_case, whole_of};
-ghost use Rattle.fd_solve.specs.Operations.{ArePivots};
+ghost use Rattle.fd_solve.specs.Internal.Marks.{IsSound, base_of, marked_case, whole_of};
+ghost use Rattle.fd_solve.specs.Internal.Operations.{ArePivots};
 
-use crate::extended::extended_case;
 use crate::pivots::pivots_of;
+use case_search::extended_case;
 use dom_set::OutOfMemory;
 use fd_prob::{Case, Extra, Problem};
 use std::alloc::Global;

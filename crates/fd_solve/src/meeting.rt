@@ -2,8 +2,8 @@
 ghost use Rattle.std.specs.Prelude.{◌≡◌, ◌<◌, ◌≤◌, ◌||◌, not, All, length};
 ghost use Rattle.std.specs.List.{list_all};
 ghost use Rattle.fd_prob.specs.Fitting.{IsCase, fits, fits_case};
-ghost use Rattle.fd_solve.specs.Marks.{IsSound, marked_case, whole_of};
-ghost use Rattle.fd_solve.specs.Meeting.{is_in_cut, meets_bias, meets_marked};
+ghost use Rattle.fd_solve.specs.Internal.Marks.{IsSound, marked_case, whole_of};
+ghost use Rattle.fd_solve.specs.Internal.Meeting.{is_in_cut, meets_bias, meets_marked};
 
 use crate::marked::Marked;
 use dom_set::Set;

@@ -7,9 +7,9 @@ ghost use Rattle.fd_prob.specs.Order.{pivot_of};
 ghost use Rattle.fd_prob.specs.Spaces.{space};
 ghost use Rattle.fd_solve.specs.declared.answers.Solved.TheVariants.{Found, NoneFits, Spent};
 ghost use Rattle.fd_solve.specs.Answers.{IsAnswer, IsLeast, NothingFits};
-ghost use Rattle.fd_solve.specs.Equivalent.{AreTried, StandFor};
-ghost use Rattle.fd_solve.specs.Marks.{IsSound, begun_of, whole_of};
-ghost use Rattle.fd_solve.specs.Operations.{IsLeastFrom, IsMadeOfAny, NoneBetween};
+ghost use Rattle.fd_solve.specs.Internal.Equivalent.{AreTried, StandFor};
+ghost use Rattle.fd_solve.specs.Internal.Marks.{IsSound, begun_of, whole_of};
+ghost use Rattle.fd_solve.specs.Internal.Operations.{IsLeastFrom, IsMadeOfAny, NoneBetween};
 ghost use Rattle.case_search.specs.Search.{LeastOrNone};
 
 use crate::Solved;

@@ -6,7 +6,7 @@ ghost use Rattle.fd_prob.specs.declared.slot.Slot.TheVariants as slots;
 ghost use Rattle.fd_prob.specs.Order.{allowed_ops, draw_of, picked, pivot_of};
 ghost use Rattle.fd_prob.specs.Slots.{slot_number};
 ghost use Rattle.fd_solve.specs.Laws.{ArePivotsWords, HasWordPicks};
-ghost use Rattle.fd_solve.specs.Operations.{ArePivots};
+ghost use Rattle.fd_solve.specs.Internal.Operations.{ArePivots};
 
 use case_search::{slot_at, words};
 use dom_set::{OutOfMemory, Set};

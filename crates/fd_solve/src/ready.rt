@@ -4,9 +4,9 @@ ghost use Rattle.std.specs.List.{list_all};
 ghost use Rattle.fd_prob.specs.Fitting.{IsCase};
 ghost use Rattle.fd_prob.specs.Spaces.{space};
 ghost use Rattle.fd_solve.specs.Answers.{IsAnswer, NothingFits};
-ghost use Rattle.fd_solve.specs.Equivalent.{AreBrought, AreTried, StandFor};
-ghost use Rattle.fd_solve.specs.Marks.{IsSound, begun_at, whole_of, with_marked};
-ghost use Rattle.fd_solve.specs.Ready.{IsReady};
+ghost use Rattle.fd_solve.specs.Internal.Equivalent.{AreBrought, AreTried, StandFor};
+ghost use Rattle.fd_solve.specs.Internal.Marks.{IsSound, begun_at, whole_of, with_marked};
+ghost use Rattle.fd_solve.specs.Internal.Ready.{IsReady};
 
 use crate::answers::Solved;
 use crate::marked::Marked;

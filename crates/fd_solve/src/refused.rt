@@ -10,9 +10,9 @@ ghost use Rattle.fd_prob.specs.Fitting.{IsCase};
 ghost use Rattle.fd_prob.specs.Order.{IsAssignment};
 ghost use Rattle.fd_prob.specs.Slots.{slot_number};
 ghost use Rattle.fd_prob.specs.Relations.{holds, is_in_row, value_of};
-ghost use Rattle.fd_solve.specs.Equivalent.{StandsIn};
-ghost use Rattle.fd_solve.specs.Meeting.{is_in_cut};
-ghost use Rattle.fd_solve.specs.Asking.{AsksFor, HasNone, with_doms};
+ghost use Rattle.fd_solve.specs.Internal.Equivalent.{StandsIn};
+ghost use Rattle.fd_solve.specs.Internal.Meeting.{is_in_cut};
+ghost use Rattle.fd_solve.specs.Internal.Asking.{AsksFor, HasNone, with_doms};
 
 use dom_set::{OutOfMemory, Set, set_laws};
 use fd_prob::{Case, Extra, Items, Quad, Rel, Slot};
@@ -104,13 +104,8 @@ pub fn stays(bias: &Extra, place: usize) -> bool
 const MORE: usize = 256;
 
 /// Whether there are fewer elements, and not many more pieces.
-fn is_less(alloc: Global, left: &Set, domain: &Set) -> Result<bool, OutOfMemory> {
-    if left.size() == domain.size() {
-        return Ok(false);
-    }
-    let spans = left.spans(alloc)?;
-    let others = domain.spans(alloc)?;
-    Ok(spans.len() <= others.len().saturating_add(MORE))
+fn is_less(left: &Set, domain: &Set) -> bool {
+    left.size() != domain.size() && left.pieces() <= domain.pieces().saturating_add(MORE)
 }
 
 /// The case with another domain for a variable.
@@ -136,8 +131,11 @@ pub fn less(alloc: Global, case: &Case, slot: Slot, set: &Set) -> Result<Option<
     ensures { IfOk result (λ made. IfSome made (StandsIn case.now)) }
 {
     let domain = case.domain(slot);
+    if domain.and(alloc, set)?.is_empty() {
+        return Ok(None);
+    }
     let left = domain.minus(alloc, set)?;
-    if !is_less(alloc, &left, domain)? {
+    if !is_less(&left, domain) {
         return Ok(None);
     }
     let made = with_domain(alloc, case, slot, left)?;

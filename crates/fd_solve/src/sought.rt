@@ -4,9 +4,9 @@ ghost use Rattle.fd_prob.specs.declared.problem.Case.{Case};
 ghost use Rattle.fd_prob.specs.Extras.{extended};
 ghost use Rattle.fd_prob.specs.Fitting.{IsCase, IsProblem};
 ghost use Rattle.fd_solve.specs.Answers.{NothingFits};
-ghost use Rattle.fd_solve.specs.Asking.{AsksFor};
-ghost use Rattle.fd_solve.specs.Equivalent.{AreEquivalent, AreMarked, AreTried, StandFor};
-ghost use Rattle.fd_solve.specs.Marks.{IsSound, begun_of, whole_of};
+ghost use Rattle.fd_solve.specs.Internal.Asking.{AsksFor};
+ghost use Rattle.fd_solve.specs.Internal.Equivalent.{AreEquivalent, AreMarked, AreTried, StandFor};
+ghost use Rattle.fd_solve.specs.Internal.Marks.{IsSound, begun_of, whole_of};
 
 use crate::marked::{Marked, marked_case};
 use crate::refused::{asked_by, less, stays};

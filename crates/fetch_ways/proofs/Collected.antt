@@ -37,7 +37,7 @@ use Rattle.fetch_ways.specs.declared.way.FetchEnd.{FetchEnd}
 use Rattle.fetch_ways.specs.declared.way.FetchEnd.TheVariants as ends
 use Rattle.fetch_ways.specs.declared.way.FetchWay.{FetchWay}
 use Rattle.fetch_ways.specs.Ways.{AreFetchWays, IsFetchGround, is_free_walk, keeps, reached_by, walk_at}
-use Rattle.fetch_ways.specs.Keeping.{end_for, keeps_with, passes, seconds_of, way_of, way_to, way_with, ways_of}
+use Rattle.fetch_ways.specs.Internal.Keeping.{end_for, keeps_with, passes, seconds_of, way_of, way_to, way_with, ways_of}
 use Rattle.fetch_ways.proofs.Listed.{first_same, second_same}
 use Rattle.fetch_ways.proofs.Walked.{IsInside, fetch_setting, keeps_is, leads_inside, root_is}
 

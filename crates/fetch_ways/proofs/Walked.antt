@@ -22,7 +22,7 @@ use Rattle.sv_walk.specs.declared.entry.View.{View}
 use Rattle.sv_walk.specs.Entry.{access_cause, is_closed, is_invalid, is_pointer, is_reserved, is_unaligned, page_cause}
 use Rattle.sv_walk.specs.Translation.{At, Fails, Reached, arrived, is_in_ram, is_translated, root_address, second_address, second_end}
 use Rattle.sv_walk.proofs.Orders.{translated_between}
-use Rattle.row_parts.specs.Classes.{seen_at}
+use Rattle.row_parts.specs.Internal.Classes.{seen_at}
 use Rattle.addr_rows.specs.Combinations.{Setting}
 use Rattle.addr_rows.specs.Walks.{Shows, entry_answers, root_place, seen_by}
 use Rattle.addr_rows.proofs.Playing.{access_fails, all_played, all_plays, entry, page_fails, pointer_played, root_played, root_question, rooted_played, second_done, second_place, second_question, seen_is}
@@ -37,7 +37,7 @@ use Rattle.leaf_link.specs.Values.{given_by}
 use Rattle.fetch_ways.specs.declared.way.FetchEnd.{FetchEnd}
 use Rattle.fetch_ways.specs.declared.way.FetchEnd.TheVariants as ends
 use Rattle.fetch_ways.specs.Ways.{is_free_walk, keeps, reached_by, walk_at}
-use Rattle.fetch_ways.specs.Keeping.{is_clear, keeps_behind, keeps_with, with_root, with_second}
+use Rattle.fetch_ways.specs.Internal.Keeping.{is_clear, keeps_behind, keeps_with, with_root, with_second}
 
 -- what translations of fetches depend on at a turn
 abbrev pub fetch_setting : Turn → Setting

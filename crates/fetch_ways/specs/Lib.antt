@@ -1,2 +1,2 @@
 pub mod Ways
-pub mod Keeping
+pub mod Internal

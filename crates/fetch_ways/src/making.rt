@@ -6,7 +6,7 @@ ghost use Rattle.rv_mem.specs.Seen.{is_there};
 ghost use Rattle.addr_rows.specs.Walks.{has_value};
 ghost use Rattle.leaf_link.specs.FetchRows.{AreFetchRows, FetchRow};
 ghost use Rattle.leaf_link.specs.Turns.{Turn};
-ghost use Rattle.fetch_ways.specs.Keeping.{end_for, passes, seconds_of, way_of, ways_of};
+ghost use Rattle.fetch_ways.specs.Internal.Keeping.{end_for, passes, seconds_of, way_of, ways_of};
 ghost use Rattle.fetch_ways.specs.Ways.{AreFetchWays, IsFetchGround};
 
 use crate::forms::set_of;

@@ -1,7 +1,7 @@
 // Which walks of a fetch keep.
 ghost use Rattle.std.specs.Prelude.{◌≡◌, ◌<◌, ◌%◌, ◌/◌, ◌^◌, ◌==◌};
 ghost use Rattle.std.specs.List.{list_any};
-ghost use Rattle.fetch_ways.specs.Keeping.{is_clear, keeps_behind, keeps_with};
+ghost use Rattle.fetch_ways.specs.Internal.Keeping.{is_clear, keeps_behind, keeps_with};
 ghost use Rattle.fetch_ways.specs.Ways.{is_free_walk};
 
 use crate::forms::is_translated;

@@ -8,9 +8,8 @@ use Rattle.tpl_ast.specs.declared.template.HartDecl.{HartDecl}
 use Rattle.tpl_ast.specs.declared.template.Item.{Item}
 use Rattle.tpl_ast.specs.declared.template.Item.TheViews as views
 use Rattle.tpl_ast.specs.declared.template.Item.TheVariants as variants
-use Rattle.tpl_ast.specs.Bodies.{BodyLine, lines_of_body, lines_of_item}
+use Rattle.tpl_ast.specs.Bodies.{BodyLine, lines_of_body, lines_of_item, HartLines, hart_lines}
 use Rattle.tpl_ast.specs.Choices.{weight_of}
-use Rattle.tpl_ast.specs.Parsing.{HartLines, hart_lines}
 use Rattle.gen_search.specs.declared.draws.Tally.{Tally}
 use Rattle.gen_search.specs.Draws.{words}
 use Rattle.gen_search.specs.Search.{Rules, Taken, NoneFits, Spent, Outcome, Finished, Dead, GaveUp, Walks, finished, gives_up, taken, unfit, too_large, label, seq, rep, choose, Tries, none_left, leads, stops, goes_on, SearchResult, ComesTo, done, gave_up, again, all_items, copies, cyclically, in_turn, numbered, of_hart, picked, way_at}

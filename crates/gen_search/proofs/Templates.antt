@@ -6,7 +6,7 @@ use Rattle.tpl_ast.specs.declared.template.HartDecl.{HartDecl}
 use Rattle.tpl_ast.specs.declared.template.Item.{Item}
 use Rattle.tpl_ast.specs.Choices.{all_true, is_fit}
 use Rattle.tpl_ast.specs.Templates.{CanPick}
-use Rattle.tpl_ast.proofs.Sound.{templates_keep_limits}
+use Rattle.tpl_lang.proofs.Sound.{templates_keep_limits}
 use Rattle.gen_search.specs.Fit.{AreFit, TemplatesCanBeSearched}
 use Rattle.gen_search.specs.Search.{all_items, of_hart}
 

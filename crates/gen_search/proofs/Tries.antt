@@ -2,7 +2,7 @@
 use Rattle.std.proofs.Common.{◌≡◌, ℕ, zero, suc, ◌+◌, ◌-◌, ◌<◌, ◌≤◌, List, [], ◌∷◌, length, get_or, take, drop, length-drop, length-append, length-take, refl, sym, ap, ◌∙◌, inl, inr, ◌⊎◌, subst, zero-add, arith}
 use Rattle.std.proofs.Math.Seq.{get_or-append_right}
 use Rattle.std.proofs.lemmas.List.{drop_more, get_or-drop, get_or-take, get_or_append_left, drop_all}
-use Rattle.gen_search.specs.Tries.{IsCyclic}
+use Rattle.gen_search.specs.Internal.Tries.{IsCyclic}
 use Rattle.gen_search.specs.Search.{numbered, cyclically}
 
 pub numbered_length : {A : Type 0} (n : ℕ) (ws : List (ℕ × A)) → length (numbered n ws) ≡ length ws

@@ -4,7 +4,7 @@ use Rattle.tpl_ast.specs.declared.template.HartDecl.{HartDecl}
 use Rattle.tpl_ast.specs.declared.template.Item.{Item}
 use Rattle.tpl_ast.specs.declared.template.Template.{Template}
 use Rattle.tpl_ast.specs.Choices.{is_fit}
-use Rattle.tpl_ast.specs.Parsing.{Parses}
+use Rattle.tpl_lang.specs.Parsing.{Parses}
 use Rattle.gen_search.specs.Search.{all_items}
 
 -- an alternative of each choice in these items of harts can be picked

@@ -2,11 +2,8 @@ pub mod Draws
 pub mod Search
 pub mod Wholes
 pub mod Fit
-pub mod Steps
-pub mod Places
-pub mod Walks
 pub mod Ready
 pub mod Answers
-pub mod Tries
 pub mod Laws
 pub mod Moved
+pub mod Internal

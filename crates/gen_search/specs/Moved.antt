@@ -5,7 +5,7 @@ use Rattle.tpl_ast.specs.declared.template.HartDecl.{HartDecl}
 use Rattle.tpl_ast.specs.declared.template.Item.{Item}
 use Rattle.tpl_ast.specs.declared.template.Item.TheVariants as variants
 use Rattle.tpl_ast.specs.declared.template.Wish.{Wish}
-use Rattle.tpl_ast.specs.Parsing.{hart_lines}
+use Rattle.tpl_ast.specs.Bodies.{hart_lines}
 use Rattle.gen_search.specs.Search.{Rules, Turned, Taken, NoneFits, Spent, SearchResult, Done, NoTest, Searches}
 
 -- leaves that say the same

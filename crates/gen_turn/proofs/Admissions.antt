@@ -11,11 +11,12 @@ use Rattle.tpl_ast.specs.declared.template.HartDecl.{HartDecl}
 use Rattle.tpl_ast.specs.declared.template.HartState.{HartState}
 use Rattle.tpl_ast.specs.declared.template.Item.{Item}
 use Rattle.tpl_ast.specs.declared.template.Template.{Template}
-use Rattle.tpl_ast.specs.Expansion.{Piece, layout_of, layout_of_item}
-use Rattle.tpl_ast.specs.States.{ArePlaces, IsState, is_in}
+use Rattle.tpl_ast.specs.Expansion.{Piece, expansion_of, expansion_of_item}
+use Rattle.tpl_ast.specs.States.{ArePlaces, IsState, is_in_ram}
 use Rattle.tpl_ast.specs.Templates.{KeepsLimits}
-use Rattle.tpl_admit.specs.Admitting.{Failure, Trace, choices_over, context_of, failures_from, failures_in, first_stand, gives, has_words, hart_failures, no_atom, no_values, of_hart, start_failures, starts_as, with_given}
-use Rattle.tpl_admit.specs.Starts.{fixed_in as fixed_of_state, found, no_state}
+use Rattle.tpl_admit.specs.Admitting.{Failure, Trace, choices_over, context_of, failures_from, failures_in, first_stand, gives, has_words, hart_failures, no_atom, start_failures, starts_as, with_given, at_hart}
+use Rattle.rv_hart.specs.Registers.{no_registers}
+use Rattle.tpl_admit.specs.Starts.{fixed_in as fixed_of_state, no_state, lookup}
 use Rattle.part_laws.specs.Partial.{Held, Partial}
 use Rattle.part_machine.specs.Whole.{Bare, Whole, first_of, given, hart_of, no_hart, records_of}
 use Rattle.part_state.specs.Beginning.{IsBegun, start_in}
@@ -32,18 +33,18 @@ use Rattle.gen_turn.proofs.Paths.{Made, sets_of}
 
 -- ---- names as a certificate lists them
 
-found_known : (k : ℕ) (os : List (Option ℕ)) (n v : ℕ) → slice_index_or os n None ≡ Some v → found (known_from k os) (k + n) ≡ Some v
+found_known : (k : ℕ) (os : List (Option ℕ)) (n v : ℕ) → slice_index_or os n None ≡ Some v → lookup (known_from k os) (k + n) ≡ Some v
 found_known k [] n v h = absurd (cc h)
 found_known k (o ∷ os) zero v h =
     let same : k ≡ k + 0 = omega arith in
-    ap (λ (p : Option ℕ). found (known_one k p ++ known_from (k + 1) os) (k + 0)) h ∙ ap (λ (b : Bool). if b then Some v else found (known_from (k + 1) os) (k + 0)) (eq-eqb k (k + 0) same)
-found_known k (None ∷ os) (suc n) v h = let same : k + suc n ≡ (k + 1) + n = omega arith in ap (found (known_from (k + 1) os)) same ∙ found_known (k + 1) os n v h
+    ap (λ (p : Option ℕ). lookup (known_one k p ++ known_from (k + 1) os) (k + 0)) h ∙ ap (λ (b : Bool). if b then Some v else lookup (known_from (k + 1) os) (k + 0)) (eq-eqb k (k + 0) same)
+found_known k (None ∷ os) (suc n) v h = let same : k + suc n ≡ (k + 1) + n = omega arith in ap (lookup (known_from (k + 1) os)) same ∙ found_known (k + 1) os n v h
 found_known k (Some u ∷ os) (suc n) v h =
     let same : k + suc n ≡ (k + 1) + n = omega arith in
-    ap (λ (b : Bool). if b then Some u else found (known_from (k + 1) os) (k + suc n)) (ne_eqb k (k + suc n) (λ e. absurd (omega (arith, e)))) ∙ ap (found (known_from (k + 1) os)) same ∙ found_known (k + 1) os n v h
+    ap (λ (b : Bool). if b then Some u else lookup (known_from (k + 1) os) (k + suc n)) (ne_eqb k (k + suc n) (λ e. absurd (omega (arith, e)))) ∙ ap (lookup (known_from (k + 1) os)) same ∙ found_known (k + 1) os n v h
 
-pub name_found : (names : List (Option ℕ)) (n v : ℕ) → slice_index_or names n None ≡ Some v → found (known_from 0 names) n ≡ Some v
-name_found names n v h = let same : n ≡ 0 + n = omega arith in ap (found (known_from 0 names)) same ∙ found_known 0 names n v h
+pub name_found : (names : List (Option ℕ)) (n v : ℕ) → slice_index_or names n None ≡ Some v → lookup (known_from 0 names) n ≡ Some v
+name_found names n v h = let same : n ≡ 0 + n = omega arith in ap (lookup (known_from 0 names)) same ∙ found_known 0 names n v h
 
 -- ---- pieces of harts
 
@@ -69,7 +70,7 @@ followed_from j l f a b = go l.pieces l.left a
 laid_from : (j : ℕ) (todo : List (ℕ × Item)) → AreItemsFrom j todo → (cs : List ℕ) → AreFrom j (laid_out todo cs).pieces
 laid_from j [] from cs = tt
 laid_from j (x ∷ todo) from cs =
-    followed_from j (all_tagged x.0 (layout_of_item x.1 cs)) (laid_out todo) (tagged_from j x.0 (layout_of_item x.1 cs).pieces from.0) (laid_from j todo from.1)
+    followed_from j (all_tagged x.0 (expansion_of_item x.1 cs)) (laid_out todo) (tagged_from j x.0 (expansion_of_item x.1 cs).pieces from.0) (laid_from j todo from.1)
 
 items_append : (j : ℕ) (xs ys : List (ℕ × Item)) → AreItemsFrom j xs → AreItemsFrom j ys → AreItemsFrom j (xs ++ ys)
 items_append j [] ys a b = b
@@ -100,7 +101,7 @@ followed_none l f h = go l.pieces l.left h
 
 -- ---- from the beginning to the end
 
-module _ (t : Template) (keeps : KeepsLimits t.text t) (begun last : Whole) (is : IsBegun t begun) (tested : IsTest last) (words : List (ℕ × ℕ)) (lists : (n : ℕ) → found words (n * 4) ≡ given last.words n) (start : IsStartOn (partial_of begun) (partial_of last)) (count : length last.harts ≡ length t.harts) where
+module _ (t : Template) (keeps : KeepsLimits t.text t) (begun last : Whole) (is : IsBegun t begun) (tested : IsTest last) (words : List (ℕ × ℕ)) (lists : (n : ℕ) → lookup words (n * 4) ≡ given last.words n) (start : IsStartOn (partial_of begun) (partial_of last)) (count : length last.harts ≡ length t.harts) where
   abbrev pub told : Trace
   told = record {
     template = t;
@@ -113,7 +114,7 @@ module _ (t : Template) (keeps : KeepsLimits t.text t) (begun last : Whole) (is 
   }
 
   abbrev names : ℕ → Option ℕ
-  names = found (known_from 0 last.names)
+  names = lookup (known_from 0 last.names)
 
   abbrev end : Partial
   end = partial_of last
@@ -136,9 +137,9 @@ module _ (t : Template) (keeps : KeepsLimits t.text t) (begun last : Whole) (is 
   fixed_at k lt =
       let same : (end.start k).fixed ≡ fixed_of_state t.ram k (start_in t.harts k) =
       start.fixed k ∙ ap (λ (b : Bare). (held_in b begun.memory).fixed) (begun_first k) ∙ is.fixed k lt in
-      ap (λ (f : Fixed). record { pc = f.pc; privilege = f.privilege; mstatus = f.mstatus; medeleg = f.medeleg; satp = f.satp; number = k; ram = λ n. is_in t.ram (n * 4) }) same
+      ap (λ (f : Fixed). record { pc = f.pc; privilege = f.privilege; mstatus = f.mstatus; medeleg = f.medeleg; satp = f.satp; number = k; ram = λ n. is_in_ram t.ram (n * 4) }) same
 
-  place_at : (k : ℕ) → k < length t.harts → (key v : ℕ) → found (start_in t.harts k).places key ≡ Some v → found (places_in (first_of k last)) key ≡ Some v
+  place_at : (k : ℕ) → k < length t.harts → (key v : ℕ) → lookup (start_in t.harts k).places key ≡ Some v → lookup (places_in (first_of k last)) key ≡ Some v
   place_at k lt key v h =
       places_known (first_of k last) (tested.fit_first k (hart_count k lt)) key
       ∙ start.places k key v (ap (λ (b : Bare). value_of_key b key) (begun_first k) ∙ is.places k key lt ∙ h)
@@ -151,19 +152,19 @@ module _ (t : Template) (keeps : KeepsLimits t.text t) (begun last : Whole) (is 
   starts : (k : ℕ) → k < length t.harts → starts_as (start_in t.harts k) (told_state (first_of k last)) ≡ true
   starts k lt =
       starts_so t.ram k (start_in t.harts k) (told_state (first_of k last)) (fixed_at k lt)
-      (places_given (found (places_in (first_of k last))) (start_in t.harts k).places (state_places t.harts k lt keeps.states) (place_at k lt))
+      (places_given (lookup (places_in (first_of k last))) (start_in t.harts k).places (state_places t.harts k lt keeps.states) (place_at k lt))
 
-  word_at : (key v : ℕ) → found t.words key ≡ Some v → found words key ≡ Some v
+  word_at : (key v : ℕ) → lookup t.words key ≡ Some v → lookup words key ≡ Some v
   word_at key v h =
       let aligned = word_aligned t.ram 0 t.words key v keeps.words h in
       let same : key ≡ key / 4 * 4 = omega (arith, aligned) in
-      ap (found words) same ∙ lists (key / 4) ∙ start.words (key / 4) v (is.words (key / 4) ∙ ap (found t.words) (sym same) ∙ h)
+      ap (lookup words) same ∙ lists (key / 4) ∙ start.words (key / 4) v (is.words (key / 4) ∙ ap (lookup t.words) (sym same) ∙ h)
 
   has_all_words : (k : ℕ) → has_words told k ≡ true
   has_all_words k = go (k == 0)
     where
       go : (b : Bool) → (not b || list_all (gives words) t.words) ≡ true
-      go true = words_given t.ram (found words) t.words keeps.words word_at
+      go true = words_given t.ram (lookup words) t.words keeps.words word_at
       go false = refl
 
   no_start_failure : (k : ℕ) (s : HartState) → k < length t.harts → s ≡ start_in t.harts k → start_failures told k s ≡ []
@@ -181,7 +182,7 @@ module _ (t : Template) (keeps : KeepsLimits t.text t) (begun last : Whole) (is 
 
   begins : (k : ℕ) (w : Whole) → k < length t.harts → IsStartOn (partial_of w) end → IsUnstarted k w → IsAt (sets_of t) last names (name_found last.names) k w (first_stand told k)
   begins k w lt on fresh =
-      subst (λ (s : HartState). IsAt (sets_of t) last names (name_found last.names) k w (record { step = 0; pc = s.pc; regs = with_given s.places no_values; records = records_of k last })) (sym (state_at k lt))
+      subst (λ (s : HartState). IsAt (sets_of t) last names (name_found last.names) k w (record { step = 0; pc = s.pc; regs = with_given s.places no_registers; records = records_of k last })) (sym (state_at k lt))
       (record {
         step = sym (ap length fresh.records);
         pc = ap (λ (f : Fixed). f.pc) (on.fixed k) ∙ sym (ap (λ (h : Held). h.fixed.pc) fresh.now);
@@ -216,34 +217,34 @@ module _ (t : Template) (keeps : KeepsLimits t.text t) (begun last : Whole) (is 
       let empty : choices ≡ [] = cc none in
       ap (choices_over told k) empty
   harts_admitted k (h ∷ hs) choices w m ps size states laid made order free fresh =
-      go (layout_of h.body.items choices).left refl (λ cs v n qs. harts_admitted (k + 1) hs cs v n qs (omega (arith, size)) (λ j. let s : k + suc j ≡ k + 1 + j = omega arith in states (suc j) ∙ ap (start_in t.harts) s))
+      go (expansion_of h.body.items choices).left refl (λ cs v n qs. harts_admitted (k + 1) hs cs v n qs (omega (arith, size)) (λ j. let s : k + suc j ≡ k + 1 + j = omega arith in states (suc j) ∙ ap (start_in t.harts) s))
     where
       lt : k < length t.harts
       lt = omega (arith, size)
 
-      whole_laid : followed (all_tagged k (layout_of h.body.items choices)) (laid_out (all_items (k + 1) hs)) ≡ record { pieces = ps; left = Some [] }
+      whole_laid : followed (all_tagged k (expansion_of h.body.items choices)) (laid_out (all_items (k + 1) hs)) ≡ record { pieces = ps; left = Some [] }
       whole_laid = sym (laid_append (items_of_hart k h.body.items) (all_items (k + 1) hs) choices ∙ ap (λ (l : LaidOut). followed l (laid_out (all_items (k + 1) hs))) (laid_body k h.body.items choices)) ∙ laid
 
-      go : (left : Option (List ℕ)) → (layout_of h.body.items choices).left ≡ left
+      go : (left : Option (List ℕ)) → (expansion_of h.body.items choices).left ≡ left
           → ((cs : List ℕ) (v : Whole) (n : ℕ) (qs : List Tagged) → laid_out (all_items (k + 1) hs) cs ≡ record { pieces = qs; left = Some [] } → Made (sets_of t) last qs v → AreInOrder qs n → IsFree (sets_of t) last names (name_found last.names) v n
           → ((j : ℕ) → k + 1 ≤ j → j < length t.harts → IsUnstarted j v) → failures_from told (k + 1) hs (Some cs) ≡ [])
           → failures_from told k (h ∷ hs) (Some choices) ≡ []
       go None is_left later =
-          let none : None ≡ Some [] = sym (followed_none (all_tagged k (layout_of h.body.items choices)) (laid_out (all_items (k + 1) hs)) is_left) ∙ ap (λ (l : LaidOut). l.left) whole_laid in
+          let none : None ≡ Some [] = sym (followed_none (all_tagged k (expansion_of h.body.items choices)) (laid_out (all_items (k + 1) hs)) is_left) ∙ ap (λ (l : LaidOut). l.left) whole_laid in
           absurd (cc none)
       go (Some cs) is_left later =
-          let split = sym (followed_some (all_tagged k (layout_of h.body.items choices)) (laid_out (all_items (k + 1) hs)) cs is_left) ∙ whole_laid in
-          let pieces_are : tagged k (layout_of h.body.items choices).pieces ++ (laid_out (all_items (k + 1) hs) cs).pieces ≡ ps = ap (λ (l : LaidOut). l.pieces) split in
+          let split = sym (followed_some (all_tagged k (expansion_of h.body.items choices)) (laid_out (all_items (k + 1) hs)) cs is_left) ∙ whole_laid in
+          let pieces_are : tagged k (expansion_of h.body.items choices).pieces ++ (laid_out (all_items (k + 1) hs) cs).pieces ≡ ps = ap (λ (l : LaidOut). l.pieces) split in
           let left_is : (laid_out (all_items (k + 1) hs) cs).left ≡ Some [] = ap (λ (l : LaidOut). l.left) split in
-          let runs = hart_runs (sets_of t) last names (name_found last.names) k (layout_of h.body.items choices).pieces (laid_out (all_items (k + 1) hs) cs).pieces w (first_stand told k) m
+          let runs = hart_runs (sets_of t) last names (name_found last.names) k (expansion_of h.body.items choices).pieces (laid_out (all_items (k + 1) hs) cs).pieces w (first_stand told k) m
           (laid_from (k + 1) (all_items (k + 1) hs) (harts_from (k + 1) (k + 1) hs (omega arith)) cs)
           (subst (λ (qs : List Tagged). Made (sets_of t) last qs w) (sym pieces_are) made)
           (subst (λ (qs : List Tagged). AreInOrder qs m) (sym pieces_are) order) free
           (begins k w lt (made_later (sets_of t) last names (name_found last.names) ps w made).start (fresh k (omega arith) lt)) in
-          let own : hart_failures told k h (layout_of h.body.items choices).pieces ≡ [] =
-          ap (λ (fs : List Failure). fs ++ failures_in (context_of told k) (layout_of h.body.items choices).pieces (first_stand told k)) (no_start_failure k h.start lt (states 0 ∙ (let z : k + 0 ≡ k = omega arith in ap (start_in t.harts) z)))
+          let own : hart_failures told k h (expansion_of h.body.items choices).pieces ≡ [] =
+          ap (λ (fs : List Failure). fs ++ failures_in (context_of told k) (expansion_of h.body.items choices).pieces (first_stand told k)) (no_start_failure k h.start lt (states 0 ∙ (let z : k + 0 ≡ k = omega arith in ap (start_in t.harts) z)))
           ∙ runs.0 in
-          ap (λ (fs : List Failure). map (of_hart k) fs ++ failures_from told (k + 1) hs (layout_of h.body.items choices).left) own
+          ap (λ (fs : List Failure). map (at_hart k) fs ++ failures_from told (k + 1) hs (expansion_of h.body.items choices).left) own
           ∙ ap (failures_from told (k + 1) hs) is_left
           ∙ later cs runs.1.test runs.1.known (laid_out (all_items (k + 1) hs) cs).pieces (ap (λ (o : Option (List ℕ)). record { pieces = (laid_out (all_items (k + 1) hs) cs).pieces; left = o }) left_is) runs.1.made runs.1.order runs.1.free
           (λ j le small. fresh_kept j k w (laid_out (all_items (k + 1) hs) cs).pieces (λ e. absurd (omega (arith, e, le))) runs.1 (fresh j (omega (arith, le)) small))

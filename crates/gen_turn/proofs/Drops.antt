@@ -2,7 +2,7 @@
 use Rattle.std.proofs.Common.{◌≡◌, ℕ, zero, suc, ◌+◌, ◌-◌, ◌<◌, ◌≤◌, ◌&&◌, ◌==◌, Bool, true, false, if◌then◌else◌, List, [], ◌∷◌, ◌++◌, length, map, drop, get_or, refl, sym, ap, ◌∙◌, arith}
 use Rattle.std.specs.Prelude.{slice_index}
 use Rattle.std.proofs.lemmas.Bool.{and_parts, eqb-true}
-use Rattle.fd_solve.proofs.Lists.{drop_here, drop_past}
+use Rattle.case_search.proofs.Lists.{drop_here, drop_past}
 use Rattle.tpl_ast.specs.declared.template.Wish.{Wish}
 use Rattle.tpl_admit.specs.declared.dropped.Dropped.{Dropped}
 use Rattle.part_machine.specs.Whole.{Whole, with_dropped}

@@ -11,7 +11,7 @@ use Rattle.rv_script.specs.Logs.{or_else}
 use Rattle.rv_hart.specs.declared.record.Change.{Change}
 use Rattle.rv_hart.specs.Changes.{IsSoundWrite, csrs_after, given_by}
 use Rattle.rv_hart.specs.Fixed.{fixed_csrs}
-use Rattle.tpl_admit.specs.Admitting.{written}
+use Rattle.rv_hart.specs.Registers.{written}
 use Rattle.part_laws.specs.Partial.{Partial, advanced, held_after}
 use Rattle.part_machine.specs.Whole.{Whole}
 use Rattle.part_state.specs.Meaning.{IsTest, partial_of}

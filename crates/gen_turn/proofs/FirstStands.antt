@@ -11,8 +11,9 @@ use Rattle.rv_script.specs.Logs.{or_else}
 use Rattle.tpl_ast.specs.declared.template.HartState.{HartState}
 use Rattle.tpl_ast.specs.declared.template.Region.{Region}
 use Rattle.tpl_ast.specs.States.{ArePlaces, AreStartWords}
-use Rattle.tpl_admit.specs.Admitting.{gives, is_same_level, is_value, no_values, starts_as, with_given}
-use Rattle.tpl_admit.specs.Starts.{fixed_in as fixed_of_state, found}
+use Rattle.tpl_admit.specs.Admitting.{gives, is_same_level, is_value, starts_as, with_given}
+use Rattle.rv_hart.specs.Registers.{no_registers}
+use Rattle.tpl_admit.specs.Starts.{fixed_in as fixed_of_state, lookup}
 use Rattle.rv_hart.specs.Fixed.{Fixed}
 use Rattle.part_machine.specs.Whole.{Bare}
 use Rattle.part_state.specs.Meaning.{IsFit, value_of_key}
@@ -95,28 +96,28 @@ or_none : (o : Option ℕ) → or_else o None ≡ o
 or_none None = refl
 or_none (Some v) = refl
 
-pub first_register : (b : Bare) → IsFit b → (n : ℕ) → 0 < n → n < 32 → slice_index_or (with_given (places_in b) no_values) n None ≡ value_of_key b n
+pub first_register : (b : Bare) → IsFit b → (n : ℕ) → 0 < n → n < 32 → slice_index_or (with_given (places_in b) no_registers) n None ≡ value_of_key b n
 first_register b fit zero some small = absurd (omega (arith, some))
 first_register b fit (suc j) some small =
     let size : length (drop 1 b.regs) ≡ 31 = size_drop b.regs fit.size in
     let same : suc j ≡ 1 + j = omega arith in
-    ap (λ (rs : List (Option ℕ)). slice_index_or rs (suc j) None) (given_append (known_from 1 (drop 1 b.regs)) (known_csrs csr_addresses b.csrs) no_values ∙ given_csrs csr_addresses b.csrs (with_given (known_from 1 (drop 1 b.regs)) no_values))
-    ∙ ap (λ (i : ℕ). slice_index_or (with_given (known_from 1 (drop 1 b.regs)) no_values) i None) same
-    ∙ given_at (drop 1 b.regs) 1 j no_values (omega (arith, size)) refl (omega (arith, size, small))
-    ∙ ap (λ (i : ℕ). or_else (slice_index_or (drop 1 b.regs) j None) (slice_index_or no_values i None)) (sym same)
+    ap (λ (rs : List (Option ℕ)). slice_index_or rs (suc j) None) (given_append (known_from 1 (drop 1 b.regs)) (known_csrs csr_addresses b.csrs) no_registers ∙ given_csrs csr_addresses b.csrs (with_given (known_from 1 (drop 1 b.regs)) no_registers))
+    ∙ ap (λ (i : ℕ). slice_index_or (with_given (known_from 1 (drop 1 b.regs)) no_registers) i None) same
+    ∙ given_at (drop 1 b.regs) 1 j no_registers (omega (arith, size)) refl (omega (arith, size, small))
+    ∙ ap (λ (i : ℕ). or_else (slice_index_or (drop 1 b.regs) j None) (slice_index_or no_registers i None)) (sym same)
     ∙ ap (or_else (slice_index_or (drop 1 b.regs) j None)) (none_at 31 j)
     ∙ or_none (slice_index_or (drop 1 b.regs) j None)
     ∙ at_drop b.regs j
     ∙ sym (ap (λ (c : Bool). if c then (if eqb (suc j) 0 then None else slice_index_or b.regs (suc j) None) else lazy_value_at b.csrs (csr_address (suc j))) (lt-ltb (suc j) 32 small)
     ∙ ap (λ (c : Bool). if c then None else slice_index_or b.regs (suc j) None) (ne_eqb (suc j) 0 (λ e. absurd (omega (arith, e)))))
 
-pub first_size : (b : Bare) → length (with_given (places_in b) no_values) ≡ 32
-first_size b = size_given (places_in b) no_values
+pub first_size : (b : Bare) → length (with_given (places_in b) no_registers) ≡ 32
+first_size b = size_given (places_in b) no_registers
 
-pub first_zero : (b : Bare) → slice_index_or (with_given (places_in b) no_values) 0 None ≡ Some 0
+pub first_zero : (b : Bare) → slice_index_or (with_given (places_in b) no_registers) 0 None ≡ Some 0
 first_zero b =
-    ap (λ (rs : List (Option ℕ)). slice_index_or rs 0 None) (given_append (known_from 1 (drop 1 b.regs)) (known_csrs csr_addresses b.csrs) no_values ∙ given_csrs csr_addresses b.csrs (with_given (known_from 1 (drop 1 b.regs)) no_values))
-    ∙ given_before (drop 1 b.regs) 1 0 no_values (omega arith)
+    ap (λ (rs : List (Option ℕ)). slice_index_or rs 0 None) (given_append (known_from 1 (drop 1 b.regs)) (known_csrs csr_addresses b.csrs) no_registers ∙ given_csrs csr_addresses b.csrs (with_given (known_from 1 (drop 1 b.regs)) no_registers))
+    ∙ given_before (drop 1 b.regs) 1 0 no_registers (omega arith)
 
 -- ---- what the template gives
 
@@ -137,34 +138,34 @@ words_ascend : (ram : List Region) (from : ℕ) (es : List (ℕ × ℕ)) → Are
 words_ascend ram from [] are = tt
 words_ascend ram from (e ∷ es) are = (are.0, less_ascending (e.0 + 1) (e.0 + 4) es (omega arith) (words_ascend ram (e.0 + 4) es are.4))
 
-found_from : (from : ℕ) (es : List (ℕ × ℕ)) (key v : ℕ) → AreAscending from es → found es key ≡ Some v → from ≤ key
+found_from : (from : ℕ) (es : List (ℕ × ℕ)) (key v : ℕ) → AreAscending from es → lookup es key ≡ Some v → from ≤ key
 found_from from [] key v are h = absurd (cc h)
 found_from from (e ∷ es) key v are h = go (eqb e.0 key) refl h (found_from (e.0 + 1) es key v are.1)
   where
-    go : (b : Bool) → eqb e.0 key ≡ b → (if b then Some e.1 else found es key) ≡ Some v → (found es key ≡ Some v → e.0 + 1 ≤ key) → from ≤ key
+    go : (b : Bool) → eqb e.0 key ≡ b → (if b then Some e.1 else lookup es key) ≡ Some v → (lookup es key ≡ Some v → e.0 + 1 ≤ key) → from ≤ key
     go true is h rest = let same = eqb-true e.0 key is in let low = are.0 in omega (arith, same, low)
     go false is h rest = let more = rest h in let low = are.0 in omega (arith, more, low)
 
-all_given : (test : ℕ → Option ℕ) (from : ℕ) (es : List (ℕ × ℕ)) → AreAscending from es → ((key v : ℕ) → found es key ≡ Some v → test key ≡ Some v) → list_all (λ e. is_value (test e.0) e.1) es ≡ true
+all_given : (test : ℕ → Option ℕ) (from : ℕ) (es : List (ℕ × ℕ)) → AreAscending from es → ((key v : ℕ) → lookup es key ≡ Some v → test key ≡ Some v) → list_all (λ e. is_value (test e.0) e.1) es ≡ true
 all_given test from [] are has = refl
 all_given test from (e ∷ es) are has =
-    let here : test e.0 ≡ Some e.1 = has e.0 e.1 (ap (λ (b : Bool). if b then Some e.1 else found es e.0) (eq-eqb e.0 e.0 refl)) in
+    let here : test e.0 ≡ Some e.1 = has e.0 e.1 (ap (λ (b : Bool). if b then Some e.1 else lookup es e.0) (eq-eqb e.0 e.0 refl)) in
     and_from (is_value (test e.0) e.1) _ (ap (λ (o : Option ℕ). is_value o e.1) here ∙ eq-eqb e.1 e.1 refl)
     (all_given test (e.0 + 1) es are.1 (λ key v h.
     let low = found_from (e.0 + 1) es key v are.1 h in
-    has key v (ap (λ (b : Bool). if b then Some e.1 else found es key) (ne_eqb e.0 key (λ same. absurd (omega (arith, same, low)))) ∙ h)))
+    has key v (ap (λ (b : Bool). if b then Some e.1 else lookup es key) (ne_eqb e.0 key (λ same. absurd (omega (arith, same, low)))) ∙ h)))
 
-pub places_given : (test : ℕ → Option ℕ) (es : List (ℕ × ℕ)) → ArePlaces 0 es → ((key v : ℕ) → found es key ≡ Some v → test key ≡ Some v) → list_all (λ e. is_value (test e.0) e.1) es ≡ true
+pub places_given : (test : ℕ → Option ℕ) (es : List (ℕ × ℕ)) → ArePlaces 0 es → ((key v : ℕ) → lookup es key ≡ Some v → test key ≡ Some v) → list_all (λ e. is_value (test e.0) e.1) es ≡ true
 places_given test es are has = all_given test 0 es (places_ascend 0 es are) has
 
-pub words_given : (ram : List Region) (test : ℕ → Option ℕ) (es : List (ℕ × ℕ)) → AreStartWords ram 0 es → ((key v : ℕ) → found es key ≡ Some v → test key ≡ Some v) → list_all (λ e. is_value (test e.0) e.1) es ≡ true
+pub words_given : (ram : List Region) (test : ℕ → Option ℕ) (es : List (ℕ × ℕ)) → AreStartWords ram 0 es → ((key v : ℕ) → lookup es key ≡ Some v → test key ≡ Some v) → list_all (λ e. is_value (test e.0) e.1) es ≡ true
 words_given ram test es are has = all_given test 0 es (words_ascend ram 0 es are) has
 
-pub word_aligned : (ram : List Region) (from : ℕ) (es : List (ℕ × ℕ)) (key v : ℕ) → AreStartWords ram from es → found es key ≡ Some v → key % 4 ≡ 0
+pub word_aligned : (ram : List Region) (from : ℕ) (es : List (ℕ × ℕ)) (key v : ℕ) → AreStartWords ram from es → lookup es key ≡ Some v → key % 4 ≡ 0
 word_aligned ram from [] key v are h = absurd (cc h)
 word_aligned ram from (e ∷ es) key v are h = go (eqb e.0 key) refl h (word_aligned ram (e.0 + 4) es key v are.4)
   where
-    go : (b : Bool) → eqb e.0 key ≡ b → (if b then Some e.1 else found es key) ≡ Some v → (found es key ≡ Some v → key % 4 ≡ 0) → key % 4 ≡ 0
+    go : (b : Bool) → eqb e.0 key ≡ b → (if b then Some e.1 else lookup es key) ≡ Some v → (lookup es key ≡ Some v → key % 4 ≡ 0) → key % 4 ≡ 0
     go true is h rest = subst (λ (n : ℕ). n % 4 ≡ 0) (eqb-true e.0 key is) are.1
     go false is h rest = rest h
 

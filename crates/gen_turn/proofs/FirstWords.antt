@@ -19,9 +19,9 @@ use Rattle.tpl_ast.specs.declared.template.HartDecl.{HartDecl}
 use Rattle.tpl_ast.specs.declared.template.HartState.{HartState}
 use Rattle.tpl_ast.specs.declared.template.Region.{Region}
 use Rattle.tpl_ast.specs.declared.template.Template.{Template}
-use Rattle.tpl_ast.specs.States.{ArePlaces, AreStartWords, IsState, is_in}
+use Rattle.tpl_ast.specs.States.{ArePlaces, AreStartWords, IsState, is_in_ram}
 use Rattle.tpl_ast.specs.Templates.{KeepsLimits}
-use Rattle.tpl_admit.specs.Starts.{fixed_in as fixed_given, found}
+use Rattle.tpl_admit.specs.Starts.{fixed_in as fixed_given, lookup}
 use Rattle.part_machine.specs.Whole.{Whole, fixed_in, hart_of}
 use Rattle.part_state.specs.Beginning.{IsBegun, start_in}
 use Rattle.part_state.specs.Meaning.{IsTest, value_of_key}
@@ -33,14 +33,14 @@ use Rattle.gen_turn.specs.Grounds.{IsOfWords}
 
 -- ---- what a template gives
 
-found_place : (from : ℕ) (es : List (ℕ × ℕ)) → ArePlaces from es → (key v : ℕ) → found es key ≡ Some v → v < 2 ^ 32
+found_place : (from : ℕ) (es : List (ℕ × ℕ)) → ArePlaces from es → (key v : ℕ) → lookup es key ≡ Some v → v < 2 ^ 32
 found_place from [] are key v is = absurd (cc is)
 found_place from (e ∷ es) are key v is = elim (cases_Bool (eqb e.0 key)) [
   | inl here ↦ (let both : Some e.1 ≡ Some v = rw here at is in subst (λ (n : ℕ). n < 2 ^ 32) (same_Some e.1 v both) are.2)
   | inr other ↦ found_place (e.0 + 1) es are.3 key v (rw other at is)
 ]
 
-found_word : (ram : List Region) (from : ℕ) (es : List (ℕ × ℕ)) → AreStartWords ram from es → (addr v : ℕ) → found es addr ≡ Some v → v < 2 ^ 32
+found_word : (ram : List Region) (from : ℕ) (es : List (ℕ × ℕ)) → AreStartWords ram from es → (addr v : ℕ) → lookup es addr ≡ Some v → v < 2 ^ 32
 found_word ram from [] are addr v is = absurd (cc is)
 found_word ram from (e ∷ es) are addr v is = elim (cases_Bool (eqb e.0 addr)) [
   | inl here ↦ (let both : Some e.1 ≡ Some v = rw here at is in subst (λ (n : ℕ). n < 2 ^ 32) (same_Some e.1 v both) are.3)
@@ -93,7 +93,7 @@ module _ (t : Template) (w : Whole) (keeps : KeepsLimits t.text t) (begun : IsBe
       key_word (csr_key addr) v (rw (high_key addr) (ap (λ (a : ℕ). lazy_value_at (hart_of k w).csrs a) same ∙ h))
   known (Word addr) v h =
       let n : ℕ = addr / 4 in
-      found_word t.ram 0 t.words keeps.words (n * 4) v (seen_word (is_in t.ram (n * 4)) (found t.words (n * 4)) v (sym (ap known_word (begun.memory n)) ∙ h))
+      found_word t.ram 0 t.words keeps.words (n * 4) v (seen_word (is_in_ram t.ram (n * 4)) (lookup t.words (n * 4)) v (sym (ap known_word (begun.memory n)) ∙ h))
 
   same : fixed_in (hart_of k w) w.memory ≡ fixed_given t.ram k state
   same = begun.fixed k less

@@ -10,7 +10,7 @@ use Rattle.rv_hart.specs.Fixed.{Fixed}
 use Rattle.tpl_ast.specs.declared.template.HartDecl.{HartDecl}
 use Rattle.tpl_ast.specs.declared.template.Item.{Item}
 use Rattle.tpl_ast.specs.declared.template.Template.{Template}
-use Rattle.tpl_ast.specs.Expansion.{Piece, layout_of_item}
+use Rattle.tpl_ast.specs.Expansion.{Piece, expansion_of_item}
 use Rattle.tpl_ast.specs.Limits.{file_limits}
 use Rattle.tpl_ast.specs.Naming.{count_in_head}
 use Rattle.tpl_ast.specs.States.{IsState}
@@ -50,7 +50,7 @@ AreItemsUp k (x ∷ xs) = (k ≤ x.0) × AreItemsUp x.0 xs
 
 laid_up : (k : ℕ) (todo : List (ℕ × Item)) → AreItemsUp k todo → (cs : List ℕ) → AreUp k (laid_out todo cs).pieces
 laid_up k [] up cs = tt
-laid_up k (x ∷ todo) up cs = go (layout_of_item x.1 cs).pieces (layout_of_item x.1 cs).left (laid_up x.0 todo up.1)
+laid_up k (x ∷ todo) up cs = go (expansion_of_item x.1 cs).pieces (expansion_of_item x.1 cs).left (laid_up x.0 todo up.1)
   where
     go : (ps : List Piece) (o : Option (List ℕ)) → ((ds : List ℕ) → AreUp x.0 (laid_out todo ds).pieces) → AreUp k (followed (record { pieces = tagged x.0 ps; left = o }) (laid_out todo)).pieces
     go ps None rest = subst (AreUp k) (append-nil (tagged x.0 ps)) (up_tagged k x.0 ps [] up.0 tt)

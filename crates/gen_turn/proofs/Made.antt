@@ -1,10 +1,10 @@
 -- What is made of a template, by what a search found.
 use Rattle.std.proofs.Common.{◌≡◌, ℕ, ◌*◌, length, sym, ap, ◌∙◌, subst}
-use Rattle.tpl_ast.specs.States.{is_in}
+use Rattle.tpl_ast.specs.States.{is_in_ram}
 use Rattle.tpl_ast.specs.declared.template.Template.{Template}
 use Rattle.tpl_admit.specs.declared.certificate.Cert.{Cert}
-use Rattle.tpl_ast.specs.Parsing.{Parses}
-use Rattle.tpl_admit.specs.Faithfulness.{IsFaithful}
+use Rattle.tpl_lang.specs.Parsing.{Parses}
+use Rattle.rv_system.specs.Faithfulness.{IsFaithful}
 use Rattle.tpl_admit.specs.Validity.{IsSound}
 use Rattle.tpl_admit.specs.WellFormed.{IsWellFormed}
 use Rattle.rv_mem.specs.Ram.{in_ram}
@@ -23,7 +23,7 @@ module _ (t : Template) (seed nodes turns : ℕ) (f : Found) (is : IsFound t see
   -- the test has the template's RAM and as many harts
   record IsOfTemplate (now : Test) : Type 0 where
     harts : length t.harts ≡ length now.harts
-    ram : (n : ℕ) → is_in t.ram (n * 4) ≡ in_ram now.ram n
+    ram : (n : ℕ) → is_in_ram t.ram (n * 4) ≡ in_ram now.ram n
 
   kept : (r : SearchResult Shown) → Comes t seed nodes turns r → (last : Shown) → AnswerIs r last answers.Done → IsOfTemplate last.now
   kept (Done end tally) comes last same =
@@ -40,7 +40,7 @@ module _ (t : Template) (seed nodes turns : ℕ) (f : Found) (is : IsFound t see
   pub same_harts : f.answer ≡ answers.Done → length t.harts ≡ length f.part.now.harts
   same_harts done = (of_template done).harts
 
-  pub same_ram : f.answer ≡ answers.Done → (n : ℕ) → is_in t.ram (n * 4) ≡ in_ram f.part.now.ram n
+  pub same_ram : f.answer ≡ answers.Done → (n : ℕ) → is_in_ram t.ram (n * 4) ≡ in_ram f.part.now.ram n
   same_ram done = (of_template done).ram
 
   module _ (c : Cert) (parses : Parses t.text t) (admitted : DoneTestsAreAdmitted) (fits : DoneTestsFitFiles) (always : (c : Cert) → IsSound c → IsFaithful c) (tells : Tells t (here f.part) c) (sound : IsSound c)

@@ -14,7 +14,7 @@ use Rattle.tpl_ast.specs.declared.template.Item.TheViews.{roll-Item}
 use Rattle.tpl_ast.specs.declared.template.Item.TheViews as views
 use Rattle.tpl_ast.specs.declared.template.Wish.{Wish}
 use Rattle.tpl_ast.specs.Expansion as pieces
-use Rattle.tpl_ast.specs.Grammar.{◌>>=◌}
+use Rattle.tpl_ast.specs.Naming.{◌>>=◌}
 use Rattle.tpl_ast.specs.Leaves.{atoms_of, is_name_below}
 use Rattle.tpl_ast.specs.Naming.{Naming, named_by_ways, named_in_turn, naming_in, naming_of_body, naming_of_harts, naming_of_item}
 use Rattle.tpl_ast.proofs.Proved.{Proved, items_of}

@@ -1,7 +1,7 @@
 -- What is made of a template is one.
 use Rattle.std.proofs.Common.{◌≡◌, ℕ, sym, ap, ◌∙◌, subst}
 use Rattle.tpl_ast.specs.declared.template.Template.{Template}
-use Rattle.tpl_ast.specs.Parsing.{Parses}
+use Rattle.tpl_lang.specs.Parsing.{Parses}
 use Rattle.tpl_admit.specs.declared.certificate.Cert.{Cert}
 use Rattle.part_state.specs.State.{Test, whole}
 use Rattle.part_state.specs.Told.{Tells}

@@ -15,13 +15,12 @@ use Rattle.tpl_ast.specs.declared.template.Item.TheViews.{roll-Item}
 use Rattle.tpl_ast.specs.declared.template.Item.TheVariants as variants
 use Rattle.tpl_ast.specs.declared.template.Template.{Template}
 use Rattle.tpl_ast.specs.declared.template.Wish.{Wish}
-use Rattle.tpl_ast.specs.Parsing.{is_number_among}
+use Rattle.tpl_ast.specs.Templates.{is_number_among, IsBody, IsFrame, KeepsLimits, are_weights, stands, stands_in}
 use Rattle.leaf_link.specs.Turns.{in_frames}
 use Rattle.tpl_ast.specs.Choices.{all_true, all_ways, weight_of}
 use Rattle.tpl_ast.specs.Leaves.{is_leaf}
-use Rattle.tpl_ast.specs.Templates.{IsBody, IsFrame, KeepsLimits, are_weights, stands, stands_in}
 use Rattle.tpl_ast.proofs.Proved.{Proved, items_of}
-use Rattle.tpl_ast.specs.Laws.{LeavesAreKnown, TemplatesKeepLimits}
+use Rattle.tpl_lang.specs.Laws.{LeavesAreKnown, TemplatesKeepLimits}
 use Rattle.part_machine.specs.Whole.{Whole}
 use Rattle.part_state.specs.Beginning.{IsBegun}
 use Rattle.part_state.specs.Meaning.{IsTest}

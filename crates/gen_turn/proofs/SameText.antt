@@ -2,14 +2,15 @@
 use Rattle.std.proofs.Common.{◌≡◌, ℕ, ◌<◌, Bool, List, [], ◌∷◌, length, map, replicate, Result, Ok, refl, sym, ap, ◌∙◌, subst}
 use Rattle.std.specs.Prelude.{slice_index_or}
 use Rattle.std.proofs.lemmas.List.{length-map}
-use Rattle.tpl_ast.specs.declared.fault.Fault.{Fault}
+use Rattle.tpl_lang.specs.declared.fault.Fault.{Fault}
 use Rattle.tpl_ast.specs.declared.template.HartDecl.{HartDecl}
 use Rattle.tpl_ast.specs.declared.template.HartState.{HartState}
 use Rattle.tpl_ast.specs.declared.template.Item.{Item}
 use Rattle.tpl_ast.specs.declared.template.Template.{Template}
 use Rattle.tpl_ast.specs.declared.template.Wish.{Wish}
-use Rattle.tpl_ast.specs.Parsing.{HartLines, Parses, Said, hart_lines, parses, said_by}
-use Rattle.tpl_admit.specs.Starts.{fixed_in, found, no_state}
+use Rattle.tpl_ast.specs.Bodies.{HartLines, hart_lines}
+use Rattle.tpl_lang.specs.Parsing.{Parses, Said, parses, said_by}
+use Rattle.tpl_admit.specs.Starts.{fixed_in, no_state, lookup}
 use Rattle.tpl_admit.specs.Laws.{with_template}
 use Rattle.tpl_admit.specs.declared.certificate.Cert.{Cert}
 use Rattle.part_machine.specs.Whole.{Whole}
@@ -124,7 +125,7 @@ begun_moved t hs w same begun =
       count = begun.count ∙ count;
       first = begun.first;
       fixed = λ k l. begun.fixed k (subst (λ (n : ℕ). k < n) (sym count) l) ∙ ap (λ (ss : List HartState). fixed_in t.ram k (slice_index_or ss k no_state)) starts;
-      places = λ k key l. begun.places k key (subst (λ (n : ℕ). k < n) (sym count) l) ∙ ap (λ (ss : List HartState). found (slice_index_or ss k no_state).places key) starts;
+      places = λ k key l. begun.places k key (subst (λ (n : ℕ). k < n) (sym count) l) ∙ ap (λ (ss : List HartState). lookup (slice_index_or ss k no_state).places key) starts;
       ends = begun.ends;
       ram = begun.ram;
       listed = begun.listed;

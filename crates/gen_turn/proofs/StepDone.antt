@@ -19,7 +19,7 @@ use Rattle.tpl_ast.specs.declared.template.Wish.{Wish}
 use Rattle.tpl_ast.specs.Leaves.{atoms_of, is_name_below}
 use Rattle.tpl_ast.specs.Limits.{file_limits}
 use Rattle.tpl_admit.specs.declared.dropped.Dropped.{Dropped}
-use Rattle.tpl_admit.specs.Admitting.{written}
+use Rattle.rv_hart.specs.Registers.{written}
 use Rattle.tpl_admit.specs.Variables.{value_of}
 use Rattle.part_laws.specs.Partial.{Partial, advanced, held_after}
 use Rattle.part_machine.specs.Whole.{Whole, fixed_in, hart_of, records_of}

@@ -10,7 +10,7 @@ use Rattle.rv_script.specs.Lists.{HasItem}
 use Rattle.rv_script.specs.Logs.{same_place}
 use Rattle.rv_script.proofs.Plays.{same_is}
 use Rattle.part_told.specs.Words.{AreListed as AreWordsListed, ListsWords}
-use Rattle.tpl_admit.specs.Starts.{found}
+use Rattle.tpl_admit.specs.Starts.{lookup}
 use Rattle.leaf_link.specs.Placing.{AreFourWords}
 use Rattle.part_machine.specs.Whole.{Whole, given}
 use Rattle.part_state.specs.Meaning.{IsTest, place_given}
@@ -85,30 +85,30 @@ kept_given n m (e ∷ es) apart = go (eqb n e.0) refl (kept_given n m es apart)
         or_none None = refl
         or_none (Some v) = refl
 
-few_listed : (ram : List (ℕ × ℕ)) (from : ℕ) (pairs words : List (ℕ × ℕ)) → AreWordsListed ram from pairs → ((key v : ℕ) → found pairs key ≡ Some v → is_some (given words (key / 4)) ≡ true) → length pairs ≤ length words
+few_listed : (ram : List (ℕ × ℕ)) (from : ℕ) (pairs words : List (ℕ × ℕ)) → AreWordsListed ram from pairs → ((key v : ℕ) → lookup pairs key ≡ Some v → is_some (given words (key / 4)) ≡ true) → length pairs ≤ length words
 few_listed ram from [] words are has = omega arith
 few_listed ram from (e ∷ es) words are has =
-    let own : is_some (given words (e.0 / 4)) ≡ true = has e.0 e.1 (ap (λ (b : Bool). if b then Some e.1 else found es e.0) (eq-eqb e.0 e.0 refl)) in
+    let own : is_some (given words (e.0 / 4)) ≡ true = has e.0 e.1 (ap (λ (b : Bool). if b then Some e.1 else lookup es e.0) (eq-eqb e.0 e.0 refl)) in
     let less = one_less (e.0 / 4) words own in
     let rest = few_listed ram (e.0 + 4) es (removed (e.0 / 4) words) are.4 (λ key v h.
     let low = found_low (e.0 + 4) es key v are.4 h in
     ap is_some (kept_given (e.0 / 4) (key / 4) words (λ same. absurd (omega (arith, same, low))))
-    ∙ has key v (ap (λ (b : Bool). if b then Some e.1 else found es key) (ne_eqb e.0 key (λ same. absurd (omega (arith, same, low)))) ∙ h)) in
+    ∙ has key v (ap (λ (b : Bool). if b then Some e.1 else lookup es key) (ne_eqb e.0 key (λ same. absurd (omega (arith, same, low)))) ∙ h)) in
     omega (arith, less, rest)
   where
-    found_low : (from : ℕ) (es : List (ℕ × ℕ)) (key v : ℕ) → AreWordsListed ram from es → found es key ≡ Some v → from ≤ key
+    found_low : (from : ℕ) (es : List (ℕ × ℕ)) (key v : ℕ) → AreWordsListed ram from es → lookup es key ≡ Some v → from ≤ key
     found_low from [] key v are h = absurd (cc h)
     found_low from (f ∷ es) key v are h = go (eqb f.0 key) refl h (found_low (f.0 + 4) es key v are.4)
       where
-        go : (b : Bool) → eqb f.0 key ≡ b → (if b then Some f.1 else found es key) ≡ Some v → (found es key ≡ Some v → f.0 + 4 ≤ key) → from ≤ key
+        go : (b : Bool) → eqb f.0 key ≡ b → (if b then Some f.1 else lookup es key) ≡ Some v → (lookup es key ≡ Some v → f.0 + 4 ≤ key) → from ≤ key
         go true is h rest = let same = eqb-true f.0 key is in let low = are.0 in omega (arith, same, low)
         go false is h rest = let more = rest h in let low = are.0 in omega (arith, more, low)
 
-aligned_key : (ram : List (ℕ × ℕ)) (from : ℕ) (es : List (ℕ × ℕ)) (key v : ℕ) → AreWordsListed ram from es → found es key ≡ Some v → key % 4 ≡ 0
+aligned_key : (ram : List (ℕ × ℕ)) (from : ℕ) (es : List (ℕ × ℕ)) (key v : ℕ) → AreWordsListed ram from es → lookup es key ≡ Some v → key % 4 ≡ 0
 aligned_key ram from [] key v are h = absurd (cc h)
 aligned_key ram from (e ∷ es) key v are h = go (eqb e.0 key) refl h (aligned_key ram (e.0 + 4) es key v are.4)
   where
-    go : (b : Bool) → eqb e.0 key ≡ b → (if b then Some e.1 else found es key) ≡ Some v → (found es key ≡ Some v → key % 4 ≡ 0) → key % 4 ≡ 0
+    go : (b : Bool) → eqb e.0 key ≡ b → (if b then Some e.1 else lookup es key) ≡ Some v → (lookup es key ≡ Some v → key % 4 ≡ 0) → key % 4 ≡ 0
     go true is h rest = subst (λ (n : ℕ). n % 4 ≡ 0) (eqb-true e.0 key is) are.1
     go false is h rest = rest h
 
@@ -258,4 +258,4 @@ pub few_words : (ram words pairs : List (ℕ × ℕ)) → ListsWords ram words p
 few_words ram words pairs lists = few_listed ram 0 pairs words lists.listed (λ key v h.
     let aligned = aligned_key ram 0 pairs key v lists.listed h in
     let same : key ≡ key / 4 * 4 = omega (arith, aligned) in
-    ap is_some (sym (lists.values (key / 4)) ∙ ap (found pairs) (sym same) ∙ h))
+    ap is_some (sym (lists.values (key / 4)) ∙ ap (lookup pairs) (sym same) ∙ h))

@@ -6,7 +6,7 @@ use Rattle.part_state.specs.State.{Test, data_of, whole}
 use Rattle.part_state.specs.Told.{Tells}
 use Rattle.tpl_ast.specs.declared.template.Template.{Template}
 use Rattle.tpl_admit.specs.declared.certificate.Cert.{Cert}
-use Rattle.tpl_admit.specs.Faithfulness.{IsFaithful}
+use Rattle.rv_system.specs.Faithfulness.{IsFaithful}
 use Rattle.tpl_admit.specs.Validity.{IsValid}
 use Rattle.tpl_admit.specs.WellFormed.{IsWellFormed}
 use Rattle.gen_search.specs.declared.draws.Tally.{Tally}

@@ -2,7 +2,7 @@
 ghost use Rattle.std.specs.Prelude.{◌≡◌, ◌<◌, ◌≤◌, ◌+◌, ◌-◌, ◌^◌, ◌&&◌, true, length, OnOk, OnErr, slice_index_or, None};
 ghost use Rattle.std.specs.List.{list_all};
 ghost use Rattle.tpl_ast.specs.Leaves.{atoms_of, is_name_below};
-ghost use Rattle.tpl_admit.specs.Moments.{moment};
+ghost use Rattle.tpl_admit.specs.Internal.Moments.{moment};
 ghost use Rattle.tpl_admit.specs.Variables.{value_of};
 ghost use Rattle.part_state.specs.State.{here};
 ghost use Rattle.leaf_turn.specs.Answers.{AreKept};

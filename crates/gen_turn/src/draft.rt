@@ -3,7 +3,7 @@ ghost use Rattle.std.specs.Prelude.{◌≡◌, ◌<◌, ◌≤◌, length, IfOk,
 ghost use Rattle.part_state.specs.Beginning.{IsBegun};
 ghost use Rattle.part_state.specs.Meaning.{IsTest};
 ghost use Rattle.part_state.specs.State.{data_of, here};
-ghost use Rattle.tpl_ast.specs.Parsing.{Parses};
+ghost use Rattle.tpl_lang.specs.Parsing.{Parses};
 ghost use Rattle.gen_turn.specs.Rules.{can_be_taken, draft_rules, shown};
 
 use crate::binding::bind_name;

@@ -10,7 +10,7 @@ use leaf_link::{
     values_are_by_places,
 };
 use leaf_turn::{answers_are_found, answers_are_playable, takings_are_one};
-use tpl_ast::{leaf_law, template_law};
+use tpl_lang::{leaf_law, template_law};
 use turn_laws::given_places_are_known;
 
 /// Does nothing. Its contract says that a leaf turn that can be taken has one answer at most, and that what can be taken

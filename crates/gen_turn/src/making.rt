@@ -1,6 +1,6 @@
 // The search for a test of a template.
 ghost use Rattle.std.specs.Prelude.{IfOk};
-ghost use Rattle.tpl_ast.specs.Parsing.{Parses};
+ghost use Rattle.tpl_lang.specs.Parsing.{Parses};
 ghost use Rattle.part_state.specs.Beginning.{IsBegun};
 ghost use Rattle.part_state.specs.State.{here};
 ghost use Rattle.gen_turn.specs.Generating.{IsFound, IsGenerated};
@@ -12,7 +12,8 @@ use part_state::Part;
 use rv_system::sound_certificates_are_faithful;
 use std::alloc::Global;
 use tpl_admit::Cert;
-use tpl_ast::{Template, template_law};
+use tpl_ast::Template;
+use tpl_lang::template_law;
 
 /// What was made of a template.
 #[derive(Drop)]

@@ -5,10 +5,10 @@ use Rattle.std.specs.List.{AllByRecursion}
 use Rattle.rv_mem.specs.Ram.{AreWhole, IsWhole, in_ram}
 use Rattle.tpl_ast.specs.declared.template.Region.{Region}
 use Rattle.tpl_ast.specs.Templates.{IsFramed}
-use Rattle.tpl_ast.specs.States.{is_in}
-use Rattle.given_start.specs.Regions.{AreAligned}
+use Rattle.tpl_ast.specs.States.{is_in_ram}
+use Rattle.given_start.specs.Internal.Regions.{AreAligned}
 
-pub same_ram : (ram : List Region) (n : ℕ) → in_ram (map (λ r. (r.low, r.high)) ram) n ≡ is_in ram (n * 4)
+pub same_ram : (ram : List Region) (n : ℕ) → in_ram (map (λ r. (r.low, r.high)) ram) n ≡ is_in_ram ram (n * 4)
 same_ram [] n = refl
 same_ram (r ∷ rs) n = ap (λ b. (leb r.low (n * 4) && ltb (n * 4) r.high) || b) (same_ram rs n)
 

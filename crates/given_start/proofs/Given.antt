@@ -3,10 +3,10 @@ use Rattle.std.proofs.Common.{◌≡◌, ◌≢◌, ℕ, ◌+◌, ◌<◌, ◌�
 use Rattle.std.specs.Prelude.{nat_eq}
 use Rattle.std.specs.List.{AllByRecursion}
 use Rattle.std.proofs.lemmas.Bool.{cases_Bool, eqb-true, ne_eqb}
-use Rattle.tpl_admit.specs.Starts.{found}
+use Rattle.tpl_admit.specs.Starts.{lookup}
 use Rattle.tpl_ast.specs.States.{ArePlaces, is_legal_place}
 
-pub found_below : (from : ℕ) (es : List (ℕ × ℕ)) (key : ℕ) → ArePlaces from es → key < from → found es key ≡ None
+pub found_below : (from : ℕ) (es : List (ℕ × ℕ)) (key : ℕ) → ArePlaces from es → key < from → lookup es key ≡ None
 found_below from [] key is below = refl
 found_below from (e ∷ es) key is below =
     let other : e.0 ≢ key = λ same. absurd (omega (arith, same, is.0, below)) in
@@ -42,14 +42,14 @@ left_next es e rest before after split left given =
     }
 
 pub given_next : (es : List (ℕ × ℕ)) (e : ℕ × ℕ) (rest : List (ℕ × ℕ)) (before after : ℕ → Option ℕ) → es ≡ e ∷ rest → AreLeft before es
-    → ((key : ℕ) → after key ≡ also_given e before key) → (key : ℕ) → or_else (found rest key) (after key) ≡ or_else (found es key) (before key)
+    → ((key : ℕ) → after key ≡ also_given e before key) → (key : ℕ) → or_else (lookup rest key) (after key) ≡ or_else (lookup es key) (before key)
 given_next es e rest before after split left given key =
     let are : ArePlaces left.from (e ∷ rest) = subst (ArePlaces left.from) split left.places in
     rw split (elim (cases_Bool (nat_eq e.0 key)) [
       | inl here ↦
           let same : e.0 ≡ key = eqb-true e.0 key here in
-          let none : found rest key ≡ None = found_below (e.0 + 1) rest key are.3 (omega (arith, same)) in
+          let none : lookup rest key ≡ None = found_below (e.0 + 1) rest key are.3 (omega (arith, same)) in
           let is : after key ≡ Some e.1 = rw here at (given key) in
           rw (here, none) is
-      | inr other ↦ (let is : after key ≡ before key = rw other at (given key) in rw other (ap (or_else (found rest key)) is))
+      | inr other ↦ (let is : after key ≡ before key = rw other at (given key) in rw other (ap (or_else (lookup rest key)) is))
     ])

@@ -1,2 +1,1 @@
-pub mod Knowledge
-pub mod Regions
+pub mod Internal

@@ -2,9 +2,9 @@
 ghost use Rattle.std.specs.Prelude.{◌≡◌, ℕ, true, nat_eq, if◌then◌else◌, List};
 ghost use Rattle.std.specs.List.{AllByRecursion};
 ghost use Rattle.tpl_ast.specs.declared.template.Region.{Region as ARegion};
-ghost use Rattle.tpl_admit.specs.Starts.{found, fixed_in};
+ghost use Rattle.tpl_admit.specs.Starts.{fixed_in, lookup};
 ghost use Rattle.tpl_ast.specs.States.{is_key, ArePlaces, is_legal_place, IsState};
-ghost use Rattle.given_start.specs.Knowledge.{known_of, fixed_now};
+ghost use Rattle.given_start.specs.Internal.Knowledge.{known_of, fixed_now};
 
 use rv_csr::{Csrs, FIRST_KEY};
 use rv_hart::Hart;
@@ -30,7 +30,7 @@ fn give_all(hart: &mut Hart, places: &[(u32, u32)])
     requires places { ArePlaces 0 places.now }
     requires legal { AllByRecursion (λ e. is_legal_place e ≡ true) places.now }
     requires none { (key : ℕ) → known_of hart.old key ≡ None }
-    ensures known { (key : ℕ) → known_of hart.new key ≡ found places.now key }
+    ensures known { (key : ℕ) → known_of hart.new key ≡ lookup places.now key }
     ensures fixed { (ram : List ARegion) → fixed_now ram hart.new ≡ fixed_now ram hart.old }
 {
     for place in places {
@@ -51,7 +51,7 @@ fn bare_hart(state: &HartState, number: u32) -> Hart
 /// A hart with this number of which just a state is known.
 pub fn hart_in(state: &HartState, number: u32) -> Hart
     requires { IsState state.now }
-    ensures known { (key : ℕ) → known_of result key ≡ found state.now.places key }
+    ensures known { (key : ℕ) → known_of result key ≡ lookup state.now.places key }
     ensures fixed { (ram : List ARegion) → fixed_now ram result ≡ fixed_in ram number state.now }
 {
     let mut hart = bare_hart(state, number);

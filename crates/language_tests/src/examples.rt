@@ -3,7 +3,7 @@ use crate::told::{assert_told, compare_texts};
 use rv_csr::{REGISTERS, row_of};
 use rv_isa::{OPS, name_of};
 use std::test::Fail;
-use tpl_ast::{KEYS, Key, csr_of, key_of, op_of};
+use tpl_lang::{KEYS, Key, csr_of, key_of, op_of};
 
 const FIRST: &str = "ram 0x80000000 0x80001000
 pool 0x80000000

@@ -5,7 +5,7 @@ use std::alloc::Global;
 use std::process::Abort;
 use std::test::Fail;
 use test_texts::EVERY;
-use tpl_ast::{Fault, Kind};
+use tpl_lang::{Fault, Kind};
 use tpl_parse::ParseError;
 
 /// Lines with two kinds of faults, of which the least is told.

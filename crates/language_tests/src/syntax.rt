@@ -4,9 +4,8 @@ use rv_isa::Op;
 use std::alloc::{AllocError, Global};
 use std::process::Abort;
 use std::test::Fail;
-use tpl_ast::{
-    Item, Items, Key, csr_of, key_of, language_laws, length, op_number, op_of, size_law,
-};
+use tpl_ast::{Item, Items, length, size_law};
+use tpl_lang::{Key, csr_of, key_of, language_laws, op_number, op_of};
 
 #[test]
 fn a_list_keeps_its_items(rt: HostRuntime) -> Result<(), Fail> {

@@ -3,7 +3,7 @@
 ghost use Rattle.std.specs.Prelude.{◌≡◌, ℕ, ◌&&◌, ◌||◌, nat_eq, not, IfOk, OnOk};
 ghost use Rattle.dom_set.specs.Elements.{is_within};
 ghost use Rattle.leaf_stand.specs.Relations.{IsTargetSet};
-ghost use Rattle.leaf_stand.specs.Sets.{IsSetOf};
+ghost use Rattle.leaf_stand.specs.Internal.Sets.{IsSetOf};
 
 use dom_set::{OutOfMemory, Set};
 use leaf_stand::Spans;

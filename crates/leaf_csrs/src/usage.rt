@@ -9,7 +9,7 @@ ghost use Rattle.leaf_link.specs.Cases.{is_some_word};
 ghost use Rattle.leaf_link.specs.Controls.{is_read_old};
 ghost use Rattle.leaf_link.specs.Turns.{is_narrow, is_small};
 ghost use Rattle.leaf_stand.specs.Relations.{IsTargetSet};
-ghost use Rattle.leaf_stand.specs.Sets.{IsSetOf};
+ghost use Rattle.leaf_stand.specs.Internal.Sets.{IsSetOf};
 ghost use Rattle.leaf_stand.specs.Stands.{held, turn_of};
 ghost use Rattle.leaf_csrs.specs.Usages.{field_test, old_test, rd_test, source_test, usage_test, usages, usages_of};
 

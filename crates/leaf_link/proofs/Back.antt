@@ -37,7 +37,7 @@ use Rattle.rv_isa.specs.Numbers.{op_number}
 use Rattle.leaf_link.specs.Candidates.{accesses_in, all_met, moment_of, IsCandidate}
 use Rattle.leaf_link.specs.Cases.{Shape, Way, Fits, all_tests, atoms_hold, base_domain, cases_of, code_at, is_posed, shape_of, sources_hold, uses, uses_address, uses_rs1, uses_rs2}
 use Rattle.leaf_link.specs.Ways.{AreWords, AsksUsed, DoesRest, HasAddress, IsFetched, IsOf, IsWays, shape_with}
-use Rattle.rv_hart.specs.Rests.{after_access, asks_rs1, csr_access, is_granted, rest}
+use Rattle.rv_hart.specs.Internal.Rests.{after_access, asks_rs1, csr_access, is_granted, rest}
 use Rattle.tpl_ast.specs.Leaves.{IsPlain}
 use Rattle.leaf_link.specs.Laws.{OneToOne}
 use Rattle.rv_script.proofs.Plays.{entry, first_asked, given_is}

@@ -18,7 +18,7 @@ use Rattle.rv_script.proofs.Plays.{entry}
 use Rattle.rv_hart.specs.declared.record.Change.{Change}
 use Rattle.rv_hart.specs.Machine.{arriving, at_address, data_view, load_at, reached, size_of, store_at}
 use Rattle.rv_hart.specs.Privileged.{trap}
-use Rattle.rv_hart.specs.Rests.{rest}
+use Rattle.rv_hart.specs.Internal.Rests.{rest}
 use Rattle.sv_walk.specs.declared.entry.Kind.{Kind}
 use Rattle.sv_walk.specs.declared.entry.Kind.TheVariants.{Load as ForLoad, Store as ForStore}
 use Rattle.sv_walk.specs.declared.entry.View.{View}

@@ -33,14 +33,14 @@ use Rattle.rv_isa.specs.Numbers.{op_numbered, op_number}
 use Rattle.fd_prob.specs.Slots.{slot_number}
 use Rattle.fd_prob.proofs.Fitted.{all_within, each_within}
 use Rattle.fd_prob.proofs.Places.{place_below}
-use Rattle.fd_solve.proofs.Extensions.{length_cut, whole}
+use Rattle.case_search.proofs.Extensions.{length_cut, whole}
 use Rattle.leaf_link.specs.Turns.{Turn}
 use Rattle.leaf_link.specs.Values.{Values, instr_in}
 use Rattle.leaf_link.specs.Candidates.{all_met, is_met, moment_of}
 use Rattle.leaf_link.specs.Cases.{Fits, all_tests, code_at}
 use Rattle.leaf_link.specs.KindLaws.{IsPosed}
 use Rattle.leaf_link.specs.Answers.{values_in}
-use Rattle.leaf_link.specs.Problems.{bias_cut}
+use Rattle.leaf_link.specs.Internal.Problems.{bias_cut}
 use Rattle.leaf_link.specs.Reaching.{AreRows, HasPages}
 use Rattle.leaf_link.specs.AllWays.{leaf_cases, ways_of}
 use Rattle.leaf_link.specs.Firsts.{AreFirsts, IsFirst, IsFirstOf, first_domain, in_first_word, is_allowed}

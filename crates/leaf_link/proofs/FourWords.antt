@@ -21,7 +21,7 @@ use Rattle.leaf_link.specs.Values.{Values, given_by, instr_in}
 use Rattle.leaf_link.specs.Candidates.{IsCandidate}
 use Rattle.leaf_link.specs.Cases.{fetch_entry}
 use Rattle.leaf_link.specs.Ways.{IsFetched}
-use Rattle.leaf_link.specs.Problems.{key_of}
+use Rattle.leaf_link.specs.Internal.Problems.{key_of}
 use Rattle.leaf_link.specs.Placing.{NewWordsAreFour}
 use Rattle.leaf_link.proofs.Alone.{IsForLater, IsForOld, is_data, rest_alone}
 use Rattle.leaf_link.proofs.Front.{a_entry, asks_a, asks_b, b_entry, front_log, has_either, has_only, only, pa_aligned, rest_of, told_a, told_b, walk_known, word_place}

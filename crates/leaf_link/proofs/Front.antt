@@ -28,7 +28,7 @@ use Rattle.leaf_link.specs.Values.{Values, instr_in, given_by}
 use Rattle.leaf_link.specs.Candidates.{accesses_in}
 use Rattle.leaf_link.specs.Cases.{fetch_entry}
 use Rattle.leaf_link.specs.Ways.{IsFetched}
-use Rattle.rv_hart.specs.Rests.{ask_if, asks_rs1, rest, in_parts}
+use Rattle.rv_hart.specs.Internal.Rests.{ask_if, asks_rs1, rest, in_parts}
 use Rattle.rv_script.proofs.Plays.{entry, after, after_done, told, play_same, asks, goes_on, numbers_within}
 use Rattle.sv_walk.proofs.Offsets.{offset_kept}
 use Rattle.sv_walk.proofs.Orders.{translated_between}

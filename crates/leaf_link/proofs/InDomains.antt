@@ -32,7 +32,7 @@ use Rattle.leaf_link.specs.Values.{Values, has_address, instr_in, old_csr}
 use Rattle.leaf_link.specs.Candidates.{IsCandidate}
 use Rattle.leaf_link.specs.Cases.{Fits, FitsCase, Shape, Way, all_judged, all_tests, code_at, in_word, is_judged, is_some_word, or_no, shape_of, tests, unless, uses, base_domain, case_at}
 use Rattle.leaf_link.specs.KindLaws.{IsPosed}
-use Rattle.leaf_link.specs.Problems.{key_of}
+use Rattle.leaf_link.specs.Internal.Problems.{key_of}
 use Rattle.leaf_link.specs.Reaching.{AreRows, HasPages, Walks, data_ways, in_row, is_aligned, load_question, store_apart, store_question, way_of, way_to}
 use Rattle.leaf_link.specs.Controls.{access_in, csr_ways, return_ways, grants, is_denied, operand_in}
 use Rattle.leaf_link.specs.AllWays.{leaf_cases, ways_of}

@@ -29,11 +29,10 @@ use Rattle.rv_script.specs.Logs.{is_register, is_word, entry_place, entry_label,
 use Rattle.leaf_link.specs.Turns.{Turn}
 use Rattle.leaf_link.specs.Values.{Values, instr_in, has_address, address_if, given_by}
 use Rattle.leaf_link.specs.Candidates.{accesses_in, moment_of}
-use Rattle.tpl_ast.specs.Grammar.{are_comparable}
-use Rattle.tpl_ast.specs.Leaves.{same_var, IsPlain}
+use Rattle.tpl_ast.specs.Leaves.{are_comparable, same_var, IsPlain}
 use Rattle.leaf_link.specs.Cases.{Shape, Way, Fits, FitsCase, all_relate, case_at, case_if, cases_of, fetch_entry, is_held, is_posed, or_no, relates, shape_of, unless, uses_rs1, value_at}
 use Rattle.leaf_link.specs.Ways.{HasAddress, IsFetched, IsOf, step_accesses}
-use Rattle.rv_hart.specs.Rests.{asks_rs1}
+use Rattle.rv_hart.specs.Internal.Rests.{asks_rs1}
 use Rattle.rv_script.proofs.Plays.{told, no_label, no_register, numbers_within}
 use Rattle.rv_hart.proofs.Forms.{rest_between}
 use Rattle.leaf_link.proofs.Links.{enlarged_has}

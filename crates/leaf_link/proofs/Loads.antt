@@ -20,7 +20,7 @@ use Rattle.fd_prob.specs.declared.slot.Slot.TheVariants as slots
 use Rattle.leaf_link.specs.Turns.{Turn}
 use Rattle.leaf_link.specs.Values.{Values, address_if, has_address, has_csr_operand, instr_in}
 use Rattle.leaf_link.specs.Ways.{HasAddress, IsFetched, IsOf}
-use Rattle.rv_hart.specs.Rests.{rest}
+use Rattle.rv_hart.specs.Internal.Rests.{rest}
 use Rattle.leaf_link.specs.Reaching.{LoadsAreExact, load_question, load_ways}
 use Rattle.leaf_link.proofs.Accessing.{IsData, data_is_ways}
 use Rattle.leaf_link.proofs.Reaching.{data_script, early_write, walk_numbers}

@@ -20,7 +20,7 @@ use Rattle.leaf_link.specs.Values.{Values, address_if, given_by, instr_in, old_c
 use Rattle.leaf_link.specs.Candidates.{IsCandidate}
 use Rattle.leaf_link.specs.Cases.{fetch_entry}
 use Rattle.leaf_link.specs.Ways.{AreWords, IsFetched}
-use Rattle.leaf_link.specs.Problems.{key_of}
+use Rattle.leaf_link.specs.Internal.Problems.{key_of}
 use Rattle.leaf_link.specs.Placing.{PlacesHaveValues, data_value, place_value}
 use Rattle.leaf_link.proofs.Links.{instr_assigned}
 use Rattle.leaf_link.proofs.Front.{a_entry, asks_a, asks_b, b_entry, front_log, has_either, has_only, has_second, later_has, only, only_has, pa_aligned, rest_of, told_a, told_b, walk_known, word_place}

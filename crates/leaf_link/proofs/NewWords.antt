@@ -22,7 +22,7 @@ use Rattle.sv_walk.specs.declared.entry.View.{View}
 use Rattle.sv_walk.specs.Translation.{arrived, is_translated, translated}
 use Rattle.rv_hart.specs.Machine.{fence_row, jump_row, jumped, upper_pc_row, upper_row}
 use Rattle.rv_hart.specs.Privileged.{address_fence_row, csr_accessed, csr_exchanged, csr_granted, csr_immediate_row, mret_row, old_value, sret_row, trap, write_csr, writes_csr}
-use Rattle.rv_hart.specs.Rests.{after_access, csr_access, rest}
+use Rattle.rv_hart.specs.Internal.Rests.{after_access, csr_access, rest}
 use Rattle.leaf_link.specs.Values.{has_address}
 
 -- ---- what a rest asks for

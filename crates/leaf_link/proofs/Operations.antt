@@ -26,7 +26,7 @@ use Rattle.fd_prob.specs.declared.slot.Slot.TheVariants as slots
 use Rattle.leaf_link.specs.Turns.{Turn}
 use Rattle.leaf_link.specs.Values.{Values, instr_in, has_csr_operand}
 use Rattle.leaf_link.specs.Ways.{IsFetched, IsOf, IsWays}
-use Rattle.rv_hart.specs.Rests.{asks_rs1, rest}
+use Rattle.rv_hart.specs.Internal.Rests.{asks_rs1, rest}
 use Rattle.leaf_link.specs.Kinds.{branch_goes, far_is_target, forks, is_plain_row, near_is_target, retires, traps}
 use Rattle.leaf_link.specs.KindLaws.{WaysAreExact, PlainIsExact, BranchesAreExact, JumpIsExact, JumpRegisterIsExact, CallIsExact, BreakIsExact, IllegalIsExact, AddressFenceIsExact, fence_ways}
 use Rattle.leaf_link.proofs.Front.{rest_of}

@@ -33,7 +33,7 @@ use Rattle.rv_script.specs.Logs.{answer_told, log_of, by_answers}
 use Rattle.leaf_link.specs.Candidates.{accesses_in}
 use Rattle.leaf_link.specs.Cases.{fetch_entry}
 use Rattle.leaf_link.specs.Ways.{HasAddress, IsFetched, IsOf, step_accesses}
-use Rattle.rv_hart.specs.Rests.{rest}
+use Rattle.rv_hart.specs.Internal.Rests.{rest}
 use Rattle.leaf_link.specs.Reaching.{StoresAreExact, any_byte, data_walk, store_apart, store_question, store_ways}
 use Rattle.leaf_link.proofs.Accessing.{IsData, data_is_ways}
 use Rattle.leaf_link.proofs.Reaching.{data_script, walk_numbers}

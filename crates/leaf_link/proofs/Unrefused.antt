@@ -24,7 +24,7 @@ use Rattle.rv_hart.specs.Changes.{outcome_of}
 use Rattle.rv_hart.specs.Fixed.{Fixed}
 use Rattle.rv_hart.specs.Machine.{arriving, at_address, data_view, is_taken, jumped, load_at, load_from, reached, size_of, store_at, store_to}
 use Rattle.rv_hart.specs.Privileged.{trap, went}
-use Rattle.rv_hart.specs.Rests.{asks_rs1, rest}
+use Rattle.rv_hart.specs.Internal.Rests.{asks_rs1, rest}
 use Rattle.tpl_admit.specs.Variables.{is_jalr, outcome_in}
 use Rattle.leaf_link.specs.Values.{has_address}
 

@@ -23,7 +23,7 @@ use Rattle.leaf_link.specs.Laws.{OneToOne}
 use Rattle.leaf_link.specs.Reaching.{AreRows, HasPages, load_ways, store_ways}
 use Rattle.leaf_link.specs.Controls.{csr_ways, mret_ways, sret_ways}
 use Rattle.leaf_link.specs.Answers.{IsProblemOf}
-use Rattle.leaf_link.specs.Problems.{IsAnswerOverCandidates, cases}
+use Rattle.leaf_link.specs.Internal.Problems.{IsAnswerOverCandidates, cases}
 
 -- how a step of an operation may go on after its sources; the rows are those of the addresses of loads and of stores
 abbrev pub ways_of : Turn → List Entry → ℕ → List Atom → List EntryRow → List EntryRow → Op → List Way

@@ -39,7 +39,7 @@ use Rattle.leaf_link.specs.Candidates.{IsCandidate}
 use Rattle.leaf_link.specs.Cases.{Case, all_tests, code_at, in_format, in_read, or_no}
 use Rattle.leaf_link.specs.KindLaws.{IsPosed}
 use Rattle.leaf_link.specs.Answers.{IsAnswerOver, IsProblemOf}
-use Rattle.leaf_link.specs.Problems.{key_of}
+use Rattle.leaf_link.specs.Internal.Problems.{key_of}
 use Rattle.leaf_link.specs.Reaching.{AreRows, HasPages}
 use Rattle.leaf_link.specs.AllWays.{leaf_cases}
 

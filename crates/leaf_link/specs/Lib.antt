@@ -7,7 +7,6 @@ pub mod Ways
 pub mod Kinds
 pub mod KindLaws
 pub mod Answers
-pub mod Problems
 pub mod Reaching
 pub mod Controls
 pub mod AllWays
@@ -32,3 +31,4 @@ pub mod FetchWitness
 pub mod Placing
 pub mod FetchPlacing
 pub mod RowsExist
+pub mod Internal

@@ -27,7 +27,7 @@ use Rattle.leaf_link.specs.Turns.{Turn, may_start, is_free_entry}
 use Rattle.leaf_link.specs.Values.{Values, instr_in, has_address, address_if, given_by, old_csr}
 use Rattle.leaf_link.specs.Candidates.{accesses_in}
 use Rattle.leaf_link.specs.Cases.{Shape, Way, uses_address, uses_rs1, uses_rs2, all_tests, fetch_entry, base_domain}
-use Rattle.rv_hart.specs.Rests.{asks_rs1, rest}
+use Rattle.rv_hart.specs.Internal.Rests.{asks_rs1, rest}
 
 -- the translation of the fetch is settled: it asks for known entries alone, and leads to a physical address; the pc is a multiple of 4
 pub record IsFetched (t : Turn) (walk : List Entry) (pa : ℕ) : Type 0 where

@@ -40,9 +40,9 @@ use Rattle.leaf_stand.specs.declared.shape.End.TheVariants.{Retires, Traps}
 use Rattle.leaf_stand.specs.declared.stand.Stand.{Stand}
 use Rattle.leaf_stand.specs.Posed.{FitsSame}
 use Rattle.leaf_stand.specs.Relations.{IsTargetSet, are_between, atom_rels, source_rels}
-use Rattle.leaf_stand.specs.Sets.{AreDomains, IsSetOf}
+use Rattle.leaf_stand.specs.Internal.Sets.{AreDomains, IsSetOf}
 use Rattle.leaf_stand.specs.Stands.{open_at, shape_at, turn_of}
-use Rattle.leaf_stand.specs.Ways.{shape_with}
+use Rattle.leaf_stand.specs.Internal.Ways.{shape_with}
 use Rattle.leaf_stand.proofs.Lists.{each_domain}
 use Rattle.leaf_stand.proofs.Single.{atoms_same, both_same, domain_in_case, fits_from, held_same, link_same, number_of, own_domain, relations_of, sources_same, within_of, word_at}
 use Rattle.dom_set.proofs.Sets.{own_elements}
@@ -51,7 +51,7 @@ use Rattle.leaf_csrs.specs.Laws.{UsagesAreGranted}
 use Rattle.leaf_csrs.specs.Usages.{usage_way, written_in}
 use Rattle.leaf_pose.specs.declared.csrs.Access.{Access}
 use Rattle.leaf_pose.specs.declared.csrs.Access.TheVariants.{Granted, Refused}
-use Rattle.leaf_pose.specs.Csrs.{IsListed, access_rels, access_test, access_way, end_of, writes_rel}
+use Rattle.leaf_pose.specs.Internal.Csrs.{IsListed, access_rels, access_test, access_way, end_of, writes_rel}
 
 -- DOMAINS
 and_assoc : (a b c : Bool) → ((a && b) && c) ≡ (a && (b && c))

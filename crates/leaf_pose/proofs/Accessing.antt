@@ -45,7 +45,7 @@ use Rattle.leaf_stand.specs.declared.stand.Stand.{Stand}
 use Rattle.leaf_stand.specs.Kinds.{kind_of}
 use Rattle.leaf_stand.specs.Posed.{FitsSame, data_ways, is_data, is_posed_at, stand_cases, stand_ways, ways_at}
 use Rattle.leaf_stand.specs.Relations.{are_between, atom_rels, source_rels}
-use Rattle.leaf_stand.specs.Sets.{AreDomains, IsSetOf}
+use Rattle.leaf_stand.specs.Internal.Sets.{AreDomains, IsSetOf}
 use Rattle.leaf_stand.specs.Stands.{outcome_at, shape_at, turn_of}
 use Rattle.leaf_stand.proofs.Fits.{none_yet}
 use Rattle.leaf_stand.proofs.Lists.{each_domain}

@@ -5,7 +5,7 @@ use Rattle.dom_set.specs.Elements.{is_in}
 use Rattle.fd_prob.specs.declared.relation.Rel.TheVariants.{Rows}
 use Rattle.rv_isa.specs.Table.{row_of}
 use Rattle.rv_isa.specs.Fields.{is_load}
-use Rattle.rv_script.specs.Folds.{Answer.Does}
+use Rattle.rv_script.specs.Folds.{Answer.Does, Entry}
 use Rattle.rv_script.specs.Logs.{answer_told, by_answers}
 use Rattle.sv_walk.specs.declared.entry.Kind.{Kind}
 use Rattle.sv_walk.specs.declared.entry.Kind.TheVariants.{Load as ForLoad, Store as ForStore}
@@ -31,7 +31,6 @@ use Rattle.std.specs.List.{list_all, list_any}
 use Rattle.std.proofs.lemmas.Bool.{and_from, and_parts}
 use Rattle.std.proofs.lemmas.List.Folds.{list_all-append}
 use Rattle.rv_isa.specs.declared.operation.Op.{Op}
-use Rattle.rv_script.specs.Folds.{Entry}
 use Rattle.rv_script.specs.Lists.{HasItem}
 use Rattle.tpl_ast.specs.Leaves.{IsPlain, same_var, var_number}
 use Rattle.tpl_ast.specs.declared.template.Atom.{Atom}
@@ -57,13 +56,13 @@ use Rattle.leaf_link.specs.Ways.{IsFetched, IsWays}
 use Rattle.leaf_link.specs.Answers.{values_in}
 use Rattle.leaf_link.specs.AllWays.{AllWaysAreBuilt, WaysAreBuilt, ways_of}
 use Rattle.leaf_link.specs.KindLaws.{IsPosed}
-use Rattle.leaf_link.specs.Problems.{FitsPosed, bias_cut, bias_stays}
+use Rattle.leaf_link.specs.Internal.Problems.{FitsPosed, bias_cut, bias_stays}
 use Rattle.leaf_link.specs.Extras.{AddressesAreWanted, ArePlain, AreAdded, BiasesInCases, MeetsInCase, PassesExtra, address_by, met_by}
 use Rattle.leaf_stand.specs.declared.shape.Shape.{Shape}
 use Rattle.leaf_stand.specs.declared.stand.Stand.{Stand}
 use Rattle.leaf_stand.specs.declared.way.Aim.TheVariants.{Anywhere}
 use Rattle.leaf_pose.specs.Extras.{AddsAddress, AddsBias, AreAddressRows, AreBiasRelations, AreRowsFor, address_rel, in_rows, lead_so, leads_so, stays_at, stays_of}
-use Rattle.leaf_stand.specs.Cuts.{AreCuts}
+use Rattle.leaf_stand.specs.Internal.Cuts.{AreCuts}
 use Rattle.leaf_pose.specs.Posed.{AreShaped, HasFitted, IsShaped}
 use Rattle.leaf_stand.specs.Kinds.{kind_of}
 use Rattle.leaf_stand.specs.Posed.{data_ways, is_data, is_posed_at, stand_ways}

@@ -1,9 +1,8 @@
 -- The rows of the addresses that lead where a bias wants the physical one.
 use Rattle.std.proofs.Common.{◌≡◌, ℕ, ◌+◌, ◌%◌, ◌<◌, ◌≤◌, ◌^◌, Bool, true, false, ◌&&◌, ◌||◌, List, [], ◌∷◌, ◌++◌, refl, sym, ap, ◌∙◌, arith, zero, suc, drop, take, get_or, length, length-drop, ◌-◌}
 use Rattle.std.specs.Prelude.{bit_and, not}
-use Rattle.std.specs.List.{filter}
+use Rattle.std.specs.List.{filter, list_any}
 use Rattle.std.proofs.Math.Seq.{drop-cons}
-use Rattle.std.specs.List.{list_any}
 use Rattle.std.proofs.lemmas.List.{drop_all, take_all}
 use Rattle.std.proofs.lemmas.List.Folds.{list_any-append}
 use Rattle.dom_set.specs.Elements.{elements_of, is_in}
@@ -24,7 +23,7 @@ use Rattle.data_goals.specs.Goals.{leads_to, way_in}
 use Rattle.leaf_link.specs.Cases.{all_tests}
 use Rattle.leaf_csrs.proofs.Counted.{in_both}
 use Rattle.leaf_stand.specs.declared.stand.Stand.{Stand}
-use Rattle.leaf_stand.specs.Sets.{IsSetOf}
+use Rattle.leaf_stand.specs.Internal.Sets.{IsSetOf}
 use Rattle.leaf_stand.specs.Stands.{turn_of}
 use Rattle.leaf_stand.proofs.Single.{word_at}
 use Rattle.leaf_pose.proofs.Joining.{or_assoc, or_none}

@@ -28,7 +28,7 @@ use Rattle.leaf_stand.specs.declared.stand.Stand.{Stand}
 use Rattle.leaf_stand.specs.Kinds.{kind_of}
 use Rattle.leaf_stand.specs.Posed.{FitsSame, is_listed, is_data, is_posed_at, stand_cases, stand_ways}
 use Rattle.leaf_stand.specs.Stands.{shape_at, turn_of}
-use Rattle.leaf_stand.specs.Ways.{shape_with}
+use Rattle.leaf_stand.specs.Internal.Ways.{shape_with}
 use Rattle.leaf_stand.proofs.Fits.{fits_either, fits_left, fits_right, none_yet}
 use Rattle.leaf_csrs.specs.declared.usage.Usage.{Usage}
 use Rattle.leaf_csrs.specs.Laws.{DeniedAreRefused, GrantedAreUsages, RefusedAreDenied, UsagesAreGranted}
@@ -37,7 +37,7 @@ use Rattle.leaf_pose.specs.declared.shaped.Shaped.{Shaped}
 use Rattle.leaf_pose.proofs.Steps.{plain_ways, nothing_added, then_adds}
 use Rattle.leaf_pose.specs.declared.csrs.Access.{Access}
 use Rattle.leaf_pose.specs.declared.csrs.Access.TheVariants.{Granted, Refused}
-use Rattle.leaf_pose.specs.Csrs.{IsListed, access_case, access_way, csr_cases, end_of, register_cases, usage_cases}
+use Rattle.leaf_pose.specs.Internal.Csrs.{IsListed, access_case, access_way, csr_cases, end_of, register_cases, usage_cases}
 use Rattle.leaf_pose.specs.Posed.{Adds, HasFitted, IsShaped}
 use Rattle.leaf_pose.proofs.Accesses.{may_source}
 

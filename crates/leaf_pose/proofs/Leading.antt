@@ -16,8 +16,8 @@ use Rattle.leaf_pose.specs.declared.shaped.Shaped.{Shaped}
 use Rattle.leaf_stand.specs.declared.stand.Stand.{Stand}
 use Rattle.leaf_pose.specs.Posed.{IsAllowedCase}
 use Rattle.leaf_stand.specs.Posed.{allows}
-use Rattle.leaf_pose.specs.Firsts.{AddsFirsts, AreFirstCases, HasFirst, IsNothing}
-use Rattle.leaf_stand.specs.FirstCases.{IsFirstCase}
+use Rattle.leaf_pose.specs.Internal.Firsts.{AddsFirsts, AreFirstCases, HasFirst, IsNothing}
+use Rattle.leaf_stand.specs.Internal.FirstCases.{IsFirstCase}
 use Rattle.leaf_link.proofs.Numbers.{same_op}
 use Rattle.leaf_pose.proofs.Steps.{allowed_case, none_fits, nothing_added, nothing_fits, one_added, then_adds}
 use Rattle.leaf_stand.proofs.Fits.{none_yet}

@@ -28,7 +28,7 @@ use Rattle.leaf_stand.specs.Posed.{FitsSame, IsPartOf, all_cases, allows, data_w
 use Rattle.leaf_stand.specs.Kinds.{kind_of}
 use Rattle.leaf_stand.specs.Relations.{way_at}
 use Rattle.leaf_stand.specs.Stands.{shape_at, turn_of}
-use Rattle.leaf_stand.specs.Ways.{AreWaysOf, IsWayOf, shape_with, way_case, way_cases}
+use Rattle.leaf_stand.specs.Internal.Ways.{AreWaysOf, IsWayOf, shape_with, way_case, way_cases}
 use Rattle.leaf_pose.proofs.Shapes.{pushed}
 use Rattle.leaf_link.proofs.Numbers.{same_op}
 use Rattle.leaf_stand.proofs.Single.{relations_of}

@@ -36,10 +36,9 @@ use Rattle.leaf_link.specs.Firsts.{IsDomain, IsFirst, IsFirstOf, first_domain, h
 use Rattle.leaf_stand.specs.declared.shape.Shape.{Shape}
 use Rattle.leaf_pose.specs.declared.shaped.Shaped.{Shaped}
 use Rattle.leaf_stand.specs.declared.stand.Stand.{Stand}
-use Rattle.leaf_pose.specs.Firsts.{AddsFirsts, AreFirstCases}
-use Rattle.leaf_stand.specs.FirstCases.{IsFirstCase}
-use Rattle.leaf_stand.specs.FirstCases.{first_at, first_entries, first_entry}
-use Rattle.leaf_stand.specs.Sets.{IsSetOf}
+use Rattle.leaf_pose.specs.Internal.Firsts.{AddsFirsts, AreFirstCases}
+use Rattle.leaf_stand.specs.Internal.FirstCases.{IsFirstCase, first_at, first_entries, first_entry}
+use Rattle.leaf_stand.specs.Internal.Sets.{IsSetOf}
 use Rattle.leaf_stand.specs.Kinds.{kind_of}
 use Rattle.leaf_pose.specs.Posed.{Adds, AreShaped, IsAllowedCase}
 use Rattle.leaf_stand.specs.Posed.{FitsSame, all_cases, allows, are_posable, has_accesses, is_data, is_posable, is_read_as, reads_as}

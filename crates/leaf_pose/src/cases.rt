@@ -9,7 +9,7 @@ ghost use Rattle.leaf_pose.specs.Posed.{Adds};
 ghost use Rattle.leaf_stand.specs.Posed.{FitsSame, allows, is_listed};
 ghost use Rattle.leaf_stand.specs.Relations.{are_between, may_aim, may_steer, way_at};
 ghost use Rattle.leaf_stand.specs.Stands.{shape_at, turn_of};
-ghost use Rattle.leaf_stand.specs.Ways.{AreWaysOf, IsWayOf, way_case, way_cases};
+ghost use Rattle.leaf_stand.specs.Internal.Ways.{AreWaysOf, IsWayOf, way_case, way_cases};
 
 use crate::relations::relations;
 use crate::shaped::Shaped;

@@ -12,10 +12,10 @@ ghost use Rattle.rv_script.specs.Lists.{HasItem};
 ghost use Rattle.leaf_csrs.specs.Usages.{usages_of};
 ghost use Rattle.leaf_stand.specs.Posed.{FitsSame, allows, stand_cases, stand_ways};
 ghost use Rattle.leaf_stand.specs.Relations.{IsTargetSet, are_between};
-ghost use Rattle.leaf_stand.specs.Sets.{AreDomains, IsSetOf};
+ghost use Rattle.leaf_stand.specs.Internal.Sets.{AreDomains, IsSetOf};
 ghost use Rattle.leaf_stand.specs.Stands.{open_at, shape_at, turn_of};
 ghost use Rattle.fd_prob.specs.declared.slot.TheConstants.{SLOTS};
-ghost use Rattle.leaf_pose.specs.Csrs.{IsListed, access_case, access_rels, access_test, access_way, end_of, register_cases, usage_cases, writes_rel};
+ghost use Rattle.leaf_pose.specs.Internal.Csrs.{IsListed, access_case, access_rels, access_test, access_way, end_of, register_cases, usage_cases, writes_rel};
 ghost use Rattle.leaf_pose.specs.Posed.{Adds};
 
 use crate::relations::push_sources;

@@ -2,7 +2,7 @@
 
 ghost use Rattle.std.specs.Prelude.{◌∷◌, [], OnOk};
 ghost use Rattle.rv_isa.specs.declared.operation.TheConstants.{OPS};
-ghost use Rattle.leaf_pose.specs.Firsts.{AddsFirsts};
+ghost use Rattle.leaf_pose.specs.Internal.Firsts.{AddsFirsts};
 
 use crate::shaped::Shaped;
 use dom_set::OutOfMemory;

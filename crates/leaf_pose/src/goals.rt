@@ -12,7 +12,7 @@ ghost use Rattle.leaf_link.specs.Cases.{all_judged, all_tests, case_at};
 ghost use Rattle.leaf_stand.specs.Kinds.{kind_of};
 ghost use Rattle.leaf_stand.specs.Posed.{FitsSame, allows, is_data, stand_cases, ways_at};
 ghost use Rattle.leaf_stand.specs.Relations.{are_between};
-ghost use Rattle.leaf_stand.specs.Sets.{AreDomains, IsSetOf};
+ghost use Rattle.leaf_stand.specs.Internal.Sets.{AreDomains, IsSetOf};
 ghost use Rattle.leaf_stand.specs.Stands.{shape_at, turn_of};
 ghost use Rattle.leaf_pose.specs.Goals.{AreGoalsOf, IsAimed, IsGoalOf, entered_at, goal_rels, goal_shape, near_domain, place_rel, place_rels};
 ghost use Rattle.leaf_pose.specs.Posed.{Adds};

@@ -29,7 +29,7 @@ use Rattle.leaf_stand.specs.Kinds.{kind_of}
 use Rattle.leaf_stand.specs.Posed.{IsPartOf, is_listed, is_posed_at, stand_cases, stand_ways}
 use Rattle.leaf_stand.specs.Relations.{way_at}
 use Rattle.leaf_stand.specs.Stands.{also_read, shape_at, turn_of}
-use Rattle.leaf_stand.specs.Ways.{AreWaysOf, going, missing, retiring, returning, shape_with, staying, trapping, way_cases, ways_by}
+use Rattle.leaf_stand.specs.Internal.Ways.{AreWaysOf, going, missing, retiring, returning, shape_with, staying, trapping, way_cases, ways_by}
 
 -- WAYS THAT ARE THOSE OF THE DEFINITION
 whole_way : (s : Stand) (op : Op) (way : Way) → HasItem (stand_ways s op) (way_at s op way) → IsPartOf s op way

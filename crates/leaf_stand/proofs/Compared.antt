@@ -5,8 +5,7 @@ use Rattle.tpl_ast.specs.declared.template.Atom.{Atom}
 use Rattle.tpl_ast.specs.declared.template.Atom.TheVariants as atoms
 use Rattle.tpl_ast.specs.declared.template.Var.{Var}
 use Rattle.tpl_ast.specs.declared.template.Var.TheVariants as vars
-use Rattle.tpl_ast.specs.Grammar.{are_comparable}
-use Rattle.tpl_ast.specs.Leaves.{IsPlain}
+use Rattle.tpl_ast.specs.Leaves.{are_comparable, IsPlain}
 use Rattle.leaf_stand.specs.Laws.{LeavesAreBetween}
 use Rattle.leaf_stand.specs.Relations.{has_slot, is_between, slot_of}
 

@@ -2,15 +2,14 @@
 use Rattle.std.proofs.Common.{◌≡◌, ℕ, ◌+◌, ◌%◌, ◌<◌, ◌^◌, Bool, true, false, ◌&&◌, eqb, ltb, List, [], ◌∷◌, Option, Some, None, refl, sym, ap, ◌∙◌, arith}
 use Rattle.std.specs.List.{filter}
 use Rattle.std.specs.List.Sorted.{IsStrictlyIncreasing}
-use Rattle.std.specs.Prelude.{All}
+use Rattle.std.specs.Prelude.{All, not, if◌then◌else◌}
 use Rattle.leaf_link.specs.Firsts.{IsDomain}
 use Rattle.std.specs.Bool.{◌==◌}
-use Rattle.std.specs.Prelude.{not, if◌then◌else◌}
 use Rattle.std.proofs.lemmas.Bool.Decides.{nat_tests}
 use Rattle.dom_set.specs.Elements.{elements_of, is_in, is_within}
 use Rattle.dom_set.proofs.Sets.{is_in-elements, own_elements}
 use Rattle.set_sums.proofs.Members.{is_in-filter}
-use Rattle.leaf_stand.specs.Sets.{IsSetOf}
+use Rattle.leaf_stand.specs.Internal.Sets.{IsSetOf}
 use Rattle.std.specs.Int.{IsPowerOfTwo}
 use Rattle.rv_isa.specs.Encoding.{sign_extended}
 use Rattle.tpl_ast.specs.declared.template.Atom.{Atom}

@@ -44,9 +44,9 @@ use Rattle.leaf_stand.specs.declared.way.Way.{Way}
 use Rattle.leaf_stand.specs.Kinds.{kind_of}
 use Rattle.leaf_stand.specs.Posed.{FitsSame, is_listed}
 use Rattle.leaf_stand.specs.Relations.{AreRelations, IsTargetSet, are_between, atom_rel, atom_rels, differ_rel, has_slot, held_rel, is_aimed, is_between, is_steered, linked_rel, may_aim, may_steer, same_rel, slot_of, source_rels, taken_rel, target_rel, target_test, way_at}
-use Rattle.leaf_stand.specs.Sets.{AreDomains, IsSetOf}
+use Rattle.leaf_stand.specs.Internal.Sets.{AreDomains, IsSetOf}
 use Rattle.leaf_stand.specs.Stands.{also_at, also_by, domain_at, held, shape_at, turn_of}
-use Rattle.leaf_stand.specs.Ways.{shape_with}
+use Rattle.leaf_stand.specs.Internal.Ways.{shape_with}
 use Rattle.leaf_stand.proofs.Lists.{each_domain}
 use Rattle.leaf_stand.proofs.Rows.{built_address, built_narrow, listed_built}
 

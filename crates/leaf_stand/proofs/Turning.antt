@@ -51,7 +51,7 @@ use Rattle.leaf_link.specs.Kinds.{always, branch_goes, far_is_target, forks, is_
 use Rattle.leaf_link.specs.Controls.{access_in, csr_ways, grants, is_denied, is_legal_write, is_old, is_old_value, is_read_old, operand_in, return_ways, writes_in}
 use Rattle.leaf_link.specs.Answers.{values_in}
 use Rattle.leaf_link.specs.AllWays.{ways_of}
-use Rattle.leaf_link.specs.Problems.{cases_over}
+use Rattle.leaf_link.specs.Internal.Problems.{cases_over}
 use Rattle.leaf_stand.specs.declared.stand.Stand.{Stand}
 use Rattle.leaf_stand.specs.Kinds.{kind_of}
 use Rattle.leaf_stand.specs.Posed.{FitsSame, all_cases, allows, data_ways, has_accesses, is_data, is_posable, is_posed_at, stand_cases, stand_ways, ways_at}

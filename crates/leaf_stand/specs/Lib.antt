@@ -1,11 +1,8 @@
-pub mod Sets
 pub mod Shared
 pub mod Stands
 pub mod Relations
 pub mod Kinds
 pub mod Posed
 pub mod DataRows
-pub mod Ways
-pub mod FirstCases
-pub mod Cuts
 pub mod Laws
+pub mod Internal

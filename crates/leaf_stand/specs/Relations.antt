@@ -20,7 +20,7 @@ use Rattle.leaf_stand.specs.declared.stand.Stand.{Stand}
 use Rattle.leaf_stand.specs.declared.way.Aim.{Aim}
 use Rattle.leaf_stand.specs.declared.way.Aim.TheVariants.{Anywhere, Aligned, Misaligned}
 use Rattle.leaf_stand.specs.declared.way.Way.{Way}
-use Rattle.leaf_stand.specs.Sets.{IsSetOf}
+use Rattle.leaf_stand.specs.Internal.Sets.{IsSetOf}
 use Rattle.leaf_stand.specs.Stands.{also_by, outcome_at, shape_at, turn_of}
 
 -- ATOMS

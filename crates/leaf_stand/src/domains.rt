@@ -8,7 +8,7 @@ ghost use Rattle.rv_isa.specs.Numbers.{op_number};
 ghost use Rattle.leaf_link.specs.Cases.{all_judged, all_tests, in_word, or_no, unless};
 ghost use Rattle.tpl_ast.specs.Leaves.{same_var};
 ghost use Rattle.leaf_link.specs.Kinds.{is_vector};
-ghost use Rattle.leaf_stand.specs.Sets.{AreDomains, IsSetOf, in_spans};
+ghost use Rattle.leaf_stand.specs.Internal.Sets.{AreDomains, IsSetOf, in_spans};
 ghost use Rattle.leaf_stand.specs.Posed.{allows, is_posed_at};
 ghost use Rattle.leaf_stand.specs.Stands.{also_at, domain_at, old_at, open_at, shape_at, turn_of};
 

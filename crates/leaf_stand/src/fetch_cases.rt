@@ -4,8 +4,8 @@ ghost use Rattle.std.specs.Prelude.{◌≡◌, length, IfOk};
 ghost use Rattle.fd_prob.specs.Fitting.{IsCase};
 ghost use Rattle.fd_prob.specs.declared.slot.TheConstants.{SLOTS};
 ghost use Rattle.leaf_link.specs.Firsts.{IsDomain};
-ghost use Rattle.leaf_stand.specs.FirstCases.{IsFetchFirstCase, fetch_first_at};
-ghost use Rattle.leaf_stand.specs.Sets.{AreEach, IsSetOf};
+ghost use Rattle.leaf_stand.specs.Internal.FirstCases.{IsFetchFirstCase, fetch_first_at};
+ghost use Rattle.leaf_stand.specs.Internal.Sets.{AreEach, IsSetOf};
 
 use crate::formats::Spans;
 use crate::stand::Stand;

@@ -7,7 +7,7 @@ ghost use Rattle.rv_hart.specs.Privileged.{is_withheld};
 ghost use Rattle.rv_isa.specs.declared.operation.TheConstants.{OPS};
 ghost use Rattle.leaf_stand.specs.Posed.{are_posable, is_posable};
 ghost use Rattle.leaf_stand.specs.Stands.{turn_of};
-ghost use Rattle.leaf_stand.specs.Ways.{ways_by};
+ghost use Rattle.leaf_stand.specs.Internal.Ways.{ways_by};
 
 use crate::kind::{Kind, is_data};
 use crate::shape::End;

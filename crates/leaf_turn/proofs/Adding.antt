@@ -7,7 +7,7 @@ use Rattle.fd_prob.specs.declared.problem.Extra.{Extra}
 use Rattle.fd_prob.specs.declared.problem.Problem.{Problem}
 use Rattle.leaf_stand.specs.declared.stand.Stand.{Stand}
 use Rattle.leaf_pose.specs.Extras.{AddsBias}
-use Rattle.leaf_turn.specs.Asking.{AreExtrasOf}
+use Rattle.leaf_turn.specs.Internal.Asking.{AreExtrasOf}
 
 pub item_at : {A : Type 0} (xs : List A) (i : ℕ) (x : A) → i < length xs → x ≡ slice_index_or xs i x → drop i xs ≡ x ∷ drop (i + 1) xs
 item_at {A} xs i x h is =

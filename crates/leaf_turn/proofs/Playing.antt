@@ -19,8 +19,8 @@ use Rattle.part_machine.specs.Whole.{Whole, fixed_in, hart_of}
 use Rattle.leaf_link.specs.Answers.{values_in}
 use Rattle.leaf_link.specs.Faults.{fault_values}
 use Rattle.leaf_link.specs.Fetches.{fetch_values}
-use Rattle.leaf_link.specs.Placing.{IsInstruction, ValuesAreInstructions, is_second, place_value}
-use Rattle.leaf_link.specs.Problems.{key_of}
+use Rattle.leaf_link.specs.Placing.{IsInstruction, ValuesAreInstructions, is_second, place_value, PlacesHaveValues}
+use Rattle.leaf_link.specs.Internal.Problems.{key_of}
 use Rattle.leaf_link.specs.Turns.{Turn}
 use Rattle.leaf_link.specs.Values.{Values, instr_in}
 use Rattle.turn_laws.specs.Entered.{FetchCandidatesAreWalked}
@@ -29,7 +29,6 @@ use Rattle.turn_laws.specs.Played.{CandidatesArePlayed, FaultsArePlayed}
 use Rattle.leaf_turn.specs.declared.taking.DataWalk.{DataWalk}
 use Rattle.leaf_turn.specs.Answers.{IsFound, is_at, new_at, second_of, value_started, walk_of, word_value}
 use Rattle.leaf_link.specs.FetchPlacing.{FaultPlacesHaveValues, FetchPlacesHaveValues, entry_value}
-use Rattle.leaf_link.specs.Placing.{PlacesHaveValues}
 use Rattle.leaf_turn.specs.Entering.{entries_at, root_at}
 use Rattle.leaf_turn.specs.Finding.{FaultsArePlayable, FetchesAreEnterable, FoundArePlayable}
 

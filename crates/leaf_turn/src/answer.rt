@@ -31,7 +31,7 @@ ghost use Rattle.leaf_stand.specs.Relations.{are_between};
 ghost use Rattle.leaf_stand.specs.Stands.{IsStandOf};
 ghost use Rattle.tpl_ast.specs.declared.template.Atom.{Atom as AnAtom};
 ghost use Rattle.leaf_pose.specs.Posed.{AreShaped};
-ghost use Rattle.leaf_turn.specs.Asking.{AreExtrasOf, AreOfCases};
+ghost use Rattle.leaf_turn.specs.Internal.Asking.{AreExtrasOf, AreOfCases};
 
 use crate::OutOfMemory;
 use crate::built::leaves_with_accesses_are_posable;

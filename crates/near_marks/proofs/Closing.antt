@@ -4,8 +4,8 @@ use Rattle.std.proofs.lemmas.Bool.{cases_lt}
 use Rattle.lane_bits.specs.Pages.{has}
 use Rattle.near_marks.specs.declared.close.Distances.{Distances}
 use Rattle.near_marks.specs.declared.steps.Steps.{Steps}
-use Rattle.near_marks.specs.Close.{AreDistances, IsDistance, MayMeet}
-use Rattle.near_marks.specs.Near.{is_at, is_marked}
+use Rattle.near_marks.specs.Internal.Close.{AreDistances, IsDistance, MayMeet}
+use Rattle.near_marks.specs.Internal.Near.{is_at, is_marked}
 use Rattle.near_marks.proofs.Grids.{nearest}
 use Rattle.near_marks.proofs.Leaving.{noted_here, noted_kept}
 use Rattle.near_marks.proofs.Marking.{parts_at}

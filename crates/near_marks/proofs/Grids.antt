@@ -3,7 +3,7 @@ use Rattle.std.proofs.Common.{◌≡◌, ℕ, ◌+◌, ◌-◌, ◌*◌, ◌/◌
 use Rattle.std.proofs.lemmas.Bool.{cases_lt}
 use Rattle.std.proofs.lemmas.Nat.{and_mask, mod-pow-add, mod_below, mod_low, pow_pos}
 use Rattle.std.proofs.Math.Nat.{add-mod, add-mod_right, mod-add-mod, mul-le-mul_left, mul-mod_left}
-use Rattle.near_marks.specs.Near.{IsNext}
+use Rattle.near_marks.specs.Internal.Near.{IsNext}
 
 -- those that differ are a step apart
 pub gap : (s x y : ℕ) → 0 < s → x % s ≡ y % s → x < y → x + s ≤ y

@@ -4,8 +4,8 @@ use Rattle.std.proofs.lemmas.Bool.{cases_lt, or_left, or_right}
 use Rattle.std.proofs.lemmas.Nat.{pow_pos}
 use Rattle.lane_bits.specs.Pages.{has}
 use Rattle.near_marks.specs.declared.steps.Steps.{Steps}
-use Rattle.near_marks.specs.Near.{IsAroundSteps, MayFillGap, is_at}
-use Rattle.near_marks.specs.Rests.{AreRestsKept, HasGapLeaving, HaveRests, HaveSumsOf, HaveSumsWith}
+use Rattle.near_marks.specs.Internal.Near.{IsAroundSteps, MayFillGap, is_at}
+use Rattle.near_marks.specs.Internal.Rests.{AreRestsKept, HasGapLeaving, HaveRests, HaveSumsOf, HaveSumsWith}
 use Rattle.near_marks.proofs.Grids.{fewer, multiple, nearest}
 use Rattle.near_marks.proofs.Marking.{parts_at}
 

@@ -4,7 +4,7 @@ use Rattle.std.proofs.lemmas.Bool.{cases_lt, leb-true, and_parts}
 use Rattle.std.proofs.lemmas.Nat.{pow_pos}
 use Rattle.lane_bits.specs.Pages.{has}
 use Rattle.near_marks.specs.declared.steps.Steps.{Steps}
-use Rattle.near_marks.specs.Near.{AreStillMarked, HasNearGap, HaveEach, HaveMoved, HaveSteps, HaveSumsFrom, IsAroundSteps, IsNext, MayFillGap, is_at, is_marked}
+use Rattle.near_marks.specs.Internal.Near.{AreStillMarked, HasNearGap, HaveEach, HaveMoved, HaveSteps, HaveSumsFrom, IsAroundSteps, IsNext, MayFillGap, is_at, is_marked}
 use Rattle.near_marks.proofs.Grids.{added, fewer, lowered, nearest}
 
 -- the number is between the ends, and a multiple from the lowest

@@ -2,8 +2,8 @@
 use Rattle.std.proofs.Common.{◌≡◌, ℕ, ◌+◌, ◌-◌, ◌*◌, ◌/◌, ◌%◌, ◌^◌, ◌<◌, ◌≤◌, ◌&&◌, ◌||◌, inl, inr, Bool, true, false, not, nat_eq, List, IsTrue, refl, sym, ap, ◌∙◌, eqb-true, eq-eqb, arith}
 use Rattle.std.proofs.lemmas.Bool.{cases_lt}
 use Rattle.lane_bits.specs.Pages.{has}
-use Rattle.near_marks.specs.Near.{AreStillMarked, HaveEach, is_marked}
-use Rattle.near_marks.specs.Turned.{AreTurned, IsFirstTurned, NoneTurned, place_of}
+use Rattle.near_marks.specs.Internal.Near.{AreStillMarked, HaveEach, is_marked}
+use Rattle.near_marks.specs.Internal.Turned.{AreTurned, IsFirstTurned, NoneTurned, place_of}
 use Rattle.near_marks.proofs.Grids.{fewer, nearest}
 use Rattle.near_marks.proofs.Marking.{one_kept, one_marked}
 

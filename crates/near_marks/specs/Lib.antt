@@ -1,4 +1,1 @@
-pub mod Near
-pub mod Turned
-pub mod Rests
-pub mod Close
+pub mod Internal

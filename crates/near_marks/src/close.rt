@@ -1,9 +1,9 @@
 // Sums of many steps that stand close together, by pages of bits: for each sum that is not marked it is asked at once whether
 // any two of the numbers give it.
 ghost use Rattle.std.specs.Prelude.{◌≡◌, ◌+◌, ◌*◌, ◌^◌, ◌<◌, ◌≤◌, IfSome, IsTrue};
-ghost use Rattle.near_marks.specs.Close.{AreAbove, AreBelow, AreClose, AreDistances, AreMet, ArePlaced, ArePlacedOf, AreTurnedIn, AreTurnedOf, AreTurnedOfAll, IsDistance, MayMeet};
-ghost use Rattle.near_marks.specs.Near.{AreStillMarked, HaveNear};
-ghost use Rattle.near_marks.specs.Rests.{AreRestsKept};
+ghost use Rattle.near_marks.specs.Internal.Close.{AreAbove, AreBelow, AreClose, AreDistances, AreMet, ArePlaced, ArePlacedOf, AreTurnedIn, AreTurnedOf, AreTurnedOfAll, IsDistance, MayMeet};
+ghost use Rattle.near_marks.specs.Internal.Near.{AreStillMarked, HaveNear};
+ghost use Rattle.near_marks.specs.Internal.Rests.{AreRestsKept};
 
 use crate::grid::{hull, next_on};
 use crate::marks::Marks;

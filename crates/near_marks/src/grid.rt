@@ -1,6 +1,6 @@
 // Where steps begin and end, and which of their numbers is the next.
 ghost use Rattle.std.specs.Prelude.{◌+◌, ◌^◌, ◌<◌, ◌≤◌};
-ghost use Rattle.near_marks.specs.Near.{IsAroundSteps, IsNext};
+ghost use Rattle.near_marks.specs.Internal.Near.{IsAroundSteps, IsNext};
 
 use crate::steps::{Steps, step};
 

@@ -1,8 +1,8 @@
 // Numbers below 4,096 that are marked.
 ghost use Rattle.std.specs.Prelude.{◌≡◌, ℕ, ◌+◌, ◌*◌, ◌/◌, ◌%◌, ◌^◌, ◌<◌, ◌≤◌, ◌&&◌, ◌||◌, false, not, nat_eq, IfNone, IfSome, IsTrue};
 ghost use Rattle.lane_bits.specs.Pages.{has};
-ghost use Rattle.near_marks.specs.Near.{AreAllMarked, AreStillMarked, HasGap, HaveAll, HaveEach, is_marked};
-ghost use Rattle.near_marks.specs.Turned.{HasRowGap, IsFirstTurned, IsRowMarked, NoneTurned, place_of};
+ghost use Rattle.near_marks.specs.Internal.Near.{AreAllMarked, AreStillMarked, HasGap, HaveAll, HaveEach, is_marked};
+ghost use Rattle.near_marks.specs.Internal.Turned.{HasRowGap, IsFirstTurned, IsRowMarked, NoneTurned, place_of};
 
 use crate::steps::{NEAR, REACH, step};
 use lane_bits::PageBits;
@@ -28,7 +28,7 @@ impl Model for Marks {
 
     ghost Value = { List ℕ };
 
-    ghost use Rattle.near_marks.specs.Turned.{AreKept};
+    ghost use Rattle.near_marks.specs.Internal.Turned.{AreKept};
 
     ghost view = { λ m. m.gaps };
 

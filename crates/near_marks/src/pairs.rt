@@ -1,6 +1,6 @@
 // Sums of two lists of steps that are near, pair by pair.
 ghost use Rattle.std.specs.Prelude.{◌+◌, ◌-◌, ◌*◌, ◌^◌, ◌<◌, ◌≤◌};
-ghost use Rattle.near_marks.specs.Near.{AreStillMarked, HasGapFrom, HasNearGap, HaveMoved, HaveNear, HaveNearOf, HaveNearWith, HaveSteps, HaveSumsFrom, MayFillGap};
+ghost use Rattle.near_marks.specs.Internal.Near.{AreStillMarked, HasGapFrom, HasNearGap, HaveMoved, HaveNear, HaveNearOf, HaveNearWith, HaveSteps, HaveSumsFrom, MayFillGap};
 
 use crate::close::mark_by_pages;
 use crate::grid::{hull, next_on};

@@ -1,7 +1,7 @@
 // What numbers leave when they are divided by 64.
 ghost use Rattle.std.specs.Prelude.{◌≡◌, ℕ, ◌+◌, ◌%◌, ◌^◌, ◌<◌, ◌≤◌, IsTrue};
 ghost use Rattle.lane_bits.specs.Pages.{has};
-ghost use Rattle.near_marks.specs.Rests.{AreRestsKept, HasGapLeaving, HasGapLeavingFrom, HaveRests, HaveRestsOf, HaveSumsOf, HaveSumsWith};
+ghost use Rattle.near_marks.specs.Internal.Rests.{AreRestsKept, HasGapLeaving, HasGapLeavingFrom, HaveRests, HaveRestsOf, HaveSumsOf, HaveSumsWith};
 
 use crate::marks::Marks;
 use crate::steps::{Steps, WORDS, step};

@@ -14,10 +14,10 @@ use Rattle.rv_hart.specs.declared.record.Outcome.TheVariants.{Retired, Trap}
 use Rattle.tpl_admit.specs.declared.dropped.Why.{Why}
 use Rattle.tpl_admit.specs.declared.dropped.Why.TheVariants.{NoneFits, Spent}
 use Rattle.tpl_admit.specs.WellFormed.{IsOutcome, IsWritten}
-use Rattle.byte_format.specs.Readers.{◌>>=◌}
+use Rattle.byte_format.specs.Internal.Readers.{◌>>=◌}
 use Rattle.byte_format.proofs.Bytes.{bind_some, where_true}
 use Rattle.note_items.specs.Spelling.{level, role_number, outcome_number, taker_number, trap_value, rd_number, rd_value, why_number}
-use Rattle.note_items.specs.Readers.{priv_of, role_of, outcome_of, rd_of, why_of}
+use Rattle.note_items.specs.Internal.Readers.{priv_of, role_of, outcome_of, rd_of, why_of}
 use Rattle.note_items.proofs.Booleans.{apart}
 use Rattle.note_items.proofs.Keys.{cause_small}
 

@@ -16,13 +16,13 @@ use Rattle.tpl_ast.specs.States.{is_key, ArePlaces, is_legal_place, IsState}
 use Rattle.tpl_admit.specs.WellFormed.{IsRecord}
 use Rattle.rv_hart.specs.Effects.{IsAccess}
 use Rattle.byte_format.specs.Numbers.{byte, half, word}
-use Rattle.byte_format.specs.Readers.{◌>>=◌}
+use Rattle.byte_format.specs.Internal.Readers.{◌>>=◌}
 use Rattle.byte_format.proofs.Bytes.{bind_some}
 use Rattle.byte_format.proofs.Laws.{Reads, reads_byte, reads_word, reads_both, reads_ahead, reads_as, reads_where, reads_fits}
 use Rattle.byte_format.proofs.Groups.{AreCountable, reads_counted, reads_few}
 use Rattle.note_items.specs.Spelling.{level, role_number, outcome_number, taker_number, trap_value, rd_number, rd_value, pair_spelling, fixed_spelling, state_spelling, access_spelling, record_place, record_marks, record_values, record_spelling, trace_spelling, why_number, drop_spelling}
-use Rattle.note_items.specs.Checks.{is_state, is_fixed, is_place, are_places, is_access}
-use Rattle.note_items.specs.Readers.{priv_of, role_of, outcome_of, rd_of, priv_at, pair_at, state_of, state_at, access_of, access_at, place_at, marks_at, values_at, record_of, record_at, trace_at, why_of, dropped_of, drop_at}
+use Rattle.note_items.specs.Internal.Checks.{is_state, is_fixed, is_place, are_places, is_access}
+use Rattle.note_items.specs.Internal.Readers.{priv_of, role_of, outcome_of, rd_of, priv_at, pair_at, state_of, state_at, access_of, access_at, place_at, marks_at, values_at, record_of, record_at, trace_at, why_of, dropped_of, drop_at}
 use Rattle.note_items.proofs.Booleans.{equal, and_true, both_true, or_true, no_then, yes_then}
 use Rattle.note_items.proofs.Keys.{key_small}
 use Rattle.note_items.proofs.Cases.{priv_from, priv_back, level_fits, role_from, role_back, role_fits, outcome_from, outcome_back, outcome_fits, rd_from, rd_back, rd_fits, why_from, why_back, why_fits}

@@ -1,3 +1,2 @@
 pub mod Spelling
-pub mod Checks
-pub mod Readers
+pub mod Internal

@@ -3,7 +3,7 @@ ghost use Rattle.std.specs.Prelude.{◌≡◌, ◌<◌, ◌&&◌, ◌==◌, IsTr
 ghost use Rattle.std.specs.List.{list_any};
 ghost use Rattle.rv_csr.specs.Table.{address_of, csr_key};
 ghost use Rattle.tpl_ast.specs.States.{is_key, is_legal_place};
-ghost use Rattle.note_items.specs.Checks.{is_lazy, is_access, is_place, are_places, is_fixed, is_state};
+ghost use Rattle.note_items.specs.Internal.Checks.{is_lazy, is_access, is_place, are_places, is_fixed, is_state};
 
 use rv_csr::{FIRST_KEY, REGISTERS, Register, legal, row_of};
 use rv_script::Access;
@@ -34,7 +34,7 @@ fn is_legal_place(place: (u32, u32)) -> bool
     place.0 < 32 || legal(place.0.saturating_sub(FIRST_KEY) as u16, place.1)
 }
 
-#[tactic(auto, unfolding(crate::specs::Checks::is_place))]
+#[tactic(auto, unfolding(crate::specs::Internal::Checks::is_place))]
 fn is_place(place: (u32, u32)) -> bool
     ensures { result ≡ is_place place }
 {
@@ -55,7 +55,7 @@ fn are_places(places: &[(u32, u32)]) -> bool
     true
 }
 
-#[tactic(auto, unfolding(crate::specs::Checks::is_fixed))]
+#[tactic(auto, unfolding(crate::specs::Internal::Checks::is_fixed))]
 fn is_fixed(s: &HartState) -> bool
     ensures { result ≡ is_fixed s.now }
 {
@@ -65,7 +65,7 @@ fn is_fixed(s: &HartState) -> bool
         && row_of(Register::Satp).allows(s.satp)
 }
 
-#[tactic(auto, unfolding(crate::specs::Checks::is_state))]
+#[tactic(auto, unfolding(crate::specs::Internal::Checks::is_state))]
 pub fn is_state(s: &HartState) -> bool
     ensures { result ≡ is_state s.now }
 {
@@ -73,7 +73,7 @@ pub fn is_state(s: &HartState) -> bool
 }
 
 /// Whether the access has one, two or four bytes, and a value that they can hold.
-#[tactic(auto, unfolding(crate::specs::Checks::is_access))]
+#[tactic(auto, unfolding(crate::specs::Internal::Checks::is_access))]
 pub fn is_access(a: Access) -> bool
     ensures { result ≡ is_access a }
 {

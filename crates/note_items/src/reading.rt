@@ -1,7 +1,7 @@
 // The states of harts, their records and dropped biases.
 ghost use Rattle.std.specs.Prelude.{◌≡◌, ◌≤◌, IfErr};
-ghost use Rattle.byte_format.specs.Readers.{Gives, word_at, times, counted_at, few_at, with_front};
-ghost use Rattle.note_items.specs.Readers.{priv_of, role_of, outcome_of, rd_of, priv_at, pair_at, state_at, access_at, place_at, marks_at, values_at, record_at, trace_at, why_of, drop_at};
+ghost use Rattle.byte_format.specs.Internal.Readers.{Gives, word_at, times, counted_at, few_at, with_front};
+ghost use Rattle.note_items.specs.Internal.Readers.{priv_of, role_of, outcome_of, rd_of, priv_at, pair_at, state_at, access_at, place_at, marks_at, values_at, record_at, trace_at, why_of, drop_at};
 ghost use Rattle.tpl_ast.specs.Limits.{file_limits};
 
 use crate::checks::{is_access, is_state};
@@ -25,7 +25,7 @@ fn priv_from(n: u32) -> Result<Priv, PieceError>
     }
 }
 
-#[tactic(auto, unfolding(crate::specs::Readers::priv_at))]
+#[tactic(auto, unfolding(crate::specs::Internal::Readers::priv_at))]
 fn priv_read(bytes: &[u8]) -> Result<(Priv, &[u8]), PieceError>
     ensures gives { Gives (λ x. (x.0, x.1.now)) result (priv_at bytes.now) }
     ensures malformed { IfErr result (λ e. e ≡ PieceError.Malformed) }
@@ -34,7 +34,7 @@ fn priv_read(bytes: &[u8]) -> Result<(Priv, &[u8]), PieceError>
     Ok((priv_from(n)?, rest))
 }
 
-#[tactic(auto, unfolding(crate::specs::Readers::pair_at))]
+#[tactic(auto, unfolding(crate::specs::Internal::Readers::pair_at))]
 fn pair_of(bytes: &[u8]) -> Result<((u32, u32), &[u8]), PieceError>
     ensures gives { Gives (λ x. (x.0, x.1.now)) result (pair_at bytes.now) }
     ensures malformed { IfErr result (λ e. e ≡ PieceError.Malformed) }
@@ -57,7 +57,7 @@ fn words_in(alloc: Global, count: u32, bytes: &[u8]) -> Result<(Items<u32>, &[u8
     Ok((items, rest))
 }
 
-#[tactic(auto, unfolding(byte_format::specs::Readers::counted_at))]
+#[tactic(auto, unfolding(byte_format::specs::Internal::Readers::counted_at))]
 pub fn words_of(alloc: Global, bytes: &[u8]) -> Result<(Items<u32>, &[u8]), PieceError>
     ensures { Gives (λ x. (x.0, x.1.now)) result (counted_at word_at bytes.now) }
 {
@@ -83,7 +83,7 @@ fn pairs_in(
 }
 
 /// A count of pairs, and that many.
-#[tactic(auto, unfolding(byte_format::specs::Readers::counted_at))]
+#[tactic(auto, unfolding(byte_format::specs::Internal::Readers::counted_at))]
 pub fn pairs_of(alloc: Global, bytes: &[u8]) -> Result<(Items<(u32, u32)>, &[u8]), PieceError>
     ensures { Gives (λ x. (x.0, x.1.now)) result (counted_at pair_at bytes.now) }
 {
@@ -91,7 +91,7 @@ pub fn pairs_of(alloc: Global, bytes: &[u8]) -> Result<(Items<(u32, u32)>, &[u8]
     pairs_in(alloc, count, rest)
 }
 
-#[tactic(auto, unfolding(crate::specs::Readers::state_at))]
+#[tactic(auto, unfolding(crate::specs::Internal::Readers::state_at))]
 fn state_of(alloc: Global, bytes: &[u8]) -> Result<(HartState, &[u8]), PieceError>
     ensures { Gives (λ x. (x.0, x.1.now)) result (state_at bytes.now) }
 {
@@ -134,7 +134,7 @@ pub fn states_in(
 }
 
 /// A count of states, and that many.
-#[tactic(auto, unfolding(byte_format::specs::Readers::counted_at))]
+#[tactic(auto, unfolding(byte_format::specs::Internal::Readers::counted_at))]
 pub fn states_of(alloc: Global, bytes: &[u8]) -> Result<(Items<HartState>, &[u8]), PieceError>
     ensures { Gives (λ x. (x.0, x.1.now)) result (counted_at state_at bytes.now) }
 {
@@ -155,7 +155,7 @@ fn role_from(n: u8) -> Result<Role, PieceError>
     }
 }
 
-#[tactic(auto, unfolding(crate::specs::Readers::access_at))]
+#[tactic(auto, unfolding(crate::specs::Internal::Readers::access_at))]
 fn access_of(bytes: &[u8]) -> Result<(Access, &[u8]), PieceError>
     ensures gives { Gives (λ x. (x.0, x.1.now)) result (access_at bytes.now) }
     ensures malformed { IfErr result (λ e. e ≡ PieceError.Malformed) }
@@ -192,7 +192,7 @@ fn accesses_in(count: u32, bytes: &[u8]) -> Result<(Accesses, &[u8]), PieceError
     Ok((items, rest))
 }
 
-#[tactic(auto, unfolding(byte_format::specs::Readers::few_at))]
+#[tactic(auto, unfolding(byte_format::specs::Internal::Readers::few_at))]
 fn accesses_of(bytes: &[u8]) -> Result<(Accesses, &[u8]), PieceError>
     ensures gives { Gives (λ x. (x.0, x.1.now)) result (few_at file_limits.accesses access_at bytes.now) }
     ensures malformed { IfErr result (λ e. e ≡ PieceError.Malformed) }
@@ -204,7 +204,7 @@ fn accesses_of(bytes: &[u8]) -> Result<(Accesses, &[u8]), PieceError>
     accesses_in(count, rest)
 }
 
-#[tactic(auto, unfolding(crate::specs::Readers::outcome_of))]
+#[tactic(auto, unfolding(crate::specs::Internal::Readers::outcome_of))]
 fn outcome_from(cause: u8, taker: u8, value: u32) -> Result<Outcome, PieceError>
     ensures gives { Gives (λ x. x) result (outcome_of cause taker value) }
     ensures malformed { IfErr result (λ e. e ≡ PieceError.Malformed) }
@@ -239,7 +239,7 @@ fn rd_from(n: u8, value: u32) -> Result<Option<(u8, u32)>, PieceError>
 }
 
 /// The pc, the instruction word and the next pc.
-#[tactic(auto, unfolding(crate::specs::Readers::place_at))]
+#[tactic(auto, unfolding(crate::specs::Internal::Readers::place_at))]
 fn place_of(bytes: &[u8]) -> Result<((u32, u32, u32), &[u8]), PieceError>
     ensures gives { Gives (λ x. ((x.0.0, (x.0.1, x.0.2)), x.1.now)) result (place_at bytes.now) }
     ensures malformed { IfErr result (λ e. e ≡ PieceError.Malformed) }
@@ -251,7 +251,7 @@ fn place_of(bytes: &[u8]) -> Result<((u32, u32, u32), &[u8]), PieceError>
 }
 
 /// The privilege, the outcome, the privilege that takes the trap, and the register.
-#[tactic(auto, unfolding(crate::specs::Readers::marks_at))]
+#[tactic(auto, unfolding(crate::specs::Internal::Readers::marks_at))]
 fn marks_of(bytes: &[u8]) -> Result<((Priv, u8, u8, u8), &[u8]), PieceError>
     ensures gives { Gives (λ x. ((x.0.0, (x.0.1, (x.0.2, x.0.3))), x.1.now)) result (marks_at bytes.now) }
     ensures malformed { IfErr result (λ e. e ≡ PieceError.Malformed) }
@@ -265,7 +265,7 @@ fn marks_of(bytes: &[u8]) -> Result<((Priv, u8, u8, u8), &[u8]), PieceError>
 }
 
 /// The register's value and the trap value.
-#[tactic(auto, unfolding(crate::specs::Readers::values_at))]
+#[tactic(auto, unfolding(crate::specs::Internal::Readers::values_at))]
 fn values_of(bytes: &[u8]) -> Result<((u32, u32), &[u8]), PieceError>
     ensures gives { Gives (λ x. (x.0, x.1.now)) result (values_at bytes.now) }
     ensures malformed { IfErr result (λ e. e ≡ PieceError.Malformed) }
@@ -275,7 +275,7 @@ fn values_of(bytes: &[u8]) -> Result<((u32, u32), &[u8]), PieceError>
     Ok(((rd, trap), rest))
 }
 
-#[tactic(auto, unfolding(crate::specs::Readers::record_at))]
+#[tactic(auto, unfolding(crate::specs::Internal::Readers::record_at))]
 fn record_of(bytes: &[u8]) -> Result<(Record, &[u8]), PieceError>
     ensures gives { Gives (λ x. (x.0, x.1.now)) result (record_at bytes.now) }
     ensures malformed { IfErr result (λ e. e ≡ PieceError.Malformed) }
@@ -314,7 +314,7 @@ fn records_in(alloc: Global, count: u32, bytes: &[u8]) -> Result<(Items<Record>,
 }
 
 /// The records of one hart.
-#[tactic(auto, unfolding(crate::specs::Readers::trace_at, byte_format::specs::Readers::counted_at))]
+#[tactic(auto, unfolding(crate::specs::Internal::Readers::trace_at, byte_format::specs::Internal::Readers::counted_at))]
 fn trace_of(alloc: Global, bytes: &[u8]) -> Result<(Items<Record>, &[u8]), PieceError>
     ensures { Gives (λ x. (x.0, x.1.now)) result (trace_at bytes.now) }
 {
@@ -351,7 +351,7 @@ fn why_from(n: u32) -> Result<Why, PieceError>
     }
 }
 
-#[tactic(auto, unfolding(crate::specs::Readers::drop_at))]
+#[tactic(auto, unfolding(crate::specs::Internal::Readers::drop_at))]
 fn drop_of(bytes: &[u8]) -> Result<(Dropped, &[u8]), PieceError>
     ensures gives { Gives (λ x. (x.0, x.1.now)) result (drop_at bytes.now) }
     ensures malformed { IfErr result (λ e. e ≡ PieceError.Malformed) }
@@ -386,7 +386,7 @@ fn drops_in(alloc: Global, count: u32, bytes: &[u8]) -> Result<(Items<Dropped>, 
 }
 
 /// A count of dropped biases, and that many.
-#[tactic(auto, unfolding(byte_format::specs::Readers::counted_at))]
+#[tactic(auto, unfolding(byte_format::specs::Internal::Readers::counted_at))]
 pub fn drops_of(alloc: Global, bytes: &[u8]) -> Result<(Items<Dropped>, &[u8]), PieceError>
     ensures { Gives (λ x. (x.0, x.1.now)) result (counted_at drop_at bytes.now) }
 {

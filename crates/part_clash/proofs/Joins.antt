@@ -3,7 +3,7 @@ use Rattle.std.proofs.Common.{◌≡◌, ◌⊎◌, inl, inr, Option, Some, None
 use Rattle.std.specs.Option.{IfSome, IfNone}
 use Rattle.foot_map.specs.declared.clash.Clash.{Clash}
 use Rattle.foot_map.specs.Races.{IsNotAfter}
-use Rattle.part_clash.specs.Parts.{IsLeastWith}
+use Rattle.part_clash.specs.Internal.Parts.{IsLeastWith}
 use Rattle.part_clash.proofs.Orders.{not_after_both}
 
 -- the same property in other words

@@ -18,7 +18,7 @@ use Rattle.foot_map.specs.Touches.{has, same_role}
 use Rattle.foot_map.specs.Races.{breaks, IsClash, IsNotAfter}
 use Rattle.foot_map.proofs.Orders.{same_role_is}
 use Rattle.part_clash.specs.Clashes.{Feet, touches_with, IsStepClash, IsLeastStepClash, HasNoStepClash}
-use Rattle.part_clash.specs.Parts.{IsLeastWith, IsOwnClash, IsAccessClash}
+use Rattle.part_clash.specs.Internal.Parts.{IsLeastWith, IsOwnClash, IsAccessClash}
 use Rattle.part_clash.proofs.Joins.{least_same, least_of, least_of_both}
 
 -- stands past a list's end

@@ -1,2 +1,2 @@
 pub mod Clashes
-pub mod Parts
+pub mod Internal

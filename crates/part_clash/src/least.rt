@@ -5,7 +5,7 @@ ghost use Rattle.foot_map.specs.Order.{rank};
 ghost use Rattle.foot_map.specs.Touches.{has};
 ghost use Rattle.foot_map.specs.Races.{IsNotAfter};
 ghost use Rattle.part_clash.specs.Clashes.{IsLeastStepClash, HasNoStepClash};
-ghost use Rattle.part_clash.specs.Parts.{IsLeastWith, IsOwnClash, IsAccessClash};
+ghost use Rattle.part_clash.specs.Internal.Parts.{IsLeastWith, IsOwnClash, IsAccessClash};
 
 use foot_map::{Clash, FootMap, breaks};
 use rv_script::{Access, Role};

@@ -23,9 +23,8 @@ use Rattle.rv_hart.specs.Fixed.{Fixed}
 use Rattle.rv_hart.specs.Machine.{script}
 use Rattle.rv_hart.specs.Whole.{WholeHart, value_at, sight_of, Step, step_by, step_of, planned, record_of, needed_places}
 use Rattle.rv_hart.proofs.Steps.{takes}
-use Rattle.tpl_admit.specs.Failures.{IsRight}
+use Rattle.tpl_admit.specs.Solo.{IsRight, is_set}
 use Rattle.tpl_admit.specs.Races.{footprint_of, footprints_of}
-use Rattle.tpl_admit.specs.Solo.{is_set}
 use Rattle.tpl_admit.specs.System.{System, replaced}
 use Rattle.tpl_admit.specs.Validity.{in_turn}
 use Rattle.rv_hart.proofs.Entries.{planned_accesses, entry_access}

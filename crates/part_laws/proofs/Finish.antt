@@ -10,7 +10,7 @@ use Rattle.foot_map.specs.Races.{IsRaceFree}
 use Rattle.tpl_ast.specs.declared.template.Region.{Region}
 use Rattle.tpl_admit.specs.declared.certificate.Cert.{Cert}
 use Rattle.tpl_admit.specs.Races.{footprints_of}
-use Rattle.tpl_admit.specs.Starts.{found, start_of, trace_of, word_of, zero_elsewhere, first_hart, first_memory, first_system, is_given}
+use Rattle.tpl_admit.specs.Starts.{start_of, trace_of, word_of, zero_elsewhere, first_hart, first_memory, first_system, is_given, lookup}
 use Rattle.tpl_ast.specs.States.{AreStartWords}
 use Rattle.tpl_admit.specs.Solo.{solo_run, knows_after}
 use Rattle.tpl_admit.specs.Validity.{in_turn, IsHartValid}
@@ -19,7 +19,7 @@ use Rattle.part_laws.specs.Laws.{IsMade, FinishLaw, BegunLaw}
 use Rattle.part_laws.proofs.Runs.{IsSolo, runs_solo}
 
 -- start words are words
-small_word : (ram : List Region) (from : ℕ) (ws : List (ℕ × ℕ)) → AreStartWords ram from ws → (a v : ℕ) → found ws a ≡ Some v → v < 2 ^ 32
+small_word : (ram : List Region) (from : ℕ) (ws : List (ℕ × ℕ)) → AreStartWords ram from ws → (a v : ℕ) → lookup ws a ≡ Some v → v < 2 ^ 32
 small_word ram from [] is a v e = absurd (cc e)
 small_word ram from (w ∷ ws) is a v e = elim (cases_Bool (eqb w.0 a)) [
   | inl here ↦ let value : Some w.1 ≡ Some v = rw here at e in subst (λ (n : ℕ). n < 2 ^ 32) (cc value) is.3
@@ -40,7 +40,7 @@ filled_small given small n = go (given n) refl
 first_begins : (p : Partial) (c : Cert) → IsMade p c → Begins p (first_system c)
 first_begins p c made = record {
   fixed = λ k l. (made.start k l).fixed;
-  places = λ k key v l e. filled_at (found (start_of c k).places) key v ((made.start k l).places key ∙ e);
+  places = λ k key v l e. filled_at (lookup (start_of c k).places) key v ((made.start k l).places key ∙ e);
   words = λ n v e. filled_at (word_of c) n v (made.words n ∙ e);
   small = filled_small (word_of c) (λ n v e. small_word c.template.ram 0 c.words made.start_words (n * 4) v e);
 }
@@ -76,11 +76,13 @@ hart_made p c test made k l =
     record {
       records = s.records;
       initialised = s.initialised;
-      final_fixed = (made.end k l).fixed ∙ sym a.reached.fixed ∙ ap (λ (h : WholeHart). h.fixed) (sym s.hart);
-      final_places = λ key.
-          (made.end k l).places key ∙ place_told (first_hart c k) a.end (p.harts k) key a.reached
-          ∙ ap (λ (q : ℕ → Bool). if q key then Some (a.end.hart.file key) else None) (sym s.knows)
-          ∙ ap (λ (h : WholeHart). if knows_after (is_given (start_of c k)) (solo_run c k).moments key then Some (h.file key) else None) (sym s.hart);
+      ends = record {
+        fixed = (made.end k l).fixed ∙ sym a.reached.fixed ∙ ap (λ (h : WholeHart). h.fixed) (sym s.hart);
+        places = λ key.
+            (made.end k l).places key ∙ place_told (first_hart c k) a.end (p.harts k) key a.reached
+            ∙ ap (λ (q : ℕ → Bool). if q key then Some (a.end.hart.file key) else None) (sym s.knows)
+            ∙ ap (λ (h : WholeHart). if knows_after (is_given (start_of c k)) (solo_run c k).steps key then Some (h.file key) else None) (sym s.hart);
+      };
     }
 
 -- the last values, word by word

@@ -21,9 +21,8 @@ use Rattle.rv_hart.specs.Fixed.{Fixed}
 use Rattle.rv_hart.specs.Machine.{script}
 use Rattle.rv_hart.specs.Whole.{WholeHart, sight_of, Step, step_by, planned, record_of, hart_after}
 use Rattle.rv_hart.proofs.Asked.{asks_registers}
-use Rattle.tpl_admit.specs.Failures.{IsRight}
+use Rattle.tpl_admit.specs.Solo.{IsRight, is_set, knows_also}
 use Rattle.tpl_admit.specs.Races.{footprints_of}
-use Rattle.tpl_admit.specs.Solo.{is_set, knows_also}
 use Rattle.tpl_admit.specs.System.{System}
 use Rattle.tpl_admit.specs.Validity.{in_turn}
 use Rattle.tpl_admit.proofs.Memory.{byte_of, HoldsWords, memory_after_words, in_turn_one}

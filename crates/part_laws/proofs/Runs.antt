@@ -11,9 +11,8 @@ use Rattle.rv_script.specs.Memory.{memory_after}
 use Rattle.rv_csr.specs.Table.{csr_key}
 use Rattle.rv_hart.specs.declared.record.Record.{Record}
 use Rattle.rv_hart.specs.Whole.{WholeHart, sight_of, Step, hart_after}
-use Rattle.tpl_admit.specs.Failures.{IsRight}
+use Rattle.tpl_admit.specs.Solo.{IsRight, Solo, solo, solo_on, is_set, knows_also, AreInitialised, knows_after, SoloStep}
 use Rattle.tpl_admit.specs.Races.{footprint_of}
-use Rattle.tpl_admit.specs.Solo.{Moment, Solo, solo, solo_on, is_set, knows_also, AreInitialised, knows_after}
 use Rattle.rv_hart.proofs.Entries.{step_word}
 use Rattle.tpl_admit.proofs.Memory.{has_cases, memory_after_append}
 use Rattle.part_laws.specs.Partial.{End, Runs}
@@ -111,10 +110,10 @@ runs_keys words extra knows h m (r ∷ rs) e runs =
 
 -- what a run says of the hart alone, as certificates put it
 pub record IsSolo (words : ℕ → Option ℕ) (given : ℕ → Bool) (rs : List Record) (e : End) (s : Solo) : Type 0 where
-  pub records : map (λ (x : Moment). x.step.did) s.moments ≡ rs
-  pub initialised : AreInitialised words given s.moments
+  pub records : map (λ (x : SoloStep). x.step.did) s.steps ≡ rs
+  pub initialised : AreInitialised words given s.steps
   pub hart : s.hart ≡ e.hart
-  pub knows : knows_after given s.moments ≡ e.knows
+  pub knows : knows_after given s.steps ≡ e.knows
 
 pub runs_solo : (words : ℕ → Option ℕ) (knows : ℕ → Bool) (h : WholeHart) (m : ℕ → ℕ) (rs : List Record) (e : End)
     → Runs words knows h m rs e → IsSolo words knows rs e (solo (length rs) h m)
@@ -124,10 +123,10 @@ runs_solo words knows h m (r ∷ rs) e runs =
     let h' : WholeHart = hart_after s h in
     let m' : ℕ → ℕ = memory_after s.did.accesses m in
     let ih = runs_solo words (knows_also s.writes knows) h' m' rs e runs.2 in
-    let whole : Solo = record { moments = record { hart = h; memory = m; step = s } ∷ (solo (length rs) h' m').moments; hart = (solo (length rs) h' m').hart } in
+    let whole : Solo = record { steps = record { hart = h; memory = m; step = s } ∷ (solo (length rs) h' m').steps; hart = (solo (length rs) h' m').hart } in
     let is : solo (suc (length rs)) h m ≡ whole = ap (λ (o : Option Step). solo_on o h m (λ h' m'. solo (length rs) h' m')) runs.1.step in
     let done : IsSolo words knows (r ∷ rs) e whole = record {
-      records = ap (λ (q : Record). q ∷ map (λ (x : Moment). x.step.did) (solo (length rs) h' m').moments) runs.1.did ∙ ap (λ (qs : List Record). r ∷ qs) ih.records;
+      records = ap (λ (q : Record). q ∷ map (λ (x : SoloStep). x.step.did) (solo (length rs) h' m').steps) runs.1.did ∙ ap (λ (qs : List Record). r ∷ qs) ih.records;
       initialised = (runs.1.set, ih.initialised);
       hart = ih.hart;
       knows = ih.knows;

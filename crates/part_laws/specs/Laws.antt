@@ -7,7 +7,7 @@ use Rattle.rv_hart.specs.declared.record.Record.{Record}
 use Rattle.rv_hart.specs.Whole.{record_of}
 use Rattle.tpl_admit.specs.declared.certificate.Cert.{Cert}
 use Rattle.tpl_admit.specs.Races.{footprints_of}
-use Rattle.tpl_admit.specs.Starts.{found, start_of, final_of, trace_of, word_of, fixed_in}
+use Rattle.tpl_admit.specs.Starts.{start_of, final_of, trace_of, word_of, fixed_in, lookup}
 use Rattle.tpl_ast.specs.States.{ArePlaces, AreStartWords}
 use Rattle.tpl_admit.specs.Validity.{IsSound}
 use Rattle.tpl_ast.specs.declared.template.HartState.{HartState}
@@ -58,7 +58,7 @@ BegunLaw = (p : Partial) → ((n v : ℕ) → p.words n ≡ Some v → v < 2 ^ 3
 -- a state of a certificate is what is held of hart k
 pub record IsStateOf (c : Cert) (k : ℕ) (s : HartState) (h : Held) : Type 0 where
   pub fixed : fixed_in c.template.ram k s ≡ h.fixed
-  pub places : (key : ℕ) → found s.places key ≡ h.places key
+  pub places : (key : ℕ) → lookup s.places key ≡ h.places key
 
 -- a certificate has the start, the records and the end of a test that was made
 pub record IsMade (p : Partial) (c : Cert) : Type 0 where

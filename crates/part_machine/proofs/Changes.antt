@@ -8,7 +8,7 @@ use Rattle.part_machine.specs.declared.entry.Entry.{Entry}
 use Rattle.part_machine.specs.declared.entry.Entry.TheVariants.{Word, Name}
 use Rattle.part_machine.specs.Whole.{Bare, bare, Whole, named, no_hart, HasHart, word_given}
 use Rattle.part_machine.specs.Undo.{undone, IsWithin}
-use Rattle.part_machine.specs.Places.{IsPlaceEntry}
+use Rattle.part_machine.specs.Internal.Places.{IsPlaceEntry}
 use Rattle.part_machine.proofs.Undoing.{same_whole}
 use Rattle.part_machine.proofs.Fronts.{front_append}
 

@@ -1,7 +1,7 @@
 -- Lists without their last item.
 use Rattle.std.proofs.Common.{◌≡◌, ℕ, ◌-◌, List, [], ◌∷◌, ◌++◌, length, length-append, take, ap, ◌∙◌, arith}
 use Rattle.std.proofs.lemmas.List.{take_at}
-use Rattle.part_machine.specs.Fronts.{front}
+use Rattle.part_machine.specs.Internal.Fronts.{front}
 
 pub front_append : {A : Type 0} → (xs : List A) (x : A) → front (xs ++ x ∷ []) ≡ xs
 front_append {A} xs x =

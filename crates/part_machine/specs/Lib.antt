@@ -1,5 +1,3 @@
-pub mod Notes
-pub mod Fronts
 pub mod Whole
 pub mod Undo
-pub mod Places
+pub mod Internal

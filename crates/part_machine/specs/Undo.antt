@@ -7,8 +7,8 @@ use Rattle.foot_map.specs.Touches.{has}
 use Rattle.part_machine.specs.declared.entry.Entry.{Entry}
 use Rattle.part_machine.specs.declared.entry.Entry.TheVariants.{Place, Word, Step, Name, Choice, Wish}
 use Rattle.part_machine.specs.declared.running.Running.{Running}
-use Rattle.part_machine.specs.Fronts.{front}
-use Rattle.part_machine.specs.Notes.{with_seen, put_back, taken_out, IsKnownAt, IsWithinWord}
+use Rattle.part_machine.specs.Internal.Fronts.{front}
+use Rattle.part_machine.specs.Internal.Notes.{with_seen, put_back, taken_out, IsKnownAt, IsWithinWord}
 use Rattle.part_machine.specs.Whole.{bare, Whole, History}
 
 -- the running machine as a whole

@@ -9,21 +9,20 @@ use Rattle.rv_mem.specs.declared.words.Seen.TheVariants.{Known as KnownWord, Unt
 use Rattle.rv_hart.specs.declared.hart.Hart.{Hart}
 use Rattle.rv_hart.specs.declared.record.Record.{Record}
 use Rattle.tpl_admit.specs.declared.dropped.Dropped.{Dropped}
-use Rattle.rv_csr.specs.State.{lazy_value_at}
-use Rattle.rv_mem.specs.Seen.{known_word, is_there}
+use Rattle.rv_mem.specs.Seen.{is_there}
 use Rattle.rv_mem.specs.Ram.{in_ram}
 use Rattle.std.specs.Option.{option_or}
 use Rattle.rv_script.specs.declared.access.Access.{Access}
-use Rattle.rv_script.specs.declared.place.Place.TheVariants.{Reg, Csr, Word}
 use Rattle.rv_script.specs.Folds.{Known, Answer, Answer.Does as DoesSo, answer_on}
 use Rattle.rv_hart.specs.declared.record.Change.{Change}
 use Rattle.rv_hart.specs.Changes.{csrs_after, privilege_after}
 use Rattle.rv_hart.specs.Effects.{seen_after}
-use Rattle.rv_hart.specs.Fixed.{Fixed}
+use Rattle.rv_hart.specs.Fixed.{Fixed, fixed_by}
 use Rattle.rv_hart.specs.Machine.{script}
 use Rattle.rv_hart.specs.Registers.{written}
+use Rattle.rv_hart.specs.View.{known_by}
 use Rattle.rv_hart.specs.Whole.{record_of}
-use Rattle.part_machine.specs.Notes.{Feet, touched, with_seen}
+use Rattle.part_machine.specs.Internal.Notes.{Feet, touched, with_seen}
 
 -- a hart by its values
 pub record Bare : Type 0 where
@@ -125,20 +124,10 @@ word_given addr v w = record w { words = w.words ++ (addr / 4, v) ∷ []; memory
 
 -- what is known of a hart and of memory, as a step asks for it
 abbrev pub known_in : Bare → (ℕ → Seen) → Known
-known_in h at (Reg n) = slice_index_or h.regs n None
-known_in h at (Csr addr) = lazy_value_at h.csrs addr
-known_in h at (Word addr) = known_word (at (addr / 4))
+known_in h at = known_by h.regs h.csrs at
 
 abbrev pub fixed_in : Bare → (ℕ → Seen) → Fixed
-fixed_in h at = record {
-  pc = h.pc;
-  privilege = h.privilege;
-  mstatus = h.csrs.mstatus;
-  medeleg = h.csrs.medeleg;
-  satp = h.csrs.satp;
-  number = h.csrs.hart;
-  ram = λ n. is_there (at n);
-}
+fixed_in h at = fixed_by h.pc h.privilege h.csrs (λ n. is_there (at n))
 
 -- what the next step of a hart does, or the place that it lacks, or that there is none
 abbrev pub next_in : Bare → (ℕ → Seen) → Answer Access Change

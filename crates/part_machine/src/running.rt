@@ -1,9 +1,8 @@
 // The machine while a test is being made.
-ghost use Rattle.std.specs.Prelude.{◌≡◌, ◌<◌, ◌/◌, ◌%◌, ℕ, true, All, [], ◌∷◌, ◌++◌, length, map, slice_set, slice_index_or, Some, None, OnOk, OnErr, IfOk, IsTrue};
+ghost use Rattle.std.specs.Prelude.{◌≡◌, ◌<◌, ◌/◌, ◌%◌, ℕ, true, All, [], ◌∷◌, ◌++◌, length, map, slice_set, slice_index_or, Some, None, OnOk, OnErr, IfOk, IsTrue, List};
 ghost use Rattle.rv_mem.specs.Part.{part_at};
 ghost use Rattle.rv_mem.specs.Seen.{is_there};
 ghost use Rattle.rv_mem.specs.declared.words.Seen.TheVariants.{Untouched};
-ghost use Rattle.std.specs.Prelude.{List};
 ghost use Rattle.rv_script.specs.declared.access.Access.{Access as AnAccess};
 ghost use Rattle.rv_script.specs.Folds.{Answer.Does};
 ghost use Rattle.rv_hart.specs.declared.record.Change.{Change as AChange};
@@ -11,13 +10,13 @@ ghost use Rattle.rv_hart.specs.Changes.{IsSoundWrite};
 ghost use Rattle.rv_hart.specs.Clauses.{IsFitRecord};
 ghost use Rattle.rv_hart.specs.Effects.{IsInWord, seen_after};
 ghost use Rattle.foot_map.specs.Touches.{has};
-ghost use Rattle.part_machine.specs.Notes.{AreNotes, IsKnownAt, with_seen};
+ghost use Rattle.part_machine.specs.Internal.Notes.{AreNotes, IsKnownAt, with_seen};
 ghost use Rattle.part_machine.specs.Whole.{next_in, next_of, stepped, IsReady, bare_after, record_in, prepared, bare, named, chosen, with_dropped, register_given, csr_given, word_given, with_register, with_csr, hart_of, no_hart, HasHart, IsCsrUntouched};
 ghost use Rattle.rv_csr.specs.Table.{is_legal_at};
 ghost use Rattle.rv_csr.specs.State.{is_untouched};
 ghost use Rattle.rv_mem.specs.declared.words.Seen.TheVariants.{Known};
-ghost use Rattle.part_machine.specs.Places.{IsPlaceEntry};
-ghost use Rattle.part_machine.specs.Fronts.{front};
+ghost use Rattle.part_machine.specs.Internal.Places.{IsPlaceEntry};
+ghost use Rattle.part_machine.specs.Internal.Fronts.{front};
 ghost use Rattle.part_machine.specs.Undo.{undone, whole_of, IsWithin};
 
 use crate::OutOfMemory;

@@ -1,6 +1,6 @@
 // The records of a hart.
 ghost use Rattle.std.specs.Prelude.{◌≡◌, [], ◌∷◌, ◌++◌, OnOk, OnErr};
-ghost use Rattle.part_machine.specs.Fronts.{front};
+ghost use Rattle.part_machine.specs.Internal.Fronts.{front};
 
 use crate::OutOfMemory;
 use rv_hart::Record;

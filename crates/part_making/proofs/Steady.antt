@@ -13,8 +13,8 @@ use Rattle.rv_script.specs.declared.place.Place.TheVariants.{Reg, Csr, Word}
 use Rattle.rv_script.specs.Folds.{Answer.Does as DoesSo}
 use Rattle.rv_hart.specs.declared.record.Change.{Change}
 use Rattle.tpl_ast.specs.declared.template.Template.{Template}
-use Rattle.tpl_admit.specs.Starts.{found}
-use Rattle.tpl_ast.specs.States.{is_in}
+use Rattle.tpl_admit.specs.Starts.{lookup}
+use Rattle.tpl_ast.specs.States.{is_in_ram}
 use Rattle.part_machine.specs.Whole.{Whole, given, next_of, stepped, IsReady, bare_after, hart_of, with_csr, with_register}
 use Rattle.part_state.specs.Beginning.{IsBegun}
 use Rattle.part_state.specs.Meaning.{place_given}
@@ -73,7 +73,7 @@ there false o = refl
 pub begins : (t : Template) (s : State) → IsBegun t (here s) → s.earlier ≡ [] → AreOf t s
 begins t s b e =
     All-push (IsOf t) s.earlier s.now (subst (All (IsOf t)) (sym e) (All-nil (IsOf t))) (record {
-      ram = λ n. sym (there (is_in t.ram (n * 4)) (found t.words (n * 4))) ∙ (ap is_there (sym (b.memory n)) ∙ there (in_ram s.now.ram n) (given s.now.memory n));
+      ram = λ n. sym (there (is_in_ram t.ram (n * 4)) (lookup t.words (n * 4))) ∙ (ap is_there (sym (b.memory n)) ∙ there (in_ram s.now.ram n) (given s.now.memory n));
       harts = b.count;
       names = ap length b.names ∙ length-replicate (length t.names) None;
     })

@@ -3,7 +3,7 @@ ghost use Rattle.std.specs.Prelude.{◌≡◌, ◌<◌, IfOk, IsTrue, Some, leng
 ghost use Rattle.rv_csr.specs.declared.table.LazyRegister.{LazyRegister as ALazyRegister};
 ghost use Rattle.rv_csr.specs.declared.table.Register.TheVariants.{Lazy};
 ghost use Rattle.rv_csr.specs.Table.{register_at};
-ghost use Rattle.tpl_ast.specs.Parsing.{Parses};
+ghost use Rattle.tpl_lang.specs.Parsing.{Parses};
 ghost use Rattle.part_state.specs.Meaning.{CanStart};
 ghost use Rattle.part_state.specs.State.{here};
 ghost use Rattle.part_making.specs.Kept.{AreOf};

@@ -14,15 +14,15 @@ use Rattle.rv_hart.specs.declared.record.Record.{Record}
 use Rattle.tpl_ast.specs.declared.template.HartState.{HartState}
 use Rattle.tpl_ast.specs.declared.template.Region.{Region}
 use Rattle.tpl_ast.specs.declared.template.Template.{Template}
-use Rattle.tpl_ast.specs.Laws.{TemplatesKeepLimits}
+use Rattle.tpl_lang.specs.Laws.{TemplatesKeepLimits}
 use Rattle.tpl_ast.specs.Templates.{KeepsLimits}
 use Rattle.tpl_ast.specs.Limits.{file_limits}
-use Rattle.tpl_ast.specs.Parsing.{Parses}
+use Rattle.tpl_lang.specs.Parsing.{Parses}
 use Rattle.tpl_admit.specs.declared.certificate.Cert.{Cert}
-use Rattle.tpl_admit.specs.Starts.{found, no_state}
-use Rattle.tpl_ast.specs.States.{is_in, ArePlaces, AreStartWords, IsState, IsWord}
+use Rattle.tpl_admit.specs.Starts.{no_state, lookup}
+use Rattle.tpl_ast.specs.States.{ArePlaces, AreStartWords, IsState, IsWord, is_in_ram}
 use Rattle.tpl_admit.specs.WellFormed.{IsWellFormed}
-use Rattle.part_machine.specs.Notes.{IsKnownAt}
+use Rattle.part_machine.specs.Internal.Notes.{IsKnownAt}
 use Rattle.part_machine.specs.Whole.{Bare, Whole, given, no_hart}
 use Rattle.part_laws.specs.Laws.{IsStateOf, IsMade}
 use Rattle.part_told.specs.Finishing.{told_state}
@@ -57,7 +57,7 @@ given_known w test n v e =
     let same : n * 4 / 4 ≡ n = omega arith in
     (o.value, ap w.memory same ∙ o.known)
 
-known_from_list : (ram : List (ℕ × ℕ)) (at : ℕ → Seen) (from : ℕ) (es : List (ℕ × ℕ)) → AreListed ram from es → ((n v : ℕ) → from ≤ n * 4 → found es (n * 4) ≡ Some v → IsKnownAt at (n * 4)) → All (λ e. IsWordAt at e.0) es
+known_from_list : (ram : List (ℕ × ℕ)) (at : ℕ → Seen) (from : ℕ) (es : List (ℕ × ℕ)) → AreListed ram from es → ((n v : ℕ) → from ≤ n * 4 → lookup es (n * 4) ≡ Some v → IsKnownAt at (n * 4)) → All (λ e. IsWordAt at e.0) es
 known_from_list ram at from [] are known = λ k d l. absurd (omega (arith, l))
 known_from_list ram at from (e ∷ es) are known =
     let aligned : e.0 % 4 ≡ 0 = are.1 in
@@ -65,7 +65,7 @@ known_from_list ram at from (e ∷ es) are known =
     let here : IsKnownAt at (e.0 / 4 * 4) = known (e.0 / 4) e.1 (omega (arith, whole, are.0)) (rw (eq-eqb e.0 (e.0 / 4 * 4) (sym whole)) refl) in
     All-cons (λ (x : ℕ × ℕ). IsWordAt at x.0) e es (aligned, subst (IsKnownAt at) whole here) (known_from_list ram at (e.0 + 4) es are.4 later)
   where
-    later : (n v : ℕ) → e.0 + 4 ≤ n * 4 → found es (n * 4) ≡ Some v → IsKnownAt at (n * 4)
+    later : (n v : ℕ) → e.0 + 4 ≤ n * 4 → lookup es (n * 4) ≡ Some v → IsKnownAt at (n * 4)
     later n v above is =
         let other : e.0 ≢ n * 4 = λ same. absurd (omega (arith, same, above)) in
         known n v (omega (arith, above, are.0)) (rw (ne_eqb e.0 (n * 4) other) is)
@@ -73,11 +73,11 @@ known_from_list ram at from (e ∷ es) are known =
 pub listed_known : (ram words pairs : List (ℕ × ℕ)) (at : ℕ → Seen) → ListsWords ram words pairs → ((n v : ℕ) → given words n ≡ Some v → IsKnownAt at (n * 4)) → All (λ e. IsWordAt at e.0) pairs
 listed_known ram words pairs at lists known = known_from_list ram at 0 pairs lists.listed (λ n v above is. known n v (sym (lists.values n) ∙ is))
 
-start_words : (ram : List Region) (ends : List (ℕ × ℕ)) → ((n : ℕ) → is_in ram (n * 4) ≡ in_ram ends n) → (from : ℕ) (es : List (ℕ × ℕ)) → AreListed ends from es → AreStartWords ram from es
+start_words : (ram : List Region) (ends : List (ℕ × ℕ)) → ((n : ℕ) → is_in_ram ram (n * 4) ≡ in_ram ends n) → (from : ℕ) (es : List (ℕ × ℕ)) → AreListed ends from es → AreStartWords ram from es
 start_words ram ends same from [] are = tt
 start_words ram ends same from (e ∷ es) are =
     let whole : e.0 / 4 * 4 ≡ e.0 = let aligned : e.0 % 4 ≡ 0 = are.1 in omega (arith, aligned) in
-    (are.0, are.1, sym (ap (is_in ram) whole) ∙ same (e.0 / 4) ∙ are.2, are.3, start_words ram ends same (e.0 + 4) es are.4)
+    (are.0, are.1, sym (ap (is_in_ram ram) whole) ∙ same (e.0 / 4) ∙ are.2, are.3, start_words ram ends same (e.0 + 4) es are.4)
 
 -- ---- the states
 
@@ -87,14 +87,14 @@ state_places (s ∷ ss) zero are = are.0.places
 state_places (s ∷ ss) (suc k) are = state_places ss k are.1
 
 state_is : (c : Cert) (w : Whole) (ss : List HartState) (bs : List Bare) (k : ℕ) → ss ≡ map told_state bs → k < length bs → IsFit (get_or bs k no_hart) → (get_or bs k no_hart).csrs.hart ≡ k
-    → ((n : ℕ) → is_in c.template.ram (n * 4) ≡ is_there (w.memory n)) → IsStateOf c k (get_or ss k no_state) (held_in (get_or bs k no_hart) w.memory)
+    → ((n : ℕ) → is_in_ram c.template.ram (n * 4) ≡ is_there (w.memory n)) → IsStateOf c k (get_or ss k no_state) (held_in (get_or bs k no_hart) w.memory)
 state_is c w ss bs k is l fit number there =
     let same : get_or ss k no_state ≡ told_state (get_or bs k no_hart) = ap (λ (qs : List HartState). get_or qs k no_state) is ∙ get_or-map told_state bs k no_hart no_state l in
     subst (λ (s : HartState). IsStateOf c k s (held_in (get_or bs k no_hart) w.memory)) (sym same) (told_state_is c k (get_or bs k no_hart) w.memory fit number there)
 
 -- ---- the whole
 
-pub made_of : (t : Template) (w : Whole) (c : Cert) → IsTest w → ((n : ℕ) → is_in t.ram (n * 4) ≡ in_ram w.ram n) → Tells t w c → AllByRecursion IsState c.start → AllByRecursion IsState c.finals → IsMade (partial_of w) c
+pub made_of : (t : Template) (w : Whole) (c : Cert) → IsTest w → ((n : ℕ) → is_in_ram t.ram (n * 4) ≡ in_ram w.ram n) → Tells t w c → AllByRecursion IsState c.start → AllByRecursion IsState c.finals → IsMade (partial_of w) c
 made_of t w c test ram tells start finals = record {
   count = ap (λ (ss : List HartState). length ss) tells.start ∙ length-map w.first told_state ∙ test.first;
   traces = ap (λ (ts : List (List Record)). length ts) tells.traces ∙ test.traces;
@@ -112,10 +112,10 @@ made_of t w c test ram tells start finals = record {
     none : List Record
     none = []
 
-    same : (n : ℕ) → is_in c.template.ram (n * 4) ≡ in_ram w.ram n
-    same n = ap (λ (q : Template). is_in q.ram (n * 4)) tells.template ∙ ram n
+    same : (n : ℕ) → is_in_ram c.template.ram (n * 4) ≡ in_ram w.ram n
+    same n = ap (λ (q : Template). is_in_ram q.ram (n * 4)) tells.template ∙ ram n
 
-    there : (n : ℕ) → is_in c.template.ram (n * 4) ≡ is_there (w.memory n)
+    there : (n : ℕ) → is_in_ram c.template.ram (n * 4) ≡ is_there (w.memory n)
     there n = same n ∙ sym (test.there n)
 
 -- it is well formed, where it fits into a file

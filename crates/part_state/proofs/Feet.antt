@@ -13,7 +13,7 @@ use Rattle.foot_map.specs.Touches.{is_part, same_role}
 use Rattle.foot_map.specs.Order.{rank}
 use Rattle.foot_map.proofs.Orders.{same_role_is}
 use Rattle.tpl_admit.proofs.Memory.{has_left, has_right, has_cases}
-use Rattle.part_machine.specs.Notes.{Feet, touched}
+use Rattle.part_machine.specs.Internal.Notes.{Feet, touched}
 use Rattle.part_state.specs.Meaning.{IsFootOf}
 
 -- one of the bytes that an access adds

@@ -9,7 +9,7 @@ use Rattle.rv_csr.specs.Table.{csr_key, lazy_csrs}
 use Rattle.rv_hart.specs.declared.record.Record.{Record}
 use Rattle.tpl_ast.specs.declared.template.HartState.{HartState}
 use Rattle.tpl_ast.specs.declared.template.NameDecl.{NameDecl}
-use Rattle.tpl_ast.specs.Laws.{TemplatesKeepLimits}
+use Rattle.tpl_lang.specs.Laws.{TemplatesKeepLimits}
 use Rattle.tpl_ast.specs.Limits.{FileLimits, file_limits}
 use Rattle.tpl_ast.specs.States.{is_key, ArePlaces, IsState}
 use Rattle.tpl_ast.specs.Templates.{KeepsLimits}

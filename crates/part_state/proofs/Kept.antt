@@ -11,7 +11,7 @@ use Rattle.part_machine.specs.declared.entry.Entry.TheVariants.{Choice, Wish}
 use Rattle.part_machine.specs.Whole.{Whole, given, named, chosen, with_dropped}
 use Rattle.part_machine.specs.Undo.{undone}
 use Rattle.part_state.specs.Meaning.{IsTest}
-use Rattle.part_state.specs.Parts.{AreTests}
+use Rattle.part_state.specs.Internal.Parts.{AreTests}
 use Rattle.part_machine.proofs.Fronts.{front_append}
 
 reversed : (log : List Entry) (e : Entry) → reverse (log ++ e ∷ []) ≡ e ∷ reverse log

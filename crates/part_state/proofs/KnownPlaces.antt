@@ -13,8 +13,8 @@ use Rattle.std.proofs.Math.Path.{fun_ext}
 use Rattle.rv_mem.specs.declared.words.Seen.{Seen}
 use Rattle.rv_mem.specs.Seen.{is_there}
 use Rattle.tpl_admit.specs.declared.certificate.Cert.{Cert}
-use Rattle.tpl_admit.specs.Starts.{found}
-use Rattle.tpl_ast.specs.States.{is_in}
+use Rattle.tpl_admit.specs.Starts.{lookup}
+use Rattle.tpl_ast.specs.States.{is_in_ram}
 use Rattle.part_laws.specs.Laws.{IsStateOf}
 use Rattle.part_machine.specs.Whole.{Bare}
 use Rattle.part_state.specs.Meaning.{value_of_key, held_in, IsFit}
@@ -22,11 +22,11 @@ use Rattle.part_told.specs.Finishing.{known_one, known_from, known_csrs, csr_add
 use Rattle.part_state.proofs.Keys.{none_low}
 use Rattle.given_start.proofs.Lazy.{has_address}
 
-found_append : (xs ys : List (ℕ × ℕ)) (key : ℕ) → found (xs ++ ys) key ≡ option_or (found xs key) (found ys key)
+found_append : (xs ys : List (ℕ × ℕ)) (key : ℕ) → lookup (xs ++ ys) key ≡ option_or (lookup xs key) (lookup ys key)
 found_append [] ys key = refl
 found_append (x ∷ xs) ys key = elim (cases_Bool (eqb x.0 key)) [ inl t ↦ rw t refl | inr f ↦ rw f (found_append xs ys key) ]
 
-found_one : (k : ℕ) (o : Option ℕ) (key : ℕ) → found (known_one k o) key ≡ (if eqb k key then o else None)
+found_one : (k : ℕ) (o : Option ℕ) (key : ℕ) → lookup (known_one k o) key ≡ (if eqb k key then o else None)
 found_one k None key = elim (cases_Bool (eqb k key)) [ inl t ↦ rw t refl | inr f ↦ rw f refl ]
 found_one k (Some v) key = refl
 
@@ -40,15 +40,15 @@ or_same (Some v) = refl
 
 -- ---- registers
 
-found_more : (n : ℕ) (o : Option ℕ) (os : List (Option ℕ)) (key : ℕ) → found (known_from n (o ∷ os)) key ≡ option_or (if eqb n key then o else None) (found (known_from (n + 1) os) key)
+found_more : (n : ℕ) (o : Option ℕ) (os : List (Option ℕ)) (key : ℕ) → lookup (known_from n (o ∷ os)) key ≡ option_or (if eqb n key then o else None) (lookup (known_from (n + 1) os) key)
 found_more n o os key =
-    found_append (known_one n o) (known_from (n + 1) os) key ∙ ap (λ (q : Option ℕ). option_or q (found (known_from (n + 1) os) key)) (found_one n o key)
+    found_append (known_one n o) (known_from (n + 1) os) key ∙ ap (λ (q : Option ℕ). option_or q (lookup (known_from (n + 1) os) key)) (found_one n o key)
 
-below : (n : ℕ) (os : List (Option ℕ)) (key : ℕ) → key < n → found (known_from n os) key ≡ None
+below : (n : ℕ) (os : List (Option ℕ)) (key : ℕ) → key < n → lookup (known_from n os) key ≡ None
 below n [] key l = refl
 below n (o ∷ os) key l = found_more n o os key ∙ rw (ne_eqb n key (λ e. absurd (omega (arith, e, l)))) (below (n + 1) os key (omega (arith, l)))
 
-register_at_key : (n : ℕ) (os : List (Option ℕ)) (i : ℕ) → found (known_from n os) (n + i) ≡ get_or os i None
+register_at_key : (n : ℕ) (os : List (Option ℕ)) (i : ℕ) → lookup (known_from n os) (n + i) ≡ get_or os i None
 register_at_key n [] i = refl
 register_at_key n (o ∷ os) zero =
     let same : n ≡ n + 0 = omega arith in
@@ -56,9 +56,9 @@ register_at_key n (o ∷ os) zero =
 register_at_key n (o ∷ os) (suc i) =
     let same : n + suc i ≡ n + 1 + i = omega arith in
     found_more n o os (n + suc i)
-    ∙ rw (ne_eqb n (n + suc i) (λ e. absurd (omega (arith, e)))) (ap (λ (k : ℕ). found (known_from (n + 1) os) k) same ∙ register_at_key (n + 1) os i)
+    ∙ rw (ne_eqb n (n + suc i) (λ e. absurd (omega (arith, e)))) (ap (λ (k : ℕ). lookup (known_from (n + 1) os) k) same ∙ register_at_key (n + 1) os i)
 
-above : (n : ℕ) (os : List (Option ℕ)) (key : ℕ) → n + length os ≤ key → found (known_from n os) key ≡ None
+above : (n : ℕ) (os : List (Option ℕ)) (key : ℕ) → n + length os ≤ key → lookup (known_from n os) key ≡ None
 above n [] key l = refl
 above n (o ∷ os) key l = found_more n o os key ∙ rw (ne_eqb n key (λ e. absurd (omega (arith, e, l)))) (above (n + 1) os key (omega (arith, l)))
 
@@ -67,11 +67,11 @@ above n (o ∷ os) key l = found_more n o os key ∙ rw (ne_eqb n key (λ e. abs
 abbrev is_one : ℕ → List ℕ → Bool
 is_one key addrs = list_any (λ a. eqb (csr_key a) key) addrs
 
-csr_at_key : (addrs : List ℕ) (csrs : CsrValues) (key : ℕ) → found (known_csrs addrs csrs) key ≡ (if is_one key addrs then lazy_value_at csrs (csr_address key) else None)
+csr_at_key : (addrs : List ℕ) (csrs : CsrValues) (key : ℕ) → lookup (known_csrs addrs csrs) key ≡ (if is_one key addrs then lazy_value_at csrs (csr_address key) else None)
 csr_at_key [] csrs key = refl
 csr_at_key (a ∷ addrs) csrs key =
     found_append (known_one (csr_key a) (lazy_value_at csrs a)) (known_csrs addrs csrs) key
-    ∙ ap (λ (q : Option ℕ). option_or q (found (known_csrs addrs csrs) key)) (found_one (csr_key a) (lazy_value_at csrs a) key)
+    ∙ ap (λ (q : Option ℕ). option_or q (lookup (known_csrs addrs csrs) key)) (found_one (csr_key a) (lazy_value_at csrs a) key)
     ∙ ap (λ (q : Option ℕ). option_or (if eqb (csr_key a) key then lazy_value_at csrs a else None) q) (csr_at_key addrs csrs key)
     ∙ elim (cases_Bool (eqb (csr_key a) key)) [
       | inl t ↦
@@ -97,7 +97,7 @@ listed Mepc = refl
 listed Mcause = refl
 listed Mtval = refl
 
-csrs_known : (csrs : CsrValues) (key : ℕ) → found (known_csrs csr_addresses csrs) key ≡ (if ltb key 4097 then None else lazy_value_at csrs (csr_address key))
+csrs_known : (csrs : CsrValues) (key : ℕ) → lookup (known_csrs csr_addresses csrs) key ≡ (if ltb key 4097 then None else lazy_value_at csrs (csr_address key))
 csrs_known csrs key = csr_at_key csr_addresses csrs key ∙ elim (cases_lt key 4097) [
   | inl l ↦ rw (lt-ltb key 4097 l) (low (is_one key csr_addresses) l)
   | inr g ↦ rw (false_from_ne_true (ltb key 4097) (λ t. let l : key < 4097 = ltb-true key 4097 t in absurd (omega (arith, l, g)))) (high g (register_at (csr_address key)) refl)
@@ -135,27 +135,27 @@ dropped_at : (os : List (Option ℕ)) (i : ℕ) → get_or (drop 1 os) i None �
 dropped_at [] i = refl
 dropped_at (o ∷ os) i = refl
 
-pub places_known : (b : Bare) → IsFit b → (key : ℕ) → found (places_in b) key ≡ value_of_key b key
+pub places_known : (b : Bare) → IsFit b → (key : ℕ) → lookup (places_in b) key ≡ value_of_key b key
 places_known b fit key = found_append (known_from 1 (drop 1 b.regs)) (known_csrs csr_addresses b.csrs) key ∙ go key
   where
     size : (os : List (Option ℕ)) → length os ≡ 32 → length (drop 1 os) ≡ 31
     size [] e = absurd (omega (arith, e))
     size (o ∷ os) e = omega (arith, e)
 
-    csrs_low : (k : ℕ) → k < 32 → found (known_csrs csr_addresses b.csrs) k ≡ None
+    csrs_low : (k : ℕ) → k < 32 → lookup (known_csrs csr_addresses b.csrs) k ≡ None
     csrs_low k l = csrs_known b.csrs k ∙ rw (lt-ltb k 4097 (omega (arith, l))) refl
 
-    go : (k : ℕ) → option_or (found (known_from 1 (drop 1 b.regs)) k) (found (known_csrs csr_addresses b.csrs) k) ≡ value_of_key b k
+    go : (k : ℕ) → option_or (lookup (known_from 1 (drop 1 b.regs)) k) (lookup (known_csrs csr_addresses b.csrs) k) ≡ value_of_key b k
     go zero = rw (below 1 (drop 1 b.regs) 0 (omega arith)) (csrs_low 0 (omega arith))
     go (suc i) = elim (cases_lt (suc i) 32) [
       | inl l ↦
           let one : 1 + i ≡ suc i = omega arith in
-          let reg : found (known_from 1 (drop 1 b.regs)) (suc i) ≡ get_or b.regs (suc i) None =
-          ap (λ (k : ℕ). found (known_from 1 (drop 1 b.regs)) k) (sym one) ∙ register_at_key 1 (drop 1 b.regs) i ∙ dropped_at b.regs i in
+          let reg : lookup (known_from 1 (drop 1 b.regs)) (suc i) ≡ get_or b.regs (suc i) None =
+          ap (λ (k : ℕ). lookup (known_from 1 (drop 1 b.regs)) k) (sym one) ∙ register_at_key 1 (drop 1 b.regs) i ∙ dropped_at b.regs i in
           rw (lt-ltb (suc i) 32 l, ne_eqb (suc i) 0 (λ e. absurd (omega (arith, e))), reg, csrs_low (suc i) l) (or_none (get_or b.regs (suc i) None))
       | inr g ↦
           let high : ltb (suc i) 32 ≡ false = false_from_ne_true (ltb (suc i) 32) (λ t. let l : suc i < 32 = ltb-true (suc i) 32 t in absurd (omega (arith, l, g))) in
-          let past : found (known_from 1 (drop 1 b.regs)) (suc i) ≡ None = above 1 (drop 1 b.regs) (suc i) (omega (arith, size b.regs fit.size, g)) in
+          let past : lookup (known_from 1 (drop 1 b.regs)) (suc i) ≡ None = above 1 (drop 1 b.regs) (suc i) (omega (arith, size b.regs fit.size, g)) in
           rw (high, past) (csrs_known b.csrs (suc i) ∙ elim (cases_lt (suc i) 4097) [
             | inl l ↦ rw (lt-ltb (suc i) 4097 l) (sym (none_low b.csrs (suc i) l))
             | inr h ↦ rw (false_from_ne_true (ltb (suc i) 4097) (λ t. let l : suc i < 4097 = ltb-true (suc i) 4097 t in absurd (omega (arith, l, h)))) refl
@@ -163,9 +163,9 @@ places_known b fit key = found_append (known_from 1 (drop 1 b.regs)) (known_csrs
     ]
 
 -- a hart as a certificate tells it is a state of what is held of it
-pub told_state_is : (c : Cert) (k : ℕ) (b : Bare) (at : ℕ → Seen) → IsFit b → b.csrs.hart ≡ k → ((n : ℕ) → is_in c.template.ram (n * 4) ≡ is_there (at n)) → IsStateOf c k (told_state b) (held_in b at)
+pub told_state_is : (c : Cert) (k : ℕ) (b : Bare) (at : ℕ → Seen) → IsFit b → b.csrs.hart ≡ k → ((n : ℕ) → is_in_ram c.template.ram (n * 4) ≡ is_there (at n)) → IsStateOf c k (told_state b) (held_in b at)
 told_state_is c k b at fit number there =
-    let ram : (λ n. is_in c.template.ram (n * 4)) ≡ (λ n. is_there (at n)) = fun_ext there in
+    let ram : (λ n. is_in_ram c.template.ram (n * 4)) ≡ (λ n. is_there (at n)) = fun_ext there in
     record {
       fixed = λ i. record { pc = b.pc; privilege = b.privilege; mstatus = b.csrs.mstatus; medeleg = b.csrs.medeleg; satp = b.csrs.satp; number = sym number i; ram = ram i };
       places = places_known b fit;

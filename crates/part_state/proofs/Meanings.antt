@@ -1,6 +1,6 @@
 -- The changes of wholes are those of what they mean.
 use Rattle.std.proofs.Common.{◌≡◌, ℕ, ◌/◌, ◌^◌, ◌<◌, Bool, true, false, eqb, List, [], ◌∷◌, ◌++◌, length, length-set, set, get_or, Option, Some, None, refl, sym, ap, ◌∙◌, subst, inl, inr, arith}
-use Rattle.std.specs.Prelude.{option_map, All}
+use Rattle.std.specs.Prelude.{option_map, All, is_none}
 use Rattle.std.specs.Option.{option_or}
 use Rattle.std.proofs.Math.Path.{fun_ext}
 use Rattle.std.proofs.lemmas.Bool.{cases_Bool, cases_eq, eqb-true, eq-eqb, ne_eqb, lt-ltb}
@@ -23,12 +23,11 @@ use Rattle.rv_hart.specs.Fixed.{Fixed}
 use Rattle.rv_hart.specs.Machine.{script}
 use Rattle.tpl_admit.specs.Races.{footprint_of}
 use Rattle.tpl_admit.specs.System.{replaced}
-use Rattle.part_machine.specs.Notes.{with_seen}
+use Rattle.part_machine.specs.Internal.Notes.{with_seen}
 use Rattle.part_machine.proofs.Given.{given_more}
 use Rattle.part_laws.specs.Partial.{Held, Partial, IsPartialTest, with_value, with_place, place_started, word_started, held_after, words_after, advanced, IsNext}
 use Rattle.part_machine.specs.Whole.{Bare, Whole, given, no_hart, first_of, hart_of, records_of, fixed_in, next_of, record_in, bare_after, stepped, with_register, register_given, with_csr, csr_given, IsCsrUntouched, word_given, HasHart}
 use Rattle.part_state.specs.Meaning.{value_of_key, held_in, partial_of, IsFit, IsTest, IsRegisterUntouched, IsClear}
-use Rattle.std.specs.Prelude.{is_none}
 use Rattle.rv_csr.specs.declared.table.LazyRegister.{LazyRegister}
 use Rattle.rv_csr.specs.declared.table.Register.{Register}
 use Rattle.rv_csr.specs.declared.table.Register.TheVariants.{Sstatus, Satp, Mstatus, Medeleg, Mhartid, Lazy}

@@ -5,7 +5,7 @@ use Rattle.std.proofs.lemmas.Option.{same_Some}
 use Rattle.rv_mem.specs.Seen.{known_word}
 use Rattle.tpl_ast.specs.declared.template.Template.{Template}
 use Rattle.tpl_admit.specs.declared.certificate.Cert.{Cert}
-use Rattle.tpl_admit.specs.Starts.{found}
+use Rattle.tpl_admit.specs.Starts.{lookup}
 use Rattle.part_machine.specs.Whole.{Whole}
 use Rattle.part_told.specs.Words.{AreListed}
 use Rattle.part_state.specs.Told.{Tells}
@@ -15,7 +15,7 @@ use Rattle.part_state.proofs.Begins.{found_low}
 
 -- from an address on, two lists give the same values
 abbrev AreAlike : ℕ → List (ℕ × ℕ) → List (ℕ × ℕ) → Type 0
-AreAlike from es fs = (addr : ℕ) → from ≤ addr → addr % 4 ≡ 0 → found es addr ≡ found fs addr
+AreAlike from es fs = (addr : ℕ) → from ≤ addr → addr % 4 ≡ 0 → lookup es addr ≡ lookup fs addr
 
 none_some : (v : ℕ) → None ≡ Some v → ⊥
 none_some v h = absurd (cc h)
@@ -85,4 +85,4 @@ telling_is_one t w a b tells tells_so =
     alike : AreAlike 0 a.words b.words
     alike addr above aligned =
         let whole : addr / 4 * 4 ≡ addr = omega (arith, aligned) in
-        subst (λ (n : ℕ). found a.words n ≡ found b.words n) whole (tells.words.values (addr / 4) ∙ sym (tells_so.words.values (addr / 4)))
+        subst (λ (n : ℕ). lookup a.words n ≡ lookup b.words n) whole (tells.words.values (addr / 4) ∙ sym (tells_so.words.values (addr / 4)))

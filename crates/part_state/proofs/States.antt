@@ -21,7 +21,7 @@ use Rattle.tpl_admit.specs.Races.{footprint_of}
 use Rattle.part_state.specs.declared.logged.Logged.{Logged}
 use Rattle.part_machine.specs.Whole.{Whole, History, HasHart, given, records_of, wholes}
 use Rattle.part_state.specs.Meaning.{IsTest}
-use Rattle.part_state.specs.Parts.{history, now_of, IsKept}
+use Rattle.part_state.specs.Internal.Parts.{history, now_of, IsKept}
 use Rattle.part_state.specs.State.{Test, State, tests, feet_of, whole, here, data_of, state_in}
 use Rattle.part_state.proofs.Kept.{now_test}
 use Rattle.part_machine.proofs.Undoing.{same_whole}

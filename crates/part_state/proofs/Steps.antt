@@ -15,8 +15,8 @@ use Rattle.rv_hart.specs.declared.record.Record.{Record}
 use Rattle.rv_hart.specs.Effects.{seen_word_after, seen_accessed, seen_after}
 use Rattle.part_machine.specs.declared.notes.Note.{Note}
 use Rattle.part_machine.specs.declared.entry.Entry.TheVariants.{Step}
-use Rattle.part_machine.specs.Fronts.{front}
-use Rattle.part_machine.specs.Notes.{with_seen, put_back, taken_out, IsKnownAt, IsWordOf, AreNotes}
+use Rattle.part_machine.specs.Internal.Fronts.{front}
+use Rattle.part_machine.specs.Internal.Notes.{with_seen, put_back, taken_out, IsKnownAt, IsWordOf, AreNotes}
 use Rattle.part_machine.specs.Whole.{bare, Whole, no_hart, hart_of, records_of, record_in, bare_after, stepped, HasHart}
 use Rattle.part_machine.specs.Undo.{undone, IsWithin}
 use Rattle.part_machine.proofs.Fronts.{front_append}

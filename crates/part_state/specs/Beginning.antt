@@ -7,8 +7,8 @@ use Rattle.tpl_ast.specs.declared.template.HartDecl.{HartDecl}
 use Rattle.tpl_ast.specs.declared.template.HartState.{HartState}
 use Rattle.tpl_ast.specs.declared.template.Region.{Region}
 use Rattle.tpl_ast.specs.declared.template.Template.{Template}
-use Rattle.tpl_admit.specs.Starts.{found, fixed_in, no_state}
-use Rattle.tpl_ast.specs.States.{is_in}
+use Rattle.tpl_admit.specs.Starts.{fixed_in, no_state, lookup}
+use Rattle.tpl_ast.specs.States.{is_in_ram}
 use Rattle.part_machine.specs.Whole.{Bare, Whole, given, IsNew, no_hart, hart_of, word_given}
 use Rattle.part_state.specs.Meaning.{value_of_key, held_in, IsFit}
 
@@ -25,7 +25,7 @@ pub record IsHartOf (k : ℕ) (s : HartState) (b : Bare) : Type 0 where
   pub medeleg : b.csrs.medeleg ≡ s.medeleg
   pub satp : b.csrs.satp ≡ s.satp
   pub number : b.csrs.hart ≡ k
-  pub places : (key : ℕ) → value_of_key b key ≡ found s.places key
+  pub places : (key : ℕ) → value_of_key b key ≡ lookup s.places key
 
 -- each hart as its declaration says
 pub record AreHartsOf (decls : List HartDecl) (harts : List Bare) : Type 0 where
@@ -61,12 +61,12 @@ pub record IsBegun (t : Template) (w : Whole) : Type 0 where
   pub count : length w.harts ≡ length t.harts
   pub first : w.first ≡ w.harts
   pub fixed : (k : ℕ) → k < length t.harts → (held_in (hart_of k w) w.memory).fixed ≡ fixed_in t.ram k (start_in t.harts k)
-  pub places : (k key : ℕ) → k < length t.harts → value_of_key (hart_of k w) key ≡ found (start_in t.harts k).places key
+  pub places : (k key : ℕ) → k < length t.harts → value_of_key (hart_of k w) key ≡ lookup (start_in t.harts k).places key
   pub ends : w.ram ≡ ends_of t.ram
-  pub ram : (n : ℕ) → in_ram w.ram n ≡ is_in t.ram (n * 4)
+  pub ram : (n : ℕ) → in_ram w.ram n ≡ is_in_ram t.ram (n * 4)
   pub listed : w.words ≡ numbered t.words
-  pub words : (n : ℕ) → given w.words n ≡ found t.words (n * 4)
-  pub memory : (n : ℕ) → w.memory n ≡ (if is_in t.ram (n * 4) then valued (found t.words (n * 4)) else Vacant)
+  pub words : (n : ℕ) → given w.words n ≡ lookup t.words (n * 4)
+  pub memory : (n : ℕ) → w.memory n ≡ (if is_in_ram t.ram (n * 4) then valued (lookup t.words (n * 4)) else Vacant)
   pub traces : w.traces ≡ replicate (length t.harts) []
   pub names : w.names ≡ replicate (length t.names) None
   pub choices : w.choices ≡ []

@@ -1,7 +1,6 @@
 // A test that is being made.
-ghost use Rattle.std.specs.Prelude.{◌≡◌, ◌<◌, ◌≤◌, ◌+◌, ◌*◌, ◌/◌, ◌%◌, ℕ, IsTrue, true, [], ◌∷◌, ◌++◌, length, take, slice_get, Some, None, OnOk, OnErr, IfOk, map, replicate, slice_index_or};
+ghost use Rattle.std.specs.Prelude.{◌≡◌, ◌<◌, ◌≤◌, ◌+◌, ◌*◌, ◌/◌, ◌%◌, ℕ, IsTrue, true, [], ◌∷◌, ◌++◌, length, take, slice_get, Some, None, OnOk, OnErr, IfOk, map, replicate, slice_index_or, List};
 ghost use Rattle.part_machine.specs.Whole.{wholes, named, chosen, with_dropped, register_given, csr_given, word_given, next_of, record_in, stepped, IsReady, bare, no_hart, known_in, hart_of, records_of, IsNew, HasHart};
-ghost use Rattle.std.specs.Prelude.{List};
 ghost use Rattle.rv_script.specs.declared.access.Access.{Access as AnAccess};
 ghost use Rattle.rv_script.specs.Folds.{Answer.Does};
 ghost use Rattle.rv_hart.specs.declared.record.Change.{Change as AChange};
@@ -19,13 +18,13 @@ ghost use Rattle.part_state.specs.Meaning.{partial_of, CanStart, place_given, Is
 ghost use Rattle.part_state.specs.Probing.{IsProbe};
 ghost use Rattle.part_told.specs.Words.{AreListed};
 ghost use Rattle.rv_mem.specs.Ram.{in_ram};
-ghost use Rattle.tpl_ast.specs.Laws.{TemplatesKeepLimits};
-ghost use Rattle.tpl_ast.specs.Parsing.{Parses};
-ghost use Rattle.tpl_ast.specs.States.{is_in};
+ghost use Rattle.tpl_lang.specs.Laws.{TemplatesKeepLimits};
+ghost use Rattle.tpl_lang.specs.Parsing.{Parses};
+ghost use Rattle.tpl_ast.specs.States.{is_in_ram};
 ghost use Rattle.tpl_admit.specs.WellFormed.{IsWellFormed};
 ghost use Rattle.part_state.specs.Told.{Tells, FitsFile};
 ghost use Rattle.part_state.specs.Beginning.{IsBegunFrom};
-ghost use Rattle.part_state.specs.Parts.{history, now_of, IsKept};
+ghost use Rattle.part_state.specs.Internal.Parts.{history, now_of, IsKept};
 
 use crate::OutOfMemory;
 use crate::finishing::certificate_of;
@@ -404,7 +403,7 @@ impl Logged {
     pub fn certificate(&self, alloc: Global, t: Template) -> Result<Cert, OutOfMemory>
         requires kept { IsKept self.now }
         requires harts { length t.harts ≡ length (now_of self.now).harts }
-        requires ram { (n : ℕ) → is_in t.ram (n * 4) ≡ in_ram (now_of self.now).ram n }
+        requires ram { (n : ℕ) → is_in_ram t.ram (n * 4) ≡ in_ram (now_of self.now).ram n }
         ensures tells { IfOk result (Tells t (now_of self.now)) }
         ensures made { IfOk result (IsMade (partial_of (now_of self.now))) }
         ensures sound { IfOk result IsSound }

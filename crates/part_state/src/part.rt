@@ -14,8 +14,8 @@ ghost use Rattle.part_laws.specs.Laws.{IsMade};
 ghost use Rattle.part_machine.specs.Whole.{named, chosen, with_dropped, next_of, stepped, record_in, IsReady, bare, known_in, hart_of, records_of};
 ghost use Rattle.part_state.specs.Meaning.{partial_of, CanStart, place_given, IsNamed, IsClear, IsTest};
 ghost use Rattle.part_state.specs.Probing.{IsProbe};
-ghost use Rattle.tpl_ast.specs.Parsing.{Parses};
-ghost use Rattle.tpl_ast.specs.States.{is_in};
+ghost use Rattle.tpl_lang.specs.Parsing.{Parses};
+ghost use Rattle.tpl_ast.specs.States.{is_in_ram};
 ghost use Rattle.tpl_admit.specs.WellFormed.{IsWellFormed};
 ghost use Rattle.part_state.specs.Beginning.{IsBegun};
 ghost use Rattle.part_state.specs.Told.{Tells, FitsFile};
@@ -34,7 +34,8 @@ use rv_script::Place;
 use std::alloc::Global;
 use std::marker::Model;
 use tpl_admit::{Cert, Dropped};
-use tpl_ast::{Template, template_law};
+use tpl_ast::Template;
+use tpl_lang::template_law;
 
 /// A test that is being made, and the earlier ones, to which it can go back.
 #[derive(Drop)]
@@ -43,12 +44,11 @@ pub struct Part {
 }
 
 impl Model for Part {
-    ghost use Rattle.part_state.specs.State.{State};
+    ghost use Rattle.part_state.specs.State.{State, state_in};
 
     ghost Value = { State };
 
-    ghost use Rattle.part_state.specs.State.{state_in};
-    ghost use Rattle.part_state.specs.Parts.{history, IsKept};
+    ghost use Rattle.part_state.specs.Internal.Parts.{history, IsKept};
 
     ghost view = { λ p. state_in (history p.inner) };
 
@@ -229,7 +229,7 @@ impl Part {
     /// The certificate of the test: its start, its records, where it stands, and the template, which it keeps.
     pub fn finish(&self, alloc: Global, t: Template) -> Result<Cert, OutOfMemory>
         requires harts { length t.harts ≡ length self.now.now.harts }
-        requires ram { (n : ℕ) → is_in t.ram (n * 4) ≡ in_ram self.now.now.ram n }
+        requires ram { (n : ℕ) → is_in_ram t.ram (n * 4) ≡ in_ram self.now.now.ram n }
         ensures tells { IfOk result (Tells t (here self.now)) }
         ensures made { IfOk result (IsMade (partial_of (here self.now))) }
         ensures sound { IfOk result IsSound }

@@ -3,7 +3,7 @@ ghost use Rattle.std.specs.Prelude.{◌≡◌, ◌<◌, ◌^◌, IfOk, length, m
 ghost use Rattle.std.specs.List.{AllByRecursion};
 ghost use Rattle.tpl_ast.specs.States.{IsState};
 ghost use Rattle.part_machine.specs.Whole.{bare};
-ghost use Rattle.given_start.specs.Regions.{AreAligned};
+ghost use Rattle.given_start.specs.Internal.Regions.{AreAligned};
 ghost use Rattle.part_state.specs.Beginning.{AreHartsOf, IsHartOf, ends_of};
 
 use crate::OutOfMemory;

@@ -13,13 +13,13 @@ use Rattle.std.proofs.lemmas.List.{map-append}
 use Rattle.std.proofs.lemmas.List.Elements.{All-head, All-tail}
 use Rattle.std.proofs.lemmas.Bool.{cases_eq, cases_lt, eq-eqb, ne_eqb, le-ltb}
 use Rattle.rv_mem.specs.Ram.{in_ram}
-use Rattle.tpl_admit.specs.Starts.{found}
+use Rattle.tpl_admit.specs.Starts.{lookup as value_in}
 use Rattle.part_machine.specs.Whole.{given}
 use Rattle.part_told.specs.Words.{at_address, AreListed, IsWithinRam, ListsWords}
 use Rattle.part_told.proofs.Numbers.{is_at_number}
 
 -- an address has the value of its number
-found_address : (es : List (ℕ × ℕ)) (n : ℕ) → found (map at_address es) (n * 4) ≡ lookup (is_at (nat_cmp n)) es
+found_address : (es : List (ℕ × ℕ)) (n : ℕ) → value_in (map at_address es) (n * 4) ≡ lookup (is_at (nat_cmp n)) es
 found_address [] n = refl
 found_address (e ∷ es) n = elim (cases_eq e.0 n) [
   | inl same ↦ rw (eq-eqb (e.0 * 4) (n * 4) (omega (arith, same)), is_at_number n e.0, eq-eqb e.0 n same) refl
@@ -57,7 +57,7 @@ all_above (k ∷ ks) = (omega arith, all_above ks)
 -- a map's entries, at their addresses
 pub lists : (ram words pairs : List (ℕ × ℕ)) (m : BTreeMap ℕ ℕ) → IsOrdered nat_cmp m → ((n : ℕ) → get nat_cmp m n ≡ given words n) → pairs ≡ map at_address m.entries → AllByRecursion (λ e. e.1 < 2 ^ 32) pairs → IsWithinRam ram words → ListsWords ram words pairs
 lists ram words pairs m ordered values is small inside = record {
-  values = λ n. ap (λ (ps : List (ℕ × ℕ)). found ps (n * 4)) is ∙ found_address m.entries n ∙ values n;
+  values = λ n. ap (λ (ps : List (ℕ × ℕ)). value_in ps (n * 4)) is ∙ found_address m.entries n ∙ values n;
   listed = subst (λ (ps : List (ℕ × ℕ)). AreListed ram 0 ps) (sym is) (listed_from ram 0 m.entries ordered (all_above (keys_of m.entries))
       (subst (λ (ps : List (ℕ × ℕ)). AllByRecursion (λ e. e.1 < 2 ^ 32) ps) is small) there);
 }

@@ -2,8 +2,8 @@
 use Rattle.std.specs.Prelude.{◌≡◌, ℕ, ◌+◌, ◌*◌, ◌/◌, ◌%◌, ◌^◌, ◌<◌, ◌≤◌, true, Some, List, [], ◌∷◌}
 use Rattle.rv_mem.specs.declared.words.Seen.{Seen}
 use Rattle.rv_mem.specs.Ram.{in_ram}
-use Rattle.tpl_admit.specs.Starts.{found}
-use Rattle.part_machine.specs.Notes.{IsKnownAt}
+use Rattle.tpl_admit.specs.Starts.{lookup}
+use Rattle.part_machine.specs.Internal.Notes.{IsKnownAt}
 use Rattle.part_machine.specs.Whole.{given}
 
 -- an aligned word, which is known
@@ -21,7 +21,7 @@ AreListed ram from (e ∷ es) = (from ≤ e.0) × (e.0 % 4 ≡ 0) × (in_ram ram
 
 -- pairs of address and value by ascending address have just the values that pairs of number and value give
 pub record ListsWords (ram words pairs : List (ℕ × ℕ)) : Type 0 where
-  pub values : (n : ℕ) → found pairs (n * 4) ≡ given words n
+  pub values : (n : ℕ) → lookup pairs (n * 4) ≡ given words n
   pub listed : AreListed ram 0 pairs
 
 -- a pair of number and value as one of address and value

@@ -16,8 +16,8 @@ use Rattle.foot_map.specs.Races.{IsRaceFree, with_access}
 use Rattle.tpl_admit.specs.declared.certificate.Cert.{Cert}
 use Rattle.tpl_admit.specs.Starts.{trace_of}
 use Rattle.tpl_admit.specs.Races.{footprint_of, footprints_of}
-use Rattle.tpl_admit.specs.Failures.{RacesFrom, did_before}
-use Rattle.replay_check.specs.Racing.{with_accesses, RacesAt}
+use Rattle.replay_check.specs.Failures.{RacesFrom, did_before}
+use Rattle.replay_check.specs.Internal.Racing.{with_accesses, RacesAt}
 
 -- ---- accesses put behind one another
 

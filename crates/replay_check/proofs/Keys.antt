@@ -7,9 +7,9 @@ use Rattle.std.specs.List.Sorted.{IsNonDecreasingBy, IsPartitionPoint}
 use Rattle.std.specs.Ordering.{nat_cmp, ordering_index}
 use Rattle.std.proofs.lemmas.Bool.{cases_Bool, cases_lt, cases_order, eq-eqb, eqb-true, ne_eqb, lt-ltb, le-ltb, le-leb, leb-true, and_parts, and_from}
 use Rattle.tpl_ast.specs.declared.template.Region.{Region}
-use Rattle.tpl_admit.specs.Starts.{found}
-use Rattle.tpl_ast.specs.States.{is_key, is_in, ArePlaces, AreStartWords}
-use Rattle.replay_check.specs.Memory.{is_ascending}
+use Rattle.tpl_admit.specs.Starts.{lookup}
+use Rattle.tpl_ast.specs.States.{is_key, ArePlaces, AreStartWords, is_in_ram}
+use Rattle.replay_check.specs.Internal.Memory.{is_ascending}
 
 pub places_ascend : (from : ℕ) (es : List (ℕ × ℕ)) → ArePlaces from es → is_ascending from es ≡ true
 places_ascend from [] is = refl
@@ -24,7 +24,7 @@ not_below from (e ∷ es) (suc i) d up within =
     let later : e.0 + 1 ≤ (get_or es i d).0 = not_below (e.0 + 1) es i d (and_parts _ _ up).1 (omega (arith, within)) in
     omega (arith, first, later)
 
-pub found_at : (from : ℕ) (es : List (ℕ × ℕ)) (i key : ℕ) (d : ℕ × ℕ) → is_ascending from es ≡ true → i < length es → (get_or es i d).0 ≡ key → found es key ≡ Some (get_or es i d).1
+pub found_at : (from : ℕ) (es : List (ℕ × ℕ)) (i key : ℕ) (d : ℕ × ℕ) → is_ascending from es ≡ true → i < length es → (get_or es i d).0 ≡ key → lookup es key ≡ Some (get_or es i d).1
 found_at from [] i key d up within is = absurd (omega (arith, within))
 found_at from (e ∷ es) zero key d up within is = rw (eq-eqb e.0 key is) refl
 found_at from (e ∷ es) (suc i) key d up within is =
@@ -34,23 +34,23 @@ found_at from (e ∷ es) (suc i) key d up within is =
     let other : e.0 ≢ key = λ same. absurd (omega (arith, same, is, later)) in
     rw (ne_eqb e.0 key other) (found_at (e.0 + 1) es i key d up' within' is)
 
-pub found_nowhere : (es : List (ℕ × ℕ)) (key : ℕ) → ((i : ℕ) (d : ℕ × ℕ) → i < length es → (get_or es i d).0 ≢ key) → found es key ≡ None
+pub found_nowhere : (es : List (ℕ × ℕ)) (key : ℕ) → ((i : ℕ) (d : ℕ × ℕ) → i < length es → (get_or es i d).0 ≢ key) → lookup es key ≡ None
 found_nowhere [] key none = refl
 found_nowhere (e ∷ es) key none =
     rw (ne_eqb e.0 key (none 0 (0, 0) (omega arith))) (found_nowhere es key (λ i d within. none (suc i) d (omega (arith, within))))
 
 -- what has no key of a place has no value
-pub found_no_key : (from : ℕ) (es : List (ℕ × ℕ)) (key : ℕ) → ArePlaces from es → (is_key key ≡ true → ⊥) → found es key ≡ None
+pub found_no_key : (from : ℕ) (es : List (ℕ × ℕ)) (key : ℕ) → ArePlaces from es → (is_key key ≡ true → ⊥) → lookup es key ≡ None
 found_no_key from [] key is none = refl
 found_no_key from (e ∷ es) key is none =
     let other : e.0 ≢ key = λ same. none (subst (λ (n : ℕ). is_key n ≡ true) same is.1) in
     rw (ne_eqb e.0 key other) (found_no_key (e.0 + 1) es key is.3 none)
 
 -- a word that is given lies in RAM
-pub found_in : (ram : List Region) (from : ℕ) (ws : List (ℕ × ℕ)) (a v : ℕ) → AreStartWords ram from ws → found ws a ≡ Some v → is_in ram a ≡ true
+pub found_in : (ram : List Region) (from : ℕ) (ws : List (ℕ × ℕ)) (a v : ℕ) → AreStartWords ram from ws → lookup ws a ≡ Some v → is_in_ram ram a ≡ true
 found_in ram from [] a v is e = absurd (cc e)
 found_in ram from (w ∷ ws) a v is e = elim (cases_Bool (eqb w.0 a)) [
-  | inl here ↦ subst (λ (n : ℕ). is_in ram n ≡ true) (eqb-true w.0 a here) is.2
+  | inl here ↦ subst (λ (n : ℕ). is_in_ram ram n ≡ true) (eqb-true w.0 a here) is.2
   | inr other ↦ found_in ram (w.0 + 4) ws a v is.4 (rw other at e)
 ]
 
@@ -94,12 +94,12 @@ rises from (e ∷ es) zero (suc j) d up order within =
 rises from (e ∷ es) (suc i) zero d up order within = absurd (omega (arith, order))
 rises from (e ∷ es) (suc i) (suc j) d up order within = rises (e.0 + 1) es i j d (and_parts _ _ up).1 (omega (arith, order)) (omega (arith, within))
 
-pub key_found : (es : List (ℕ × ℕ)) (key i : ℕ) (d : ℕ × ℕ) → is_ascending 0 es ≡ true → i < length es → nat_cmp (get_or es i d).0 key ≡ Equal → found es key ≡ Some (get_or es i d).1
+pub key_found : (es : List (ℕ × ℕ)) (key i : ℕ) (d : ℕ × ℕ) → is_ascending 0 es ≡ true → i < length es → nat_cmp (get_or es i d).0 key ≡ Equal → lookup es key ≡ Some (get_or es i d).1
 key_found es key i d up within is = found_at 0 es i key d up within (cmp_equal (get_or es i d).0 key is)
 
 pub key_missed : (es : List (ℕ × ℕ)) (key i : ℕ) → is_ascending 0 es ≡ true
     → (IsNonDecreasingBy (λ (y : ℕ × ℕ). ordering_index (nat_cmp y.0 key)) es → IsPartitionPoint (λ (y : ℕ × ℕ). nat_cmp y.0 key ≡ Less) (λ (y : ℕ × ℕ). nat_cmp y.0 key ≡ Greater) es i)
-    → found es key ≡ None
+    → lookup es key ≡ None
 key_missed es key i up searched = found_nowhere es key other
   where
     point : IsPartitionPoint (λ (y : ℕ × ℕ). nat_cmp y.0 key ≡ Less) (λ (y : ℕ × ℕ). nat_cmp y.0 key ≡ Greater) es i

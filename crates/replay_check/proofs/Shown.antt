@@ -11,9 +11,9 @@ use Rattle.rv_script.specs.declared.access.Access.{Access}
 use Rattle.rv_script.specs.Memory.{word_after, accessed, memory_after}
 use Rattle.rv_hart.specs.Effects.{seen_word_after, seen_accessed, seen_after}
 use Rattle.tpl_ast.specs.declared.template.Region.{Region}
-use Rattle.tpl_admit.specs.Starts.{found, zero_elsewhere}
-use Rattle.tpl_ast.specs.States.{is_in, AreStartWords}
-use Rattle.replay_check.specs.Memory.{given_word, seen_given, Shows}
+use Rattle.tpl_admit.specs.Starts.{zero_elsewhere, lookup}
+use Rattle.tpl_ast.specs.States.{AreStartWords, is_in_ram}
+use Rattle.replay_check.specs.Internal.Memory.{given_word, seen_given, Shows}
 use Rattle.given_start.proofs.Given.{or_else}
 use Rattle.replay_check.proofs.Keys.{found_in}
 
@@ -24,12 +24,12 @@ there_word true None w = refl
 there_word true (Some v) w = refl
 there_word false o w = refl
 
-pub shown_there : (ram : List Region) (given : ℕ → Option ℕ) (m : ℕ → ℕ) (at : ℕ → Seen) → Shows ram given m at → (n : ℕ) → is_there (at n) ≡ is_in ram (n * 4)
-shown_there ram given m at s n = ap (λ (q : Seen). is_there q) (s.words n) ∙ there_word (is_in ram (n * 4)) (given n) (m n)
+pub shown_there : (ram : List Region) (given : ℕ → Option ℕ) (m : ℕ → ℕ) (at : ℕ → Seen) → Shows ram given m at → (n : ℕ) → is_there (at n) ≡ is_in_ram ram (n * 4)
+shown_there ram given m at s n = ap (λ (q : Seen). is_there q) (s.words n) ∙ there_word (is_in_ram ram (n * 4)) (given n) (m n)
 
 -- a word that is known was given, and is that of the whole memory
 pub shown_known : (ram : List Region) (given : ℕ → Option ℕ) (m : ℕ → ℕ) (at : ℕ → Seen) → Shows ram given m at → (n v : ℕ) → known_word (at n) ≡ Some v → (m n ≡ v) × (is_some (given n) ≡ true)
-shown_known ram given m at s n v e = go (is_in ram (n * 4)) (given n) (m n) (sym (ap (λ (q : Seen). known_word q) (s.words n)) ∙ e)
+shown_known ram given m at s n v e = go (is_in_ram ram (n * 4)) (given n) (m n) (sym (ap (λ (q : Seen). known_word q) (s.words n)) ∙ e)
   where
     go : (b : Bool) (o : Option ℕ) (w : ℕ) → known_word (if b then seen_given o w else Vacant) ≡ Some v → (w ≡ v) × (is_some o ≡ true)
     go true (Some g) w e = (let same : w ≡ v = cc e in same, refl)
@@ -38,7 +38,7 @@ shown_known ram given m at s n v e = go (is_in ram (n * 4)) (given n) (m n) (sym
 
 -- a word that isn't known was not given
 pub shown_unknown : (ram : List Region) (given : ℕ → Option ℕ) (m : ℕ → ℕ) (at : ℕ → Seen) → Shows ram given m at → (n : ℕ) → known_word (at n) ≡ None → is_some (given n) ≡ false
-shown_unknown ram given m at s n e = go (is_in ram (n * 4)) (given n) (m n) (s.inside n) (sym (ap (λ (q : Seen). known_word q) (s.words n)) ∙ e)
+shown_unknown ram given m at s n e = go (is_in_ram ram (n * 4)) (given n) (m n) (s.inside n) (sym (ap (λ (q : Seen). known_word q) (s.words n)) ∙ e)
   where
     go : (b : Bool) (o : Option ℕ) (w : ℕ) → ((v : ℕ) → o ≡ Some v → b ≡ true) → known_word (if b then seen_given o w else Vacant) ≡ None → is_some o ≡ false
     go true None w inside e = refl
@@ -54,7 +54,7 @@ shown_given ram given m at s n v e = s.words n ∙ rw (s.inside n v e, e) refl
 
 shown_accessed : (ram : List Region) (given : ℕ → Option ℕ) (m : ℕ → ℕ) (at : ℕ → Seen) (x : Access) → Shows ram given m at → Shows ram given (accessed x m) (seen_accessed x at)
 shown_accessed ram given m at x s = record {
-  words = λ n. ap (λ (q : Seen). cond (nat_eq n (x.addr / 4)) (seen_word_after x n q) q) (s.words n) ∙ go n (nat_eq n (x.addr / 4)) (is_in ram (n * 4)) (given n) (m n);
+  words = λ n. ap (λ (q : Seen). cond (nat_eq n (x.addr / 4)) (seen_word_after x n q) q) (s.words n) ∙ go n (nat_eq n (x.addr / 4)) (is_in_ram ram (n * 4)) (given n) (m n);
   inside = s.inside;
 }
   where
@@ -83,13 +83,13 @@ pub record AreLeft (ram : List Region) (ws : List (ℕ × ℕ)) : Type 0 where
   pub from : ℕ
   pub words : AreStartWords ram from ws
 
-found_below : (ram : List Region) (from : ℕ) (ws : List (ℕ × ℕ)) (a : ℕ) → AreStartWords ram from ws → a < from → found ws a ≡ None
+found_below : (ram : List Region) (from : ℕ) (ws : List (ℕ × ℕ)) (a : ℕ) → AreStartWords ram from ws → a < from → lookup ws a ≡ None
 found_below ram from [] a is below = refl
 found_below ram from (w ∷ ws) a is below =
     let other : w.0 ≢ a = λ same. absurd (omega (arith, same, is.0, below)) in
     rw (ne_eqb w.0 a other) (found_below ram (w.0 + 4) ws a is.4 (omega (arith, is.0, below)))
 
-pub left_head : (ram : List Region) (ws : List (ℕ × ℕ)) (w : ℕ × ℕ) (rest : List (ℕ × ℕ)) → ws ≡ w ∷ rest → AreLeft ram ws → (w.0 % 4 ≡ 0) × (is_in ram w.0 ≡ true)
+pub left_head : (ram : List Region) (ws : List (ℕ × ℕ)) (w : ℕ × ℕ) (rest : List (ℕ × ℕ)) → ws ≡ w ∷ rest → AreLeft ram ws → (w.0 % 4 ≡ 0) × (is_in_ram ram w.0 ≡ true)
 left_head ram ws w rest split left = let are : AreStartWords ram left.from (w ∷ rest) = subst (AreStartWords ram left.from) split left.words in (are.1, are.2)
 
 pub left_next : (ram : List Region) (ws : List (ℕ × ℕ)) (w : ℕ × ℕ) (rest : List (ℕ × ℕ)) → ws ≡ w ∷ rest → AreLeft ram ws → AreLeft ram rest
@@ -97,13 +97,13 @@ left_next ram ws w rest split left = let are : AreStartWords ram left.from (w �
 
 -- the words that were put, and those that are left, are all words
 pub record IsPut (ram : List Region) (words left : List (ℕ × ℕ)) (at : ℕ → Seen) : Type 0 where
-  pub known : (n : ℕ) → or_else (found left (n * 4)) (known_word (at n)) ≡ found words (n * 4)
-  pub seen : (n : ℕ) → at n ≡ (if is_in ram (n * 4) then valued (known_word (at n)) else Vacant)
+  pub known : (n : ℕ) → or_else (lookup left (n * 4)) (known_word (at n)) ≡ lookup words (n * 4)
+  pub seen : (n : ℕ) → at n ≡ (if is_in_ram ram (n * 4) then valued (known_word (at n)) else Vacant)
 
-pub put_none : (ram : List Region) (words : List (ℕ × ℕ)) (at : ℕ → Seen) → ((n : ℕ) → at n ≡ (if is_in ram (n * 4) then Untouched else Vacant)) → IsPut ram words words at
+pub put_none : (ram : List Region) (words : List (ℕ × ℕ)) (at : ℕ → Seen) → ((n : ℕ) → at n ≡ (if is_in_ram ram (n * 4) then Untouched else Vacant)) → IsPut ram words words at
 put_none ram words at bare = record {
-  known = λ n. ap (or_else (found words (n * 4))) (ap (λ (q : Seen). known_word q) (bare n) ∙ none (is_in ram (n * 4))) ∙ nothing (found words (n * 4));
-  seen = λ n. bare n ∙ again (is_in ram (n * 4)) (known_word (at n)) (ap (λ (q : Seen). known_word q) (bare n) ∙ none (is_in ram (n * 4)));
+  known = λ n. ap (or_else (lookup words (n * 4))) (ap (λ (q : Seen). known_word q) (bare n) ∙ none (is_in_ram ram (n * 4))) ∙ nothing (lookup words (n * 4));
+  seen = λ n. bare n ∙ again (is_in_ram ram (n * 4)) (known_word (at n)) (ap (λ (q : Seen). known_word q) (bare n) ∙ none (is_in_ram ram (n * 4)));
 }
   where
     none : (b : Bool) → known_word (if b then Untouched else Vacant) ≡ None
@@ -118,11 +118,11 @@ put_none ram words at bare = record {
     again b o e = rw e refl
 
 -- a word of RAM can be put
-pub put_there : (ram : List Region) (words left : List (ℕ × ℕ)) (at : ℕ → Seen) (a : ℕ) → IsPut ram words left at → a % 4 ≡ 0 → is_in ram a ≡ true → is_there (at (a / 4)) ≡ true
+pub put_there : (ram : List Region) (words left : List (ℕ × ℕ)) (at : ℕ → Seen) (a : ℕ) → IsPut ram words left at → a % 4 ≡ 0 → is_in_ram ram a ≡ true → is_there (at (a / 4)) ≡ true
 put_there ram words left at a p aligned inside =
     let back : a / 4 * 4 ≡ a = omega (arith, aligned) in
-    let is : is_in ram (a / 4 * 4) ≡ true = subst (λ (n : ℕ). is_in ram n ≡ true) (sym back) inside in
-    ap (λ (q : Seen). is_there q) (p.seen (a / 4)) ∙ go (is_in ram (a / 4 * 4)) (known_word (at (a / 4))) is
+    let is : is_in_ram ram (a / 4 * 4) ≡ true = subst (λ (n : ℕ). is_in_ram ram n ≡ true) (sym back) inside in
+    ap (λ (q : Seen). is_there q) (p.seen (a / 4)) ∙ go (is_in_ram ram (a / 4 * 4)) (known_word (at (a / 4))) is
   where
     go : (b : Bool) (o : Option ℕ) → b ≡ true → is_there (if b then valued o else Vacant) ≡ true
     go true None e = refl
@@ -136,46 +136,46 @@ put_next ram words left w rest at new split are p here others = record { known =
     head : AreStartWords ram are.from (w ∷ rest)
     head = subst (AreStartWords ram are.from) split are.words
 
-    known : (n : ℕ) → or_else (found rest (n * 4)) (known_word (new n)) ≡ found words (n * 4)
+    known : (n : ℕ) → or_else (lookup rest (n * 4)) (known_word (new n)) ≡ lookup words (n * 4)
     known n = elim (cases_Bool (eqb w.0 (n * 4))) [
       | inl at_word ↦
           let same : w.0 ≡ n * 4 = eqb-true w.0 (n * 4) at_word in
           let number : n ≡ w.0 / 4 = omega (arith, same) in
-          let none : found rest (n * 4) ≡ None = found_below ram (w.0 + 4) rest (n * 4) head.4 (omega (arith, same)) in
+          let none : lookup rest (n * 4) ≡ None = found_below ram (w.0 + 4) rest (n * 4) head.4 (omega (arith, same)) in
           let now : known_word (new n) ≡ Some w.1 = ap (λ (k : ℕ). known_word (new k)) number ∙ ap (λ (q : Seen). known_word q) here in
-          let found_is : found left (n * 4) ≡ Some w.1 = rw (split, at_word) refl in
-          let was : or_else (Some w.1) (known_word (at n)) ≡ found words (n * 4) = subst (λ (o : Option ℕ). or_else o (known_word (at n)) ≡ found words (n * 4)) found_is (p.known n) in
+          let found_is : lookup left (n * 4) ≡ Some w.1 = rw (split, at_word) refl in
+          let was : or_else (Some w.1) (known_word (at n)) ≡ lookup words (n * 4) = subst (λ (o : Option ℕ). or_else o (known_word (at n)) ≡ lookup words (n * 4)) found_is (p.known n) in
           rw (none, now) was
       | inr other ↦
           let apart : n ≢ w.0 / 4 = λ same. (let aligned : w.0 % 4 ≡ 0 = head.1 in let e : w.0 ≡ n * 4 = omega (arith, same, aligned) in let no : true ≡ false = sym (eq-eqb w.0 (n * 4) e) ∙ other in absurd (cc no)) in
           let now : known_word (new n) ≡ known_word (at n) = ap (λ (q : Seen). known_word q) (others n apart) in
-          let found_is : found left (n * 4) ≡ found rest (n * 4) = rw (split, other) refl in
-          ap (or_else (found rest (n * 4))) now ∙ subst (λ (o : Option ℕ). or_else o (known_word (at n)) ≡ found words (n * 4)) found_is (p.known n)
+          let found_is : lookup left (n * 4) ≡ lookup rest (n * 4) = rw (split, other) refl in
+          ap (or_else (lookup rest (n * 4))) now ∙ subst (λ (o : Option ℕ). or_else o (known_word (at n)) ≡ lookup words (n * 4)) found_is (p.known n)
     ]
 
-    seen : (n : ℕ) → new n ≡ (if is_in ram (n * 4) then valued (known_word (new n)) else Vacant)
+    seen : (n : ℕ) → new n ≡ (if is_in_ram ram (n * 4) then valued (known_word (new n)) else Vacant)
     seen n = elim (cases_Bool (eqb w.0 (n * 4))) [
       | inl at_word ↦
           let same : w.0 ≡ n * 4 = eqb-true w.0 (n * 4) at_word in
           let number : n ≡ w.0 / 4 = omega (arith, same) in
-          let inside : is_in ram (n * 4) ≡ true = subst (λ (a : ℕ). is_in ram a ≡ true) same head.2 in
+          let inside : is_in_ram ram (n * 4) ≡ true = subst (λ (a : ℕ). is_in_ram ram a ≡ true) same head.2 in
           let is : new n ≡ Known w.1 = ap new number ∙ here in
           rw (inside, is) refl
       | inr other ↦
           let apart : n ≢ w.0 / 4 = λ same. (let aligned : w.0 % 4 ≡ 0 = head.1 in let e : w.0 ≡ n * 4 = omega (arith, same, aligned) in let no : true ≡ false = sym (eq-eqb w.0 (n * 4) e) ∙ other in absurd (cc no)) in
-          subst (λ (q : Seen). q ≡ (if is_in ram (n * 4) then valued (known_word q) else Vacant)) (sym (others n apart)) (p.seen n)
+          subst (λ (q : Seen). q ≡ (if is_in_ram ram (n * 4) then valued (known_word q) else Vacant)) (sym (others n apart)) (p.seen n)
     ]
 
 -- when all words were put, memory shows them
 pub put_all : (ram : List Region) (words left : List (ℕ × ℕ)) (at : ℕ → Seen) → AreStartWords ram 0 words → left ≡ [] → IsPut ram words left at
     → Shows ram (given_word words) (zero_elsewhere (given_word words)) at
 put_all ram words left at are none p = record {
-  words = λ n. p.seen n ∙ ap (λ (o : Option ℕ). if is_in ram (n * 4) then valued o else Vacant) (given n) ∙ go (is_in ram (n * 4)) (found words (n * 4));
+  words = λ n. p.seen n ∙ ap (λ (o : Option ℕ). if is_in_ram ram (n * 4) then valued o else Vacant) (given n) ∙ go (is_in_ram ram (n * 4)) (lookup words (n * 4));
   inside = λ n v e. found_in ram 0 words (n * 4) v are e;
 }
   where
-    given : (n : ℕ) → known_word (at n) ≡ found words (n * 4)
-    given n = subst (λ (l : List (ℕ × ℕ)). or_else (found l (n * 4)) (known_word (at n)) ≡ found words (n * 4)) none (p.known n)
+    given : (n : ℕ) → known_word (at n) ≡ lookup words (n * 4)
+    given n = subst (λ (l : List (ℕ × ℕ)). or_else (lookup l (n * 4)) (known_word (at n)) ≡ lookup words (n * 4)) none (p.known n)
 
     go : (b : Bool) (o : Option ℕ) → (if b then valued o else Vacant) ≡ (if b then seen_given o (unwrap_or o 0) else Vacant)
     go true None = refl
@@ -184,7 +184,7 @@ put_all ram words left at are none p = record {
 
 -- ---- the final words
 
-found_above : (ram : List Region) (from : ℕ) (ws : List (ℕ × ℕ)) (a v : ℕ) → AreStartWords ram from ws → found ws a ≡ Some v → from ≤ a
+found_above : (ram : List Region) (from : ℕ) (ws : List (ℕ × ℕ)) (a v : ℕ) → AreStartWords ram from ws → lookup ws a ≡ Some v → from ≤ a
 found_above ram from [] a v is e = absurd (cc e)
 found_above ram from (w ∷ ws) a v is e = elim (cases_Bool (eqb w.0 a)) [
   | inl here ↦ (let same = eqb-true w.0 a here in omega (arith, same, is.0))
@@ -218,7 +218,7 @@ more_told m at w ws v last seen rest = (all, every)
 
 -- the final words are those of the whole memory just where they are seen
 pub each_told : (ram : List Region) (given : ℕ → Option ℕ) (m : ℕ → ℕ) (at : ℕ → Seen) (from : ℕ) (ws : List (ℕ × ℕ)) (last : List ℕ) → Shows ram given m at → AreStartWords ram from ws
-    → ((a v : ℕ) → a % 4 ≡ 0 → found ws a ≡ Some v → given (a / 4) ≡ Some v) → length last ≡ length ws → EachSeen at ws last ↔ (words_at m ws ≡ last)
+    → ((a v : ℕ) → a % 4 ≡ 0 → lookup ws a ≡ Some v → given (a / 4) ≡ Some v) → length last ≡ length ws → EachSeen at ws last ↔ (words_at m ws ≡ last)
 each_told ram given m at from [] [] s is h size = ((λ each. refl), λ e k within. absurd (omega (arith, within)))
 each_told ram given m at from [] (v ∷ last) s is h size = absurd (omega (arith, size))
 each_told ram given m at from (w ∷ ws) [] s is h size = absurd (omega (arith, size))
@@ -227,5 +227,5 @@ each_told ram given m at from (w ∷ ws) (v ∷ last) s is h size =
     more_told m at w ws v last (shown_given ram given m at s (w.0 / 4) w.1 here)
     (each_told ram given m at (w.0 + 4) ws last s is.4 (λ a x aligned e. h a x aligned (later a x e)) (omega (arith, size)))
   where
-    later : (a x : ℕ) → found ws a ≡ Some x → found (w ∷ ws) a ≡ Some x
+    later : (a x : ℕ) → lookup ws a ≡ Some x → lookup (w ∷ ws) a ≡ Some x
     later a x e = let above = found_above ram (w.0 + 4) ws a x is.4 e in rw (ne_eqb w.0 a (λ same. absurd (omega (arith, same, above)))) e

@@ -10,11 +10,11 @@ use Rattle.rv_hart.specs.declared.record.Record.{Record}
 use Rattle.rv_hart.specs.Whole.{WholeHart, Step, step_of, hart_after}
 use Rattle.tpl_ast.specs.declared.template.Region.{Region}
 use Rattle.tpl_admit.specs.Races.{footprint_of}
-use Rattle.tpl_admit.specs.Solo.{Moment, Solo, solo, solo_on, knows_also, AreInitialised, knows_after}
-use Rattle.tpl_admit.specs.Failures.{IsRight, IsWrong, AreRight, GoesWrong}
-use Rattle.given_start.specs.Knowledge.{knows_of, whole_of}
-use Rattle.replay_check.specs.Memory.{Shows, AreInWords}
-use Rattle.replay_check.specs.Replay.{Takes, Strays, TakesAll, StraysAt}
+use Rattle.tpl_admit.specs.Solo.{Solo, solo, solo_on, knows_also, AreInitialised, knows_after, SoloStep, IsRight, AreRight}
+use Rattle.replay_check.specs.Failures.{IsWrong, GoesWrong}
+use Rattle.given_start.specs.Internal.Knowledge.{knows_of, whole_of}
+use Rattle.replay_check.specs.Internal.Memory.{Shows, AreInWords}
+use Rattle.replay_check.specs.Internal.Replay.{Takes, Strays, TakesAll, StraysAt}
 use Rattle.replay_check.proofs.Shown.{shown_same, shown_after, after_both}
 
 pub split_at : {A : Type 0} (xs : List A) (i : ℕ) (x : A) → i < length xs → x ≡ get_or xs i x → drop i xs ≡ x ∷ drop (i + 1) xs
@@ -30,18 +30,18 @@ pub record IsUpTo (ram : List Region) (given : ℕ → Option ℕ) (origin : ℕ
   pub right : AreRight given (knows_of now) (whole_of ram now) memory (drop i rs) → AreRight given (knows_of first) (whole_of ram first) origin rs
   pub wrong : (kind step : ℕ) → GoesWrong given (knows_of now) (whole_of ram now) memory (drop i rs) i kind step → GoesWrong given (knows_of first) (whole_of ram first) origin rs 0 kind step
   pub hart : (solo (length rs) (whole_of ram first) origin).hart ≡ (solo (length (drop i rs)) (whole_of ram now) memory).hart
-  pub knows : knows_after (knows_of first) (solo (length rs) (whole_of ram first) origin).moments ≡ knows_after (knows_of now) (solo (length (drop i rs)) (whole_of ram now) memory).moments
+  pub knows : knows_after (knows_of first) (solo (length rs) (whole_of ram first) origin).steps ≡ knows_after (knows_of now) (solo (length (drop i rs)) (whole_of ram now) memory).steps
 
 pub up_to_none : (ram : List Region) (given : ℕ → Option ℕ) (m : ℕ → ℕ) (h : Hart) (at : ℕ → Seen) (rs : List Record) → Shows ram given m at → IsUpTo ram given m h h at rs 0
 up_to_none ram given m h at rs s = record { memory = m; shows = s; after = refl; words = λ a. a; right = λ a. a; wrong = λ kind step g. g; hart = refl; knows = refl }
 
 -- the course of a hart whose first step is this
 solo_next : (n : ℕ) (h h' : WholeHart) (m m' : ℕ → ℕ) (s : Step) → step_of h m ≡ Some s → hart_after s h ≡ h' → memory_after s.did.accesses m ≡ m'
-    → solo (suc n) h m ≡ record { moments = record { hart = h; memory = m; step = s } ∷ (solo n h' m').moments; hart = (solo n h' m').hart }
+    → solo (suc n) h m ≡ record { steps = record { hart = h; memory = m; step = s } ∷ (solo n h' m').steps; hart = (solo n h' m').hart }
 solo_next n h h' m m' s is after stored =
     ap (λ (o : Option Step). solo_on o h m (λ h' m'. solo n h' m')) is
-    ∙ ap (λ (w : ℕ → ℕ). let r : Solo = record { moments = record { hart = h; memory = m; step = s } ∷ (solo n (hart_after s h) w).moments; hart = (solo n (hart_after s h) w).hart } in r) stored
-    ∙ ap (λ (g : WholeHart). let r : Solo = record { moments = record { hart = h; memory = m; step = s } ∷ (solo n g m').moments; hart = (solo n g m').hart } in r) after
+    ∙ ap (λ (w : ℕ → ℕ). let r : Solo = record { steps = record { hart = h; memory = m; step = s } ∷ (solo n (hart_after s h) w).steps; hart = (solo n (hart_after s h) w).hart } in r) stored
+    ∙ ap (λ (g : WholeHart). let r : Solo = record { steps = record { hart = h; memory = m; step = s } ∷ (solo n g m').steps; hart = (solo n g m').hart } in r) after
 
 -- what the step stores is what its record says
 stored : (given : ℕ → Option ℕ) (knows : ℕ → Bool) (h : WholeHart) (m : ℕ → ℕ) (r : Record) (s : Step) → IsRight given knows h m r s → memory_after s.did.accesses m ≡ memory_after r.accesses m
@@ -88,7 +88,7 @@ up_to_next ram given origin first now new at seen rs i r split u t same words =
       right = λ a. u.right (rw split (right_next ram given m now new r rest t a));
       wrong = λ kind step g. u.wrong kind step (rw split (wrong_next ram given m now new r rest i kind step t g));
       hart = u.hart ∙ ap (λ (s : Solo). s.hart) course;
-      knows = u.knows ∙ ap (λ (s : Solo). knows_after (knows_of now) s.moments) course ∙ ap (λ (k : ℕ → Bool). knows_after k (solo (length rest) (whole_of ram new) m').moments) (sym t.knows);
+      knows = u.knows ∙ ap (λ (s : Solo). knows_after (knows_of now) s.steps) course ∙ ap (λ (k : ℕ → Bool). knows_after k (solo (length rest) (whole_of ram new) m').steps) (sym t.knows);
     }
 
 pub up_to_end : (ram : List Region) (given : ℕ → Option ℕ) (origin : ℕ → ℕ) (first now : Hart) (at : ℕ → Seen) (rs : List Record) (i : ℕ) → drop i rs ≡ [] → IsUpTo ram given origin first now at rs i
@@ -96,7 +96,7 @@ pub up_to_end : (ram : List Region) (given : ℕ → Option ℕ) (origin : ℕ �
 up_to_end ram given origin first now at rs i none u = record {
   right = u.right (rw none tt);
   hart = u.hart ∙ ap (λ (l : List Record). (solo (length l) (whole_of ram now) u.memory).hart) none;
-  knows = u.knows ∙ ap (λ (l : List Record). knows_after (knows_of now) (solo (length l) (whole_of ram now) u.memory).moments) none;
+  knows = u.knows ∙ ap (λ (l : List Record). knows_after (knows_of now) (solo (length l) (whole_of ram now) u.memory).steps) none;
 }
 
 pub up_to_memory : (ram : List Region) (given : ℕ → Option ℕ) (origin : ℕ → ℕ) (first now : Hart) (at : ℕ → Seen) (rs : List Record) (i : ℕ) → drop i rs ≡ [] → IsUpTo ram given origin first now at rs i
@@ -117,8 +117,8 @@ up_to_wrong ram given origin first now at rs i r kind split u strays = u.wrong k
 
 -- records that are right are those of the hart alone, each initialised
 pub record IsCourse (words : ℕ → Option ℕ) (knows : ℕ → Bool) (rs : List Record) (s : Solo) : Type 0 where
-  pub records : map (λ (x : Moment). x.step.did) s.moments ≡ rs
-  pub initialised : AreInitialised words knows s.moments
+  pub records : map (λ (x : SoloStep). x.step.did) s.steps ≡ rs
+  pub initialised : AreInitialised words knows s.steps
 
 pub course : (words : ℕ → Option ℕ) (knows : ℕ → Bool) (h : WholeHart) (m : ℕ → ℕ) (rs : List Record) → AreRight words knows h m rs → IsCourse words knows rs (solo (length rs) h m)
 course words knows h m [] right = record { records = refl; initialised = tt }
@@ -127,30 +127,30 @@ course words knows h m (r ∷ rs) right =
     let h' : WholeHart = hart_after s h in
     let m' : ℕ → ℕ = memory_after s.did.accesses m in
     let ih = course words (knows_also s.writes knows) h' m' rs right.2 in
-    let whole : Solo = record { moments = record { hart = h; memory = m; step = s } ∷ (solo (length rs) h' m').moments; hart = (solo (length rs) h' m').hart } in
+    let whole : Solo = record { steps = record { hart = h; memory = m; step = s } ∷ (solo (length rs) h' m').steps; hart = (solo (length rs) h' m').hart } in
     let is : solo (suc (length rs)) h m ≡ whole = ap (λ (o : Option Step). solo_on o h m (λ h' m'. solo (length rs) h' m')) right.1.step in
     let done : IsCourse words knows (r ∷ rs) whole = record {
-      records = ap (λ (q : Record). q ∷ map (λ (x : Moment). x.step.did) (solo (length rs) h' m').moments) right.1.did ∙ ap (λ (qs : List Record). r ∷ qs) ih.records;
+      records = ap (λ (q : Record). q ∷ map (λ (x : SoloStep). x.step.did) (solo (length rs) h' m').steps) right.1.did ∙ ap (λ (qs : List Record). r ∷ qs) ih.records;
       initialised = (right.1.set, ih.initialised);
     } in
     subst (IsCourse words knows (r ∷ rs)) (sym is) done
 
 pub right_course : (words : ℕ → Option ℕ) (knows : ℕ → Bool) (h : WholeHart) (m : ℕ → ℕ) (rs : List Record)
-    → map (λ (x : Moment). x.step.did) (solo (length rs) h m).moments ≡ rs → AreInitialised words knows (solo (length rs) h m).moments → AreRight words knows h m rs
+    → map (λ (x : SoloStep). x.step.did) (solo (length rs) h m).steps ≡ rs → AreInitialised words knows (solo (length rs) h m).steps → AreRight words knows h m rs
 right_course words knows h m [] records initialised = tt
 right_course words knows h m (r ∷ rs) records initialised = go (step_of h m) refl (λ k h' m' a b. right_course words k h' m' rs a b) records initialised
   where
     go : (o : Option Step) → step_of h m ≡ o
-        → ((k : ℕ → Bool) (h' : WholeHart) (m' : ℕ → ℕ) → map (λ (x : Moment). x.step.did) (solo (length rs) h' m').moments ≡ rs → AreInitialised words k (solo (length rs) h' m').moments → AreRight words k h' m' rs)
-        → map (λ (x : Moment). x.step.did) (solo_on o h m (λ h' m'. solo (length rs) h' m')).moments ≡ r ∷ rs
-        → AreInitialised words knows (solo_on o h m (λ h' m'. solo (length rs) h' m')).moments
+        → ((k : ℕ → Bool) (h' : WholeHart) (m' : ℕ → ℕ) → map (λ (x : SoloStep). x.step.did) (solo (length rs) h' m').steps ≡ rs → AreInitialised words k (solo (length rs) h' m').steps → AreRight words k h' m' rs)
+        → map (λ (x : SoloStep). x.step.did) (solo_on o h m (λ h' m'. solo (length rs) h' m')).steps ≡ r ∷ rs
+        → AreInitialised words knows (solo_on o h m (λ h' m'. solo (length rs) h' m')).steps
         → AreRight words knows h m (r ∷ rs)
     go None e ih records initialised = absurd (cc records)
     go (Some s) e ih records initialised =
         let h' : WholeHart = hart_after s h in
         let m' : ℕ → ℕ = memory_after s.did.accesses m in
         let head : s.did ≡ r = cc records in
-        let tail : map (λ (x : Moment). x.step.did) (solo (length rs) h' m').moments ≡ rs = cc records in
+        let tail : map (λ (x : SoloStep). x.step.did) (solo (length rs) h' m').steps ≡ rs = cc records in
         (s, record { set = initialised.0; step = e; did = head }, ih (knows_also s.writes knows) h' m' tail initialised.1)
 
 -- ---- one failure at most

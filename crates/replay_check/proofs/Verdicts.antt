@@ -10,14 +10,14 @@ use Rattle.rv_hart.specs.declared.record.Record.{Record}
 use Rattle.tpl_admit.specs.declared.certificate.Cert.{Cert}
 use Rattle.tpl_admit.specs.Starts.{start_of, trace_of, word_of, first_hart, first_memory, is_given}
 use Rattle.tpl_admit.specs.Races.{footprint_of, footprints_of}
-use Rattle.tpl_admit.specs.Validity.{IsHartValid, IsValid}
+use Rattle.tpl_admit.specs.Validity.{IsHartValid, IsValid, MemoryEndsAsPrinted}
 use Rattle.tpl_admit.specs.Admission.{Admits}
 use Rattle.tpl_admit.specs.WellFormed.{IsWellFormed}
 use Rattle.tpl_admit.specs.Unmet.{IsLeastFailure}
-use Rattle.tpl_admit.specs.Failures.{HartIsRight, HartGoesWrong, EndsAsTold, MemoryEndsAsTold, AllAreRight, AllEndAsTold, FailsInStep, FailsAtEnd, did_before, RacesFrom, FailsInRace, IsFirstFailure}
+use Rattle.replay_check.specs.Failures.{HartIsRight, HartGoesWrong, AllAreRight, AllEndAsTold, FailsInStep, FailsAtEnd, did_before, RacesFrom, FailsInRace, IsFirstFailure}
 use Rattle.tpl_admit.proofs.Failures.{admitted_never, one_least}
-use Rattle.replay_check.specs.Memory.{AreInWords}
-use Rattle.replay_check.specs.Replay.{EndsOtherwise, IsReplayed}
+use Rattle.replay_check.specs.Internal.Memory.{AreInWords}
+use Rattle.replay_check.specs.Internal.Replay.{EndsOtherwise, IsReplayed}
 use Rattle.replay_check.proofs.Ends.{states_places}
 use Rattle.replay_check.proofs.Traces.{course, right_course, right_never, goes_once}
 
@@ -31,8 +31,7 @@ valid c w r free admits = record {
     words = w.words;
     harts = λ k within.
         let run = course (word_of c) (is_given (start_of c k)) (first_hart c k) (first_memory c) (trace_of c k) (r.steps k within) in
-        let ends : EndsAsTold c k = r.ends k within in
-        record { records = run.records; initialised = run.initialised; final_fixed = ends.fixed; final_places = ends.places };
+        record { records = run.records; initialised = run.initialised; ends = r.ends k within };
     race_free = free;
     last = r.memory;
   };
@@ -49,7 +48,7 @@ first_end c hart step right other is = inr (inl (record {
   step_is = is;
 }))
 
-pub first_of_memory : (c : Cert) (hart : ℕ) → AllAreRight c → AllEndAsTold c → (MemoryEndsAsTold c → ⊥) → hart ≡ length c.start → IsFirstFailure c 4 hart 0
+pub first_of_memory : (c : Cert) (hart : ℕ) → AllAreRight c → AllEndAsTold c → (MemoryEndsAsPrinted c → ⊥) → hart ≡ length c.start → IsFirstFailure c 4 hart 0
 first_of_memory c hart right ends wrong is = inr (inr (inl (record {
   steps = right;
   ends = ends;
@@ -83,9 +82,6 @@ first_of_template c hart step atom r free least = inr (inr (inr (inr (record {
 
 valid_right : (c : Cert) (k : ℕ) → IsHartValid c k → HartIsRight c k
 valid_right c k v = right_course (word_of c) (is_given (start_of c k)) (first_hart c k) (first_memory c) (trace_of c k) v.records v.initialised
-
-valid_ends : (c : Cert) (k : ℕ) → IsHartValid c k → EndsAsTold c k
-valid_ends c k v = record { fixed = v.final_fixed; places = v.final_places }
 
 -- a hart whose steps are right has none that is wrong
 never_wrong : (c : Cert) (k kind step : ℕ) → HartIsRight c k → HartGoesWrong c k kind step → ⊥
@@ -192,7 +188,7 @@ race_once c kind hart step kind' hart' step' f g = elim (cases_order hart hart')
 
 pub valid_never : (c : Cert) (kind hart step : ℕ) → IsFirstFailure c kind hart step → IsValid c → ⊥
 valid_never c kind hart step (inl f) v = never_wrong c hart kind step (valid_right c hart (v.sound.harts hart f.there)) f.wrong
-valid_never c kind hart step (inr (inl f)) v = f.wrong (valid_ends c hart (v.sound.harts hart f.there))
+valid_never c kind hart step (inr (inl f)) v = f.wrong (v.sound.harts hart f.there).ends
 valid_never c kind hart step (inr (inr (inl f))) v = f.wrong v.sound.last
 valid_never c kind hart step (inr (inr (inr (inl f)))) v = race_never c kind hart step v.sound.race_free f
 valid_never c kind hart step (inr (inr (inr (inr f)))) v = admitted_never c hart step f.atom v.admits f.least

@@ -1,3 +1,2 @@
-pub mod Memory
-pub mod Racing
-pub mod Replay
+pub mod Failures
+pub mod Internal

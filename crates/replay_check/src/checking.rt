@@ -7,12 +7,12 @@ ghost use Rattle.tpl_admit.specs.Starts.{start_of, final_of, trace_of, first_mem
 ghost use Rattle.tpl_admit.specs.Races.{footprint_of, footprints_of};
 ghost use Rattle.tpl_admit.specs.WellFormed.{IsWellFormed};
 ghost use Rattle.tpl_ast.specs.States.{IsState};
-ghost use Rattle.tpl_admit.specs.Validity.{in_turn, IsValid};
-ghost use Rattle.tpl_admit.specs.Faithfulness.{IsFaithful};
-ghost use Rattle.tpl_admit.specs.Failures.{HartIsRight, HartGoesWrong, AllAreRight, AllEndAsTold, EndsAsTold, FailsInStep, MemoryEndsAsTold, IsFirstFailure};
+ghost use Rattle.tpl_admit.specs.Validity.{in_turn, IsValid, EndsAsPrinted, MemoryEndsAsPrinted};
+ghost use Rattle.rv_system.specs.Faithfulness.{IsFaithful};
+ghost use Rattle.replay_check.specs.Failures.{HartIsRight, HartGoesWrong, AllAreRight, AllEndAsTold, FailsInStep, IsFirstFailure};
 ghost use Rattle.replay_check.specs.declared.verdict.Verdict.TheVariants.{Yes, No};
-ghost use Rattle.replay_check.specs.Memory.{Shows, ShowsOf, WhereShown, AreInWords};
-ghost use Rattle.replay_check.specs.Replay.{AllEndAs, EndsAs, EndsOtherwise, IsFixedTold, IsReplayed};
+ghost use Rattle.replay_check.specs.Internal.Memory.{Shows, ShowsOf, WhereShown, AreInWords};
+ghost use Rattle.replay_check.specs.Internal.Replay.{AllEndAs, EndsAs, EndsOtherwise, IsFixedTold, IsReplayed};
 ghost use Rattle.tpl_ast.specs.Limits.{most_records};
 
 use crate::memory::{are_last, memory_of};
@@ -26,7 +26,7 @@ use rv_hart::{Hart, Record, apply_all};
 use rv_mem::PartMem;
 use std::alloc::Global;
 use tpl_admit::{Cert, HartState, admits};
-use tpl_ast::template_law;
+use tpl_lang::template_law;
 
 /// Where hart k starts.
 fn start_state(cert: &Cert, k: u8) -> &HartState
@@ -103,7 +103,7 @@ fn ends_as_told(cert: &Cert, k: u8, hart: &Hart) -> bool
     requires well_formed { IsWellFormed cert.now }
     requires there { k < length cert.now.start }
     requires end { EndsAs cert.now k hart.now }
-    ensures { IsTrue result ↔ EndsAsTold cert.now k }
+    ensures { IsTrue result ↔ EndsAsPrinted cert.now k }
 {
     let told = final_state(cert, k);
     is_fixed_told(told, k, hart) && are_told(hart, told.places.as_slice())
@@ -113,7 +113,7 @@ fn ends_as_told(cert: &Cert, k: u8, hart: &Hart) -> bool
 fn memory_ends_as_told(cert: &Cert, memory: &PartMem) -> bool
     requires well_formed { IsWellFormed cert.now }
     requires end { ShowsOf cert.now (in_turn (length cert.now.start) (footprints_of (trace_of cert.now)) (first_memory cert.now)) (part_at memory.now) }
-    ensures { IsTrue result ↔ MemoryEndsAsTold cert.now }
+    ensures { IsTrue result ↔ MemoryEndsAsPrinted cert.now }
 {
     are_last(memory, cert.words.as_slice(), cert.last.as_slice())
 }

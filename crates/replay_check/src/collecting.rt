@@ -7,7 +7,7 @@ ghost use Rattle.foot_map.specs.Races.{IsRaceFree, IsFootprint};
 ghost use Rattle.tpl_admit.specs.Starts.{trace_of};
 ghost use Rattle.tpl_admit.specs.Races.{footprint_of, footprints_of};
 ghost use Rattle.tpl_admit.specs.WellFormed.{IsWellFormed};
-ghost use Rattle.replay_check.specs.Racing.{with_accesses};
+ghost use Rattle.replay_check.specs.Internal.Racing.{with_accesses};
 
 use crate::OutOfMemory;
 use foot_map::{FootMap, blocking_laws, footprint_laws};

@@ -3,9 +3,9 @@ ghost use Rattle.std.specs.Prelude.{◌≡◌, ◌↔◌, ℕ, ◌*◌, ◌/◌,
 ghost use Rattle.rv_mem.specs.declared.words.Seen.TheVariants.{Known, Untouched, Vacant};
 ghost use Rattle.rv_mem.specs.Part.{part_at};
 ghost use Rattle.tpl_admit.specs.Starts.{zero_elsewhere};
-ghost use Rattle.tpl_ast.specs.States.{is_in};
-ghost use Rattle.given_start.specs.Regions.{AreAligned};
-ghost use Rattle.replay_check.specs.Memory.{given_word, Shows, IsStart};
+ghost use Rattle.tpl_ast.specs.States.{is_in_ram};
+ghost use Rattle.given_start.specs.Internal.Regions.{AreAligned};
+ghost use Rattle.replay_check.specs.Internal.Memory.{given_word, Shows, IsStart};
 
 use crate::OutOfMemory;
 use given_start::ram_of;
@@ -16,7 +16,7 @@ use tpl_ast::Region;
 /// A memory with this RAM of which no word is known.
 fn bare_memory(alloc: Global, ram: &[Region]) -> Result<PartMem, OutOfMemory>
     requires { AreAligned ram.now }
-    ensures { IfOk result (λ m. (n : ℕ) → part_at m n ≡ (if is_in ram.now (n * 4) then Untouched else Vacant)) }
+    ensures { IfOk result (λ m. (n : ℕ) → part_at m n ≡ (if is_in_ram ram.now (n * 4) then Untouched else Vacant)) }
 {
     let ram = ram_of(alloc, ram)?;
     Ok(PartMem::new(alloc, &ram)?)

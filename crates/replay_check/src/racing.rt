@@ -7,8 +7,8 @@ ghost use Rattle.foot_map.specs.Races.{IsRaceFree, IsFootprint};
 ghost use Rattle.tpl_admit.specs.Starts.{trace_of};
 ghost use Rattle.tpl_admit.specs.Races.{footprint_of, footprints_of};
 ghost use Rattle.tpl_admit.specs.WellFormed.{IsWellFormed};
-ghost use Rattle.tpl_admit.specs.Failures.{RacesFrom};
-ghost use Rattle.replay_check.specs.Racing.{with_accesses, RacesAt};
+ghost use Rattle.replay_check.specs.Failures.{RacesFrom};
+ghost use Rattle.replay_check.specs.Internal.Racing.{with_accesses, RacesAt};
 ghost use Rattle.tpl_ast.specs.Limits.{most_records};
 
 use crate::OutOfMemory;

@@ -4,8 +4,8 @@ ghost use Rattle.rv_mem.specs.Part.{part_at};
 ghost use Rattle.rv_script.specs.Memory.{memory_after};
 ghost use Rattle.rv_hart.specs.Effects.{IsInWord, seen_after};
 ghost use Rattle.tpl_admit.specs.Races.{footprint_of};
-ghost use Rattle.replay_check.specs.Memory.{Shows, WhereShown, AreInWords};
-ghost use Rattle.replay_check.specs.Replay.{IsSameChange, IsSameRecord, Takes, Strays, TakesAll, StraysAt};
+ghost use Rattle.replay_check.specs.Internal.Memory.{Shows, WhereShown, AreInWords};
+ghost use Rattle.replay_check.specs.Internal.Replay.{IsSameChange, IsSameRecord, Takes, Strays, TakesAll, StraysAt};
 ghost use Rattle.tpl_ast.specs.Limits.{most_records};
 
 use crate::verdict::Kind;

@@ -9,7 +9,7 @@ use Rattle.std.proofs.Math.Pow.{mod-mod-pow}
 use Rattle.std.specs.List.{filter}
 use Rattle.dom_set.specs.Elements.{elements_of, is_in, is_within}
 use Rattle.dom_set.specs.Laws.{ElementsPass, IsInTests}
-use Rattle.row_parts.specs.Blocks.{is_in_block, AllPass, NonePass}
+use Rattle.row_parts.specs.Internal.Blocks.{is_in_block, AllPass, NonePass}
 use Rattle.row_parts.proofs.Members.{common, is_in-elements_of, one_step, same}
 
 in_block : (start d y : ℕ) → (nat_le start y && nat_lt y (start + d)) ≡ true → (start ≤ y) × (y < start + d)

@@ -6,7 +6,7 @@ use Rattle.std.proofs.Math.Nat.{mod-add-div'}
 use Rattle.sv_walk.specs.declared.entry.Kind.{Kind}
 use Rattle.sv_walk.specs.Entry.{access_cause}
 use Rattle.sv_walk.specs.Translation.{Reached, At, Fails, arrived}
-use Rattle.row_parts.specs.Blocks.{turned}
+use Rattle.row_parts.specs.Internal.Blocks.{turned}
 use Rattle.row_parts.specs.Rows.{End, Reaches, found}
 use Rattle.row_parts.proofs.Cuts.{apart}
 use Rattle.row_parts.proofs.EndLists.{two}

@@ -1,10 +1,7 @@
-pub mod Times
-pub mod Blocks
-pub mod Classes
 pub mod Forms
 pub mod Rows
 pub mod Reached
 pub mod Items
 pub mod Alike
-pub mod Targets
 pub mod Gaps
+pub mod Internal

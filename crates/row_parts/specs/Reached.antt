@@ -13,6 +13,10 @@ use Rattle.row_parts.specs.Rows.{Adds, Reaches, end_at, found, is_of}
 abbrev pub AddsAll : List Row → List Row → List ℕ → News → RowEnd → Type 0
 AddsAll old new set news end = Adds old new (λ x root leaf. found (counts news.apart x && (is_in set x && (is_of news.root root && is_of news.leaf leaf))) (end_at end x))
 
+-- the addresses of a set that pass a test lead to it
+abbrev pub AddsChosen : List Row → List Row → List ℕ → (ℕ → Bool) → News → RowEnd → Type 0
+AddsChosen old new set test news end = Adds old new (λ x root leaf. found (counts news.apart x && ((is_in set x && test x) && (is_of news.root root && is_of news.leaf leaf))) (end_at end x))
+
 -- the lowest bits of each address, so many, are its offset from the address of a frame
 abbrev pub AddsReached : (ℕ → Bool) → Kind → List Row → List Row → List ℕ → News → ℕ → ℕ → Type 0
 AddsReached ram kind old new set news frame width = Adds old new (λ x root leaf. found (counts news.apart x && (is_in set x && (is_of news.root root && is_of news.leaf leaf))) (Reaches (arrived ram kind (frame * 4096 + x % 2 ^ width))))

@@ -1,7 +1,7 @@
 // Numbers of a set whose lowest bits pass a test, by blocks of numbers.
 ghost use Rattle.std.specs.Prelude.{◌≡◌, ℕ, ◌+◌, ◌-◌, ◌%◌, ◌^◌, ◌<◌, ◌≤◌, ◌&&◌, ◌||◌, IfOk, OnOk};
 ghost use Rattle.dom_set.specs.Elements.{is_in, is_within};
-ghost use Rattle.row_parts.specs.Blocks.{is_in_block, AllPass, NonePass};
+ghost use Rattle.row_parts.specs.Internal.Blocks.{is_in_block, AllPass, NonePass};
 ghost use Rattle.row_parts.specs.declared.blocks.Cover.TheVariants.{All, Nothing, Some as SomePass};
 
 use dom_set::{OutOfMemory, Set, set_laws};

@@ -3,7 +3,7 @@ ghost use Rattle.std.specs.Prelude.{◌≡◌, ℕ, ◌/◌, ◌%◌, ◌<◌, �
 ghost use Rattle.std.specs.List.{list_any};
 ghost use Rattle.rv_mem.specs.Ram.{in_ram, AreWhole};
 ghost use Rattle.row_parts.specs.declared.blocks.Cover.TheVariants.{All, Nothing};
-ghost use Rattle.row_parts.specs.Blocks.{turned};
+ghost use Rattle.row_parts.specs.Internal.Blocks.{turned};
 
 use crate::blocks::{Choice, Cover, power};
 use rv_mem::Ram;
@@ -72,7 +72,7 @@ impl<'a> RamPart<'a> {
 impl<'a> Choice for RamPart<'a> {
     ghost use Rattle.std.specs.Prelude.{◌+◌, ◌*◌, ◌/◌};
     ghost use Rattle.rv_mem.specs.Ram.{in_ram};
-    ghost use Rattle.row_parts.specs.Blocks.{turned};
+    ghost use Rattle.row_parts.specs.Internal.Blocks.{turned};
 
     ghost test = { λ p y. turned p.wanted (in_ram p.ram.now ((p.frame * 4096 + y) / 4)) };
 

@@ -1,8 +1,9 @@
 // Rows of addresses that lead to physical addresses, of which some may lie outside RAM.
-ghost use Rattle.std.specs.Prelude.{◌≡◌, ℕ, ◌+◌, ◌-◌, ◌*◌, ◌%◌, ◌^◌, ◌<◌, ◌≤◌, ◌++◌, ◌&&◌, Option, OnOk, IfOk};
+ghost use Rattle.std.specs.Prelude.{◌≡◌, ℕ, ◌+◌, ◌-◌, ◌*◌, ◌/◌, ◌%◌, ◌^◌, ◌<◌, ◌≤◌, ◌++◌, ◌&&◌, Option, OnOk, IfOk};
 ghost use Rattle.dom_set.specs.Elements.{is_in};
 ghost use Rattle.rv_mem.specs.Ram.{in_ram};
-ghost use Rattle.row_parts.specs.Reached.{AddsAll, AddsReached};
+ghost use Rattle.row_parts.specs.Internal.Blocks.{turned};
+ghost use Rattle.row_parts.specs.Reached.{AddsAll, AddsChosen, AddsReached};
 
 use crate::blocks::{Choice, Cover, chosen, mask_of, power};
 use crate::ram_part::RamPart;
@@ -62,40 +63,23 @@ fn push_part(
     Ok(())
 }
 
-/// Appends the rows of addresses that lead into a frame of which RAM has a part.
-fn push_parts(
+/// Appends a row of those addresses of a set that lead into the part of a frame that is in RAM, or into the other one, unless
+/// there is none. The lowest bits of each, `width` of them, are the offset from the frame's address.
+fn push_chosen(
     alloc: Global,
     rows: &mut Vec<Row>,
-    ram: &Ram,
-    kind: Kind,
     set: &Set,
     news: &News,
-    frame: u32,
+    part: &RamPart,
     width: u32,
+    end: RowEnd,
 ) -> Result<(), OutOfMemory>
     requires width { width ≤ 32 }
     requires grain { 2 ≤ width }
-    requires frame { frame < 2 ^ 20 }
-    requires aligned { frame * 4096 % 2 ^ width ≡ 0 }
-    ensures { OnOk result (AddsReached (in_ram ram.now) kind rows.old.items rows.new.items set.now news.now frame width) }
+    ensures { OnOk result (AddsChosen rows.old.items rows.new.items set.now (λ x. turned part.now.wanted (in_ram part.now.ram.now ((part.now.frame * 4096 + x % 2 ^ width) / 4))) news.now end) }
 {
-    let base = frame * 4096;
-    let mask = mask_of(width);
-    let inside = RamPart {
-        ram,
-        frame,
-        wanted: true,
-    };
-    let ea = chosen(alloc, set, &inside, width)?;
-    push_part(alloc, rows, ea, news, RowEnd::Pa { base, mask })?;
-    let outside = RamPart {
-        ram,
-        frame,
-        wanted: false,
-    };
-    let ea = chosen(alloc, set, &outside, width)?;
-    let fault = RowEnd::Fault(kind.access_cause());
-    push_part(alloc, rows, ea, news, fault)?;
+    let ea = chosen(alloc, set, part, width)?;
+    push_part(alloc, rows, ea, news, end)?;
     Ok(())
 }
 
@@ -127,10 +111,10 @@ pub fn push_reached(
         frame,
         wanted: true,
     };
+    let base = frame * 4096;
+    let mask = mask_of(width);
     match inside.judge(0, width) {
         Cover::All => {
-            let base = frame * 4096;
-            let mask = mask_of(width);
             push_all(alloc, rows, set, news, RowEnd::Pa { base, mask })?;
             Ok(())
         }
@@ -139,7 +123,21 @@ pub fn push_reached(
             Ok(())
         }
         Cover::Some => {
-            push_parts(alloc, rows, ram, kind, set, news, frame, width)?;
+            push_chosen(
+                alloc,
+                rows,
+                set,
+                news,
+                &inside,
+                width,
+                RowEnd::Pa { base, mask },
+            )?;
+            let outside = RamPart {
+                ram,
+                frame,
+                wanted: false,
+            };
+            push_chosen(alloc, rows, set, news, &outside, width, fault)?;
             Ok(())
         }
     }

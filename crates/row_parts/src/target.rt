@@ -1,6 +1,6 @@
 // Where page table entries lead.
 ghost use Rattle.std.specs.Prelude.{◌≡◌, true};
-ghost use Rattle.row_parts.specs.Targets.{second_target, root_target};
+ghost use Rattle.row_parts.specs.Internal.Targets.{second_target, root_target};
 
 use sv_walk::{Kind, View, is_closed, is_invalid, is_pointer, is_reserved, is_unaligned};
 
@@ -17,7 +17,7 @@ pub enum Target {
 }
 
 /// Where a second entry leads.
-#[tactic(auto, unfolding(crate::specs::Targets::second_target))]
+#[tactic(auto, unfolding(crate::specs::Internal::Targets::second_target))]
 pub fn second_target(v: View, kind: Kind, entry: u32) -> Target
     ensures { result ≡ second_target v kind entry }
 {
@@ -28,7 +28,7 @@ pub fn second_target(v: View, kind: Kind, entry: u32) -> Target
 }
 
 /// Where a root entry leads.
-#[tactic(auto, unfolding(crate::specs::Targets::root_target))]
+#[tactic(auto, unfolding(crate::specs::Internal::Targets::root_target))]
 pub fn root_target(v: View, kind: Kind, entry: u32) -> Target
     ensures { result ≡ root_target v kind entry }
 {

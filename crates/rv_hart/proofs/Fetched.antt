@@ -20,7 +20,7 @@ use Rattle.rv_hart.specs.declared.record.Control.TheVariants.{Mret, Sret}
 use Rattle.rv_hart.specs.Fixed.{Fixed}
 use Rattle.rv_hart.specs.Machine.{arriving, at_address, data_view, fence_row, jump_row, jumped, load_at, load_from, reached, store_at, store_to, upper_pc_row, upper_row}
 use Rattle.rv_hart.specs.Privileged.{address_fence_row, is_withheld, lazy_address, went, csr_accessed, csr_exchanged, csr_granted, csr_immediate_row, mret_row, old_value, refused, retired, sret_row, trap, write_csr}
-use Rattle.rv_hart.specs.Rests.{after_access, csr_access, rest}
+use Rattle.rv_hart.specs.Internal.Rests.{after_access, csr_access, rest}
 use Rattle.rv_script.proofs.Results.{Ends, ends_then}
 
 -- the change has this word

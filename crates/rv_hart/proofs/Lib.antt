@@ -15,3 +15,5 @@ pub mod Entries
 pub mod Locals
 pub mod Askable
 pub mod Fits
+pub mod Operations
+pub mod CsrRows

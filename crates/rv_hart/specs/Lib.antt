@@ -6,9 +6,10 @@ pub mod Machine
 pub mod Whole
 pub mod Sighted
 pub mod View
-pub mod Reaching
 pub mod Effects
 pub mod Clauses
-pub mod Rests
 pub mod Asked
 pub mod Local
+pub mod Operations
+pub mod CsrRows
+pub mod Internal

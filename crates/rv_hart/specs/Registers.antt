@@ -8,4 +8,4 @@ no_registers = Some 0 ∷ replicate 31 None
 -- the registers after a write
 abbrev pub written : Option (ℕ × ℕ) → List (Option ℕ) → List (Option ℕ)
 written None regs = regs
-written (Some (n, value)) regs = slice_set regs n (Some value)
+written (Some w) regs = slice_set regs w.0 (Some w.1)

@@ -1,6 +1,6 @@
 -- The code's harts and answers as the machine's.
 use Rattle.std.specs.Prelude.{ℕ, ◌/◌, List, [], Option, Some, None, slice_index_or}
-use Rattle.rv_csr.specs.State.{lazy_value_at}
+use Rattle.rv_csr.specs.State.{CsrValues, lazy_value_at}
 use Rattle.rv_mem.specs.declared.words.Seen.{Seen}
 use Rattle.rv_mem.specs.Seen.{known_word, is_there}
 use Rattle.rv_script.specs.declared.access.Access.{Access}
@@ -15,25 +15,20 @@ use Rattle.rv_hart.specs.declared.record.Stepped.TheVariants.{Did, Missing, Outs
 use Rattle.rv_hart.specs.declared.looked.Looked.{Looked}
 use Rattle.rv_hart.specs.declared.looked.Looked.TheVariants.{Does, Missing as LooksMissing, Outside as LooksOutside}
 use Rattle.rv_hart.specs.Registers.{written}
-use Rattle.rv_hart.specs.Fixed.{Fixed}
+use Rattle.rv_hart.specs.Fixed.{Fixed, fixed_by}
 use Rattle.rv_hart.specs.Whole.{record_of}
 
--- what is known of a hart and of memory, whose words go by their numbers
+-- what is known of these registers and CSRs, and of memory, whose words go by their numbers
+abbrev pub known_by : List (Option ℕ) → CsrValues → (ℕ → Seen) → Known
+known_by regs csrs at (Reg n) = slice_index_or regs n None
+known_by regs csrs at (Csr addr) = lazy_value_at csrs addr
+known_by regs csrs at (Word addr) = known_word (at (addr / 4))
+
 abbrev pub known : Hart → (ℕ → Seen) → Known
-known h at (Reg n) = slice_index_or h.regs n None
-known h at (Csr addr) = lazy_value_at h.csrs addr
-known h at (Word addr) = known_word (at (addr / 4))
+known h at = known_by h.regs h.csrs at
 
 abbrev pub fixed_of : Hart → (ℕ → Seen) → Fixed
-fixed_of h at = record {
-  pc = h.pc;
-  privilege = h.privilege;
-  mstatus = h.csrs.mstatus;
-  medeleg = h.csrs.medeleg;
-  satp = h.csrs.satp;
-  number = h.csrs.hart;
-  ram = λ n. is_there (at n);
-}
+fixed_of h at = fixed_by h.pc h.privilege h.csrs (λ n. is_there (at n))
 
 abbrev pub looked : List Access → Looked → Answer Access Change
 looked log (Does c) = DoesSo log c

@@ -1,7 +1,9 @@
 // Laws of the machine.
+ghost use Rattle.rv_hart.specs.CsrRows.{CsrRowsAgree};
 ghost use Rattle.rv_hart.specs.Asked.{AsksInOrder, AsksPlaces, AsksRegisters, NeedsPlaces};
 ghost use Rattle.rv_hart.specs.Clauses.{IsSightless, TakenAreTaken, ToldAreTaken, TrueSightsShowTheStep};
 ghost use Rattle.rv_hart.specs.Local.{LocalByBytes};
+ghost use Rattle.rv_hart.specs.Operations.{RowsHaveEffects};
 
 /// Does nothing. Its contract says that the machine takes a branch exactly where the branch's condition holds.
 #[tactic(auto, using(crate::proofs::Branches::taken_are_taken))]
@@ -43,4 +45,18 @@ pub fn question_law()
     ensures registers { AsksRegisters }
     ensures places { AsksPlaces }
     ensures needs { NeedsPlaces }
+{}
+
+/// Does nothing. Its contract says what each operation does, by its name: each row of the table of encodings has an effect,
+/// and none leaves the machine for want of one.
+#[tactic(auto, using(crate::proofs::Operations::rows_have_effects))]
+pub fn row_law()
+    ensures { RowsHaveEffects }
+{}
+
+/// Does nothing. Its contract says that CSR instructions do what a read, and what a write of their result, at their address do:
+/// the same value, the same registers behind it, and refused or not modelled alike.
+#[tactic(auto, using(crate::proofs::CsrRows::csr_rows_agree))]
+pub fn csr_law()
+    ensures { CsrRowsAgree }
 {}

@@ -16,7 +16,9 @@ mod stepping;
 mod storing;
 
 pub use hart::Hart;
-pub use laws::{branch_law, local_law, no_sights_law, question_law, step_law, true_sights_law};
+pub use laws::{
+    branch_law, csr_law, local_law, no_sights_law, question_law, row_law, step_law, true_sights_law,
+};
 pub use record::{Change, Control, Outcome, Record, Stepped};
 pub use rv_csr::{Csrs, Priv};
 pub use rv_mem::{Mem, Seen, Words};

@@ -5,7 +5,7 @@ ghost use Rattle.sv_walk.specs.Clauses.{AreAligned, entry_access};
 ghost use Rattle.rv_hart.specs.Clauses.{IsSound};
 ghost use Rattle.rv_hart.specs.Effects.{IsInWord};
 ghost use Rattle.rv_hart.specs.Machine.{data_view, fetch_view};
-ghost use Rattle.rv_hart.specs.Reaching.{IsReached};
+ghost use Rattle.rv_hart.specs.Internal.Reaching.{IsReached};
 ghost use Rattle.rv_hart.specs.Sighted.{sighted};
 ghost use Rattle.rv_hart.specs.View.{fixed_of, known};
 

@@ -10,11 +10,11 @@ use Rattle.rv_mem.specs.declared.words.Seen.{Seen}
 use Rattle.rv_mem.specs.declared.words.Seen.TheVariants.{Known as KnownWord}
 use Rattle.rv_mem.specs.Seen.{is_there}
 use Rattle.tpl_ast.specs.declared.template.Region.{Region}
-use Rattle.tpl_ast.specs.States.{AreStartWords, is_in, is_key}
-use Rattle.tpl_admit.specs.Starts.{found}
+use Rattle.tpl_ast.specs.States.{AreStartWords, is_key, is_in_ram}
+use Rattle.tpl_admit.specs.Starts.{lookup}
 use Rattle.given_start.proofs.Lazy.{key_positive}
 use Rattle.rv_system.specs.Fills.{even_place, filled}
-use Rattle.rv_system.specs.Starting.{IsFilledMemory}
+use Rattle.rv_system.specs.Internal.Starting.{IsFilledMemory}
 
 -- ---- one place
 
@@ -223,9 +223,9 @@ given_as before start after fill same given = record {
 pub record ArePut (ram : List Region) (words left : List (ℕ × ℕ)) (fill : ℕ) (at : ℕ → Seen) : Type 0 where
   pub from : ℕ
   pub words_are : AreStartWords ram from left
-  pub there : (n : ℕ) → is_there (at n) ≡ is_in ram (n * 4)
-  pub kept : (n v : ℕ) → found left (n * 4) ≡ Some v → found words (n * 4) ≡ Some v
-  pub values : (n v : ℕ) → at n ≡ KnownWord v → found left (n * 4) ≡ None → unwrap_or (found words (n * 4)) fill ≡ v
+  pub there : (n : ℕ) → is_there (at n) ≡ is_in_ram ram (n * 4)
+  pub kept : (n v : ℕ) → lookup left (n * 4) ≡ Some v → lookup words (n * 4) ≡ Some v
+  pub values : (n v : ℕ) → at n ≡ KnownWord v → lookup left (n * 4) ≡ None → unwrap_or (lookup words (n * 4)) fill ≡ v
 
 pub put_first : (ram : List Region) (words : List (ℕ × ℕ)) (fill : ℕ) (at : ℕ → Seen) → AreStartWords ram 0 words → IsFilledMemory ram [] fill at → ArePut ram words words fill at
 put_first ram words fill at are even = record {
@@ -236,7 +236,7 @@ put_first ram words fill at are even = record {
   values = λ n v is none. ap (λ (o : Option ℕ). unwrap_or o fill) none ∙ even.values n v is;
 }
 
-found_below : (ram : List Region) (from : ℕ) (ws : List (ℕ × ℕ)) (a : ℕ) → AreStartWords ram from ws → a < from → found ws a ≡ None
+found_below : (ram : List Region) (from : ℕ) (ws : List (ℕ × ℕ)) (a : ℕ) → AreStartWords ram from ws → a < from → lookup ws a ≡ None
 found_below ram from [] a is below = refl
 found_below ram from (w ∷ ws) a is below =
     let other : w.0 ≢ a = λ same. absurd (omega (arith, same, is.0, below)) in
@@ -253,7 +253,7 @@ put_there ram words left rest w fill at split p =
     let head = head_of ram words left rest w fill at split p in
     let aligned : w.0 % 4 ≡ 0 = head.1 in
     let back : w.0 / 4 * 4 ≡ w.0 = omega (arith, aligned) in
-    p.there (w.0 / 4) ∙ ap (λ (a : ℕ). is_in ram a) back ∙ head.2
+    p.there (w.0 / 4) ∙ ap (λ (a : ℕ). is_in_ram ram a) back ∙ head.2
 
 pub put_next : (ram : List Region) (words left rest : List (ℕ × ℕ)) (w : ℕ × ℕ) (fill : ℕ) (at new : ℕ → Seen) → left ≡ w ∷ rest → ArePut ram words left fill at
     → new (w.0 / 4) ≡ KnownWord w.1 → ((n : ℕ) → n ≢ w.0 / 4 → new n ≡ at n) → ArePut ram words rest fill new
@@ -273,19 +273,19 @@ put_next ram words left rest w fill at new split p here others =
     head : AreStartWords ram p.from (w ∷ rest)
     head = head_of ram words left rest w fill at split p
 
-    here_found : (n : ℕ) → w.0 ≡ n * 4 → (found left (n * 4) ≡ Some w.1) × (found rest (n * 4) ≡ None)
+    here_found : (n : ℕ) → w.0 ≡ n * 4 → (lookup left (n * 4) ≡ Some w.1) × (lookup rest (n * 4) ≡ None)
     here_found n address = (rw (split, eq-eqb w.0 (n * 4) address) refl, found_below ram (w.0 + 4) rest (n * 4) head.4 (omega (arith, address)))
 
-    other_found : (n : ℕ) → w.0 ≢ n * 4 → found left (n * 4) ≡ found rest (n * 4)
+    other_found : (n : ℕ) → w.0 ≢ n * 4 → lookup left (n * 4) ≡ lookup rest (n * 4)
     other_found n other = rw (split, ne_eqb w.0 (n * 4) other) refl
 
-    rest_found : (n v : ℕ) → found rest (n * 4) ≡ Some v → found left (n * 4) ≡ Some v
+    rest_found : (n v : ℕ) → lookup rest (n * 4) ≡ Some v → lookup left (n * 4) ≡ Some v
     rest_found n v is = elim (cases_eq w.0 (n * 4)) [
       | inl address ↦ (let no : None ≡ Some v = sym (here_found n address).1 ∙ is in absurd (cc no))
       | inr other ↦ other_found n other ∙ is
     ]
 
-    values : (n v : ℕ) → new n ≡ KnownWord v → found rest (n * 4) ≡ None → unwrap_or (found words (n * 4)) fill ≡ v
+    values : (n v : ℕ) → new n ≡ KnownWord v → lookup rest (n * 4) ≡ None → unwrap_or (lookup words (n * 4)) fill ≡ v
     values n v is none = elim (cases_eq n (w.0 / 4)) [
       | inl same ↦
           let aligned : w.0 % 4 ≡ 0 = head.1 in
@@ -301,5 +301,5 @@ put_next ram words left rest w fill at new split p here others =
 pub put_all : (ram : List Region) (words left : List (ℕ × ℕ)) (fill : ℕ) (at : ℕ → Seen) → left ≡ [] → ArePut ram words left fill at → IsFilledMemory ram words fill at
 put_all ram words left fill at end p = record {
   there = p.there;
-  values = λ n v is. p.values n v is (ap (λ (ws : List (ℕ × ℕ)). found ws (n * 4)) end);
+  values = λ n v is. p.values n v is (ap (λ (ws : List (ℕ × ℕ)). lookup ws (n * 4)) end);
 }

@@ -9,7 +9,7 @@ use Rattle.tpl_ast.specs.declared.template.HartState.{HartState}
 use Rattle.tpl_ast.specs.States.{ArePlaces, AreStartWords, IsState, IsWord, is_key, is_legal_place}
 use Rattle.tpl_admit.specs.declared.certificate.Cert.{Cert}
 use Rattle.tpl_admit.specs.System.{System}
-use Rattle.tpl_admit.specs.Starts.{found, no_state, start_of, word_of, first_system, AgreesWith}
+use Rattle.tpl_admit.specs.Starts.{no_state, start_of, word_of, first_system, AgreesWith, lookup}
 use Rattle.tpl_admit.specs.WellFormed.{IsWellFormed}
 use Rattle.rv_system.specs.Fills.{Fill, even_place, evenly, filled, filled_system, no_fill, fill_of, IsFilledBy, IsSameFor, AreLegalPlaces, IsLegalFill, IsLegalHart, IsLegalSystem}
 use Rattle.rv_system.proofs.Law.{start_word}
@@ -47,28 +47,28 @@ memory_words c fill words small n =
 -- what is given of memory are words
 pub fills_agree : (c : Cert) (fill : Fill) → AreStartWords c.template.ram 0 c.words → ((n : ℕ) → IsWord (fill.words n)) → AgreesWith c (filled_system c fill)
 fills_agree c fill words small = record {
-  harts = λ k l. record { fixed = refl; places = λ key v is. given_at (found (start_of c k).places) (fill.places k) key v is };
+  harts = λ k l. record { fixed = refl; places = λ key v is. given_at (lookup (start_of c k).places) (fill.places k) key v is };
   words = λ n v is. given_at (word_of c) fill.words n v is;
   memory = λ n. memory_words c fill words small n;
 }
 
 pub fills_are_kept : (c : Cert) (fill : Fill) → IsFilledBy c fill (filled_system c fill)
 fills_are_kept c fill = record {
-  places = λ k key none. open_at (found (start_of c k).places) (fill.places k) key none;
+  places = λ k key none. open_at (lookup (start_of c k).places) (fill.places k) key none;
   words = λ n none. open_at (word_of c) fill.words n none;
 }
 
 pub fills_are_all : (c : Cert) (sys : System) → AgreesWith c sys → IsSameFor c sys (filled_system c (fill_of sys))
 fills_are_all c sys agrees = record {
   fixed = λ k l. (agrees.harts k l).fixed;
-  places = λ k key l. own_fill (found (start_of c k).places) (sys.harts k).file (agrees.harts k l).places key;
+  places = λ k key l. own_fill (lookup (start_of c k).places) (sys.harts k).file (agrees.harts k l).places key;
   words = λ n. own_fill (word_of c) sys.memory agrees.words n;
 }
 
 -- ---- legal values
 
 -- a place that is given has a word, and a legal value
-given_legal : (from : ℕ) (es : List (ℕ × ℕ)) → ArePlaces from es → AllByRecursion (λ e. is_legal_place e ≡ true) es → (key v : ℕ) → found es key ≡ Some v → IsWord v × (is_legal_place (key, v) ≡ true)
+given_legal : (from : ℕ) (es : List (ℕ × ℕ)) → ArePlaces from es → AllByRecursion (λ e. is_legal_place e ≡ true) es → (key v : ℕ) → lookup es key ≡ Some v → IsWord v × (is_legal_place (key, v) ≡ true)
 given_legal from [] are legal key v is = absurd cc
 given_legal from (e ∷ es) are legal key v is = elim (cases_Bool (eqb e.0 key)) [
   | inl here ↦
@@ -90,7 +90,7 @@ legal_hart c fill k is legal = record {
   mstatus = (is.mstatus, is.legal_mstatus);
   medeleg = (is.medeleg, is.legal_medeleg);
   satp = (is.satp, is.legal_satp);
-  places = λ key place. filled_has (λ key v. IsWord v × (is_legal_place (key, v) ≡ true)) (found (start_of c k).places) (fill.places k)
+  places = λ key place. filled_has (λ key v. IsWord v × (is_legal_place (key, v) ≡ true)) (lookup (start_of c k).places) (fill.places k)
       (λ key v given. given_legal 0 (start_of c k).places is.places is.legal_places key v given) key (legal key place);
 }
 

@@ -12,41 +12,41 @@ use Rattle.rv_hart.specs.declared.record.Record.{Record}
 use Rattle.rv_hart.specs.Whole.{WholeHart, sight_of, Step, step_of, hart_after}
 use Rattle.tpl_admit.specs.declared.certificate.Cert.{Cert}
 use Rattle.tpl_admit.specs.System.{System, run_of, times}
-use Rattle.tpl_admit.specs.Starts.{found, start_of, final_of, trace_of, word_of, fixed_in, AgreesWith, zero_elsewhere, first_hart, first_memory, first_system, is_given}
+use Rattle.tpl_admit.specs.Starts.{start_of, final_of, trace_of, word_of, fixed_in, AgreesWith, zero_elsewhere, first_hart, first_memory, first_system, is_given, lookup}
 use Rattle.tpl_ast.specs.States.{AreStartWords}
 use Rattle.tpl_admit.specs.Races.{footprint_of}
-use Rattle.tpl_admit.specs.Solo.{Moment, solo, solo_on, knows_also, AreInitialised, knows_after}
+use Rattle.tpl_admit.specs.Solo.{solo, solo_on, knows_also, AreInitialised, knows_after, SoloStep}
 use Rattle.tpl_admit.specs.Validity.{in_turn, IsHartValid, IsSound}
 use Rattle.tpl_ast.specs.declared.template.Region.{Region}
-use Rattle.tpl_admit.specs.Faithfulness.{IsFinished, IsFaithful}
+use Rattle.rv_system.specs.Faithfulness.{IsFinished, IsFaithful}
 use Rattle.rv_hart.proofs.Entries.{step_word}
 use Rattle.tpl_admit.proofs.Memory.{HoldsWords, has_cases, in_turn_none, in_turn_agree, in_turn_at, in_turn_apart}
 use Rattle.rv_system.proofs.Orders.{End, Ends, Goes, Alone, Setting, Good, Keeps, Whole, whole_run}
 
 -- what a hart does alone, as a chain
 solo_goes : (words : ℕ → Option ℕ) (end : End) (rs : List Record) (knows : ℕ → Bool) (h : WholeHart) (m : ℕ → ℕ)
-    → map (λ (x : Moment). x.step.did) (solo (length rs) h m).moments ≡ rs
-    → AreInitialised words knows (solo (length rs) h m).moments
-    → Ends (knows_after knows (solo (length rs) h m).moments) (solo (length rs) h m).hart end
+    → map (λ (x : SoloStep). x.step.did) (solo (length rs) h m).steps ≡ rs
+    → AreInitialised words knows (solo (length rs) h m).steps
+    → Ends (knows_after knows (solo (length rs) h m).steps) (solo (length rs) h m).hart end
     → Goes words end rs knows h m
 solo_goes words end [] knows h m records rests ends = ends
 solo_goes words end (r ∷ rs) knows h m records rests ends = go (step_of h m) refl (solo_goes words end rs) records rests ends
   where
     go : (o : Option Step) → step_of h m ≡ o
-        → ((knows' : ℕ → Bool) (h' : WholeHart) (m' : ℕ → ℕ) → map (λ (x : Moment). x.step.did) (solo (length rs) h' m').moments ≡ rs
-        → AreInitialised words knows' (solo (length rs) h' m').moments
-        → Ends (knows_after knows' (solo (length rs) h' m').moments) (solo (length rs) h' m').hart end
+        → ((knows' : ℕ → Bool) (h' : WholeHart) (m' : ℕ → ℕ) → map (λ (x : SoloStep). x.step.did) (solo (length rs) h' m').steps ≡ rs
+        → AreInitialised words knows' (solo (length rs) h' m').steps
+        → Ends (knows_after knows' (solo (length rs) h' m').steps) (solo (length rs) h' m').hart end
         → Goes words end rs knows' h' m')
-        → map (λ (x : Moment). x.step.did) (solo_on o h m (λ h' m'. solo (length rs) h' m')).moments ≡ r ∷ rs
-        → AreInitialised words knows (solo_on o h m (λ h' m'. solo (length rs) h' m')).moments
-        → Ends (knows_after knows (solo_on o h m (λ h' m'. solo (length rs) h' m')).moments) (solo_on o h m (λ h' m'. solo (length rs) h' m')).hart end
+        → map (λ (x : SoloStep). x.step.did) (solo_on o h m (λ h' m'. solo (length rs) h' m')).steps ≡ r ∷ rs
+        → AreInitialised words knows (solo_on o h m (λ h' m'. solo (length rs) h' m')).steps
+        → Ends (knows_after knows (solo_on o h m (λ h' m'. solo (length rs) h' m')).steps) (solo_on o h m (λ h' m'. solo (length rs) h' m')).hart end
         → Goes words end (r ∷ rs) knows h m
     go None e ih records rests ends = absurd cc
     go (Some s) e ih records rests ends =
         let h' : WholeHart = hart_after s h in
         let m' : ℕ → ℕ = memory_after s.did.accesses m in
         let head : s.did ≡ r = cc in
-        let tail : map (λ (x : Moment). x.step.did) (solo (length rs) h' m').moments ≡ rs = cc in
+        let tail : map (λ (x : SoloStep). x.step.did) (solo (length rs) h' m').steps ≡ rs = cc in
         (s, e, head, rests.0, ih (knows_also s.writes knows) h' m' tail rests.1 ends)
 
 -- each word that a chain touches is given
@@ -69,7 +69,7 @@ has_filled f given has x some = go (given x) refl some
     go (Some v) e s = has x v e
 
 -- the given words of two memories that agree on them
-words_same : (ws : List (ℕ × ℕ)) (m m' : ℕ → ℕ) → ((a : ℕ) → is_some (found ws a) ≡ true → m (a / 4) ≡ m' (a / 4))
+words_same : (ws : List (ℕ × ℕ)) (m m' : ℕ → ℕ) → ((a : ℕ) → is_some (lookup ws a) ≡ true → m (a / 4) ≡ m' (a / 4))
     → map (λ (w : ℕ × ℕ). m (w.0 / 4)) ws ≡ map (λ (w : ℕ × ℕ). m' (w.0 / 4)) ws
 words_same [] m m' h = refl
 words_same (w ∷ ws) m m' h =
@@ -79,7 +79,7 @@ words_same (w ∷ ws) m m' h =
     rw (head, tail) refl
 
 abbrev pub end_of : Cert → ℕ → End
-end_of c k = record { fixed = fixed_in c.template.ram k (final_of c k); places = found (final_of c k).places }
+end_of c k = record { fixed = fixed_in c.template.ram k (final_of c k); places = lookup (final_of c k).places }
 
 abbrev pub setting : Cert → System → Setting
 setting c s = record {
@@ -101,7 +101,7 @@ first_alone c k = record {
 }
 
 first_goes : (c : Cert) (k : ℕ) → IsHartValid c k → Goes (word_of c) (end_of c k) (trace_of c k) (is_given (start_of c k)) (first_hart c k) (first_memory c)
-first_goes c k v = solo_goes (word_of c) (end_of c k) (trace_of c k) (is_given (start_of c k)) (first_hart c k) (first_memory c) v.records v.initialised (record { fixed = v.final_fixed; places = v.final_places })
+first_goes c k v = solo_goes (word_of c) (end_of c k) (trace_of c k) (is_given (start_of c k)) (first_hart c k) (first_memory c) v.records v.initialised (record { fixed = v.ends.fixed; places = v.ends.places })
 
 all_given : (c : Cert) → IsSound c → (k : ℕ) → k < length c.start → (x : Access) → HasItem (footprint_of (trace_of c k)) x → is_some (word_of c (x.addr / 4)) ≡ true
 all_given c v k l x i = goes_given (word_of c) (end_of c k) (trace_of c k) (is_given (start_of c k)) (first_hart c k) (first_memory c) (first_goes c k (v.harts k l)) x i
@@ -110,7 +110,7 @@ pub good : (c : Cert) (s : System) → IsSound c → AgreesWith c s → Good (se
 good c s v a = record { race_free = v.race_free; origin = λ n some. has_filled s.memory (word_of c) a.words n some }
 
 -- start words are words at aligned addresses
-pub start_word : (ram : List Region) (from : ℕ) (ws : List (ℕ × ℕ)) → AreStartWords ram from ws → (a v : ℕ) → found ws a ≡ Some v → (a % 4 ≡ 0) × (v < 2 ^ 32)
+pub start_word : (ram : List Region) (from : ℕ) (ws : List (ℕ × ℕ)) → AreStartWords ram from ws → (a v : ℕ) → lookup ws a ≡ Some v → (a % 4 ≡ 0) × (v < 2 ^ 32)
 start_word ram from [] is a v e = absurd cc
 start_word ram from (w ∷ ws) is a v e = elim (cases_Bool (eqb w.0 a)) [
   | inl here ↦
@@ -120,10 +120,10 @@ start_word ram from (w ∷ ws) is a v e = elim (cases_Bool (eqb w.0 a)) [
   | inr other ↦ start_word ram (w.0 + 4) ws is.4 a v (rw other at e)
 ]
 
-start_aligned : (ram : List Region) (ws : List (ℕ × ℕ)) → AreStartWords ram 0 ws → (a : ℕ) → is_some (found ws a) ≡ true → a % 4 ≡ 0
-start_aligned ram ws is a some = go (found ws a) refl some
+start_aligned : (ram : List Region) (ws : List (ℕ × ℕ)) → AreStartWords ram 0 ws → (a : ℕ) → is_some (lookup ws a) ≡ true → a % 4 ≡ 0
+start_aligned ram ws is a some = go (lookup ws a) refl some
   where
-    go : (o : Option ℕ) → found ws a ≡ o → is_some o ≡ true → a % 4 ≡ 0
+    go : (o : Option ℕ) → lookup ws a ≡ o → is_some o ≡ true → a % 4 ≡ 0
     go None e s = absurd cc
     go (Some v) e s = (start_word ram 0 ws is a v e).0
 
@@ -139,7 +139,7 @@ keeps_first c s v a = record {
   each = λ k l. let agrees = a.harts k l in record {
     goes = first_goes c k (v.harts k l);
     fixed = agrees.fixed;
-    known = λ key some. has_filled (s.harts k).file (found (start_of c k).places) agrees.places key some;
+    known = λ key some. has_filled (s.harts k).file (lookup (start_of c k).places) agrees.places key some;
     others = λ key none. refl;
     whole = refl;
     memory = refl;
@@ -177,7 +177,7 @@ finished_at c s last after v a keeps none =
       words = words_same c.words last.memory (in_turn (length c.start) (λ k. footprint_of (trace_of c k)) (first_memory c)) (λ d some.
           let al : d % 4 ≡ 0 = start_aligned c.template.ram c.words v.words d some in
           let back : d / 4 * 4 ≡ d = omega arith in
-          let some' : is_some (word_of c (d / 4)) ≡ true = ap (λ (q : ℕ). is_some (found c.words q)) back ∙ some in
+          let some' : is_some (word_of c (d / 4)) ≡ true = ap (λ (q : ℕ). is_some (lookup c.words q)) back ∙ some in
           ap (λ (m : ℕ → ℕ). m (d / 4)) now
           ∙ in_turn_at (length c.start) (λ k. footprint_of (trace_of c k)) s.memory (first_memory c) (d / 4) (has_filled s.memory (word_of c) a.words (d / 4) some'))
           ∙ v.last;

@@ -3,7 +3,6 @@ use Rattle.std.proofs.Common.{◌≡◌, ◌≢◌, ℕ, suc, ◌/◌, ◌%◌, 
 use Rattle.std.specs.Option.{is_some}
 use Rattle.std.proofs.lemmas.Bool.{cases_Bool, cases_eq, cases_lt, eq-eqb, ne_eqb, eqb-true, and_parts}
 use Rattle.rv_script.specs.declared.access.Access.{Access}
-use Rattle.rv_script.specs.declared.place.Place.{Place}
 use Rattle.rv_script.specs.declared.place.Place.TheVariants.{Reg}
 use Rattle.rv_script.specs.Lists.{HasItem}
 use Rattle.rv_script.specs.Bytes.{word_address, covers, part_of, byte_at}
@@ -16,11 +15,11 @@ use Rattle.rv_hart.specs.declared.record.Record.{Record}
 use Rattle.rv_hart.specs.Fixed.{Fixed}
 use Rattle.rv_hart.specs.Machine.{script}
 use Rattle.rv_csr.specs.Table.{csr_key}
-use Rattle.rv_hart.specs.Whole.{WholeHart, sight_of, Step, sighted_step_of, step_of, needed_places, hart_after}
+use Rattle.rv_hart.specs.Whole.{WholeHart, sight_of, Step, sighted_step_of, step_of, hart_after}
 use Rattle.tpl_admit.specs.System.{System, replaced, moved, run_of, of_hart, times}
 use Rattle.foot_map.specs.Races.{IsRaceFree}
 use Rattle.tpl_admit.specs.Races.{footprint_of, footprints_of}
-use Rattle.tpl_admit.specs.Solo.{is_set, knows_also}
+use Rattle.tpl_admit.specs.Solo.{AreSet, is_set, knows_also}
 use Rattle.tpl_admit.specs.Validity.{in_turn}
 use Rattle.tpl_admit.proofs.Systems.{at_same, at_other}
 use Rattle.rv_hart.proofs.Entries.{step_local, planned_accesses, entry_access, entry_place}
@@ -35,15 +34,11 @@ pub record Ends (knows : ℕ → Bool) (h : WholeHart) (end : End) : Type 0 wher
   pub fixed : end.fixed ≡ h.fixed
   pub places : (key : ℕ) → end.places key ≡ cond (knows key) (Some (h.file key)) None
 
--- a step rests on what is known
-abbrev pub Rests : (ℕ → Option ℕ) → (ℕ → Bool) → WholeHart → (ℕ → ℕ) → Type 0
-Rests words knows h m = (place : Place) → HasItem (needed_places h m) place → is_set knows words place ≡ true
-
 -- alone, and resting on what is known, the hart does these records and then ends there
 abbrev pub Goes : (ℕ → Option ℕ) → End → List Record → (ℕ → Bool) → WholeHart → (ℕ → ℕ) → Type 0
 Goes words end [] knows h m = Ends knows h end
 Goes words end (r ∷ rs) knows h m =
-    (s : Step) × (step_of h m ≡ Some s) × (s.did ≡ r) × Rests words knows h m
+    (s : Step) × (step_of h m ≡ Some s) × (s.did ≡ r) × AreSet words knows h m
     × Goes words end rs (knows_also s.writes knows) (hart_after s h) (memory_after s.did.accesses m)
 
 -- what a hart is alone, how far it has come, and what is left

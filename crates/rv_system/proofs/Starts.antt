@@ -17,18 +17,18 @@ use Rattle.rv_hart.specs.Clauses.{Has}
 use Rattle.rv_hart.specs.Fixed.{Fixed}
 use Rattle.rv_hart.specs.View.{known, fixed_of}
 use Rattle.rv_hart.specs.Whole.{value_at}
-use Rattle.tpl_ast.specs.Laws.{TemplatesKeepLimits}
+use Rattle.tpl_lang.specs.Laws.{TemplatesKeepLimits}
 use Rattle.tpl_ast.specs.declared.template.Region.{Region}
-use Rattle.tpl_ast.specs.States.{is_in}
+use Rattle.tpl_ast.specs.States.{is_in_ram}
 use Rattle.tpl_admit.specs.declared.certificate.Cert.{Cert}
 use Rattle.tpl_admit.specs.Starts.{first_system, start_of}
 use Rattle.tpl_admit.specs.WellFormed.{IsWellFormed}
-use Rattle.given_start.specs.Knowledge.{fixed_now}
-use Rattle.given_start.specs.Regions.{AreAligned}
+use Rattle.given_start.specs.Internal.Knowledge.{fixed_now}
+use Rattle.given_start.specs.Internal.Regions.{AreAligned}
 use Rattle.given_start.proofs.Aligned.{frames_aligned}
 use Rattle.given_start.proofs.Knowledge.{known_small, known_csr}
 use Rattle.rv_system.specs.Fills.{even_place, evenly, filled_hart, filled_system}
-use Rattle.rv_system.specs.Starting.{AreFilledHarts, IsFilledHart, IsFilledMemory}
+use Rattle.rv_system.specs.Internal.Starting.{AreFilledHarts, IsFilledHart, IsFilledMemory}
 use Rattle.rv_system.specs.Systems.{AreAllKnown, IsWholeOf}
 
 pub ram_aligned : TemplatesKeepLimits → (c : Cert) → IsWellFormed c → AreAligned c.template.ram
@@ -44,7 +44,7 @@ known_is (KnownWord w) v e = let same : w ≡ v = cc e in ap (λ (x : ℕ). Know
 known_is Untouched v e = absurd (cc e)
 known_is Vacant v e = absurd (cc e)
 
-fixed_same : (ram : List Region) (h : Hart) (at : ℕ → Seen) → ((n : ℕ) → is_there (at n) ≡ is_in ram (n * 4)) → fixed_of h at ≡ fixed_now ram h
+fixed_same : (ram : List Region) (h : Hart) (at : ℕ → Seen) → ((n : ℕ) → is_there (at n) ≡ is_in_ram ram (n * 4)) → fixed_of h at ≡ fixed_now ram h
 fixed_same ram h at same =
     ap (λ (there : ℕ → Bool). let f : Fixed = record { pc = h.pc; privilege = h.privilege; mstatus = h.csrs.mstatus; medeleg = h.csrs.medeleg; satp = h.csrs.satp; number = h.csrs.hart; ram = there } in f) (fun_ext same)
 

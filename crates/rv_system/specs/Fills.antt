@@ -6,7 +6,7 @@ use Rattle.rv_hart.specs.Whole.{WholeHart}
 use Rattle.tpl_ast.specs.States.{AreStartWords, IsWord, is_key, is_legal_place}
 use Rattle.tpl_admit.specs.declared.certificate.Cert.{Cert}
 use Rattle.tpl_admit.specs.System.{System}
-use Rattle.tpl_admit.specs.Starts.{found, start_of, word_of, fixed_in, first_system, AgreesWith}
+use Rattle.tpl_admit.specs.Starts.{start_of, word_of, fixed_in, first_system, AgreesWith, lookup}
 use Rattle.tpl_admit.specs.WellFormed.{IsWellFormed}
 
 -- a value for each register and lazy CSR of each hart, by the hart's number and the key of the place, and for each word of memory, by its number
@@ -19,7 +19,7 @@ abbrev pub filled : (ℕ → Option ℕ) → (ℕ → ℕ) → ℕ → ℕ
 filled given fill x = unwrap_or (given x) (fill x)
 
 abbrev pub filled_hart : Cert → Fill → ℕ → WholeHart
-filled_hart c fill k = record { fixed = fixed_in c.template.ram k (start_of c k); file = filled (found (start_of c k).places) (fill.places k) }
+filled_hart c fill k = record { fixed = fixed_in c.template.ram k (start_of c k); file = filled (lookup (start_of c k).places) (fill.places k) }
 
 -- the system with the start's values where it gives some, and the fill's elsewhere
 abbrev pub filled_system : Cert → Fill → System
@@ -45,7 +45,7 @@ fill_of sys = record { places = λ k. (sys.harts k).file; words = sys.memory }
 
 -- each place and each word that the start doesn't give has the fill's value
 pub record IsFilledBy (c : Cert) (fill : Fill) (sys : System) : Type 0 where
-  pub places : (k key : ℕ) → found (start_of c k).places key ≡ None → (sys.harts k).file key ≡ fill.places k key
+  pub places : (k key : ℕ) → lookup (start_of c k).places key ≡ None → (sys.harts k).file key ≡ fill.places k key
   pub words : (n : ℕ) → word_of c n ≡ None → sys.memory n ≡ fill.words n
 
 -- two systems have the same memory and the same harts, of those that the certificate has

@@ -1,4 +1,5 @@
+pub mod Faithfulness
 pub mod Fills
 pub mod Systems
-pub mod Starting
 pub mod Runs
+pub mod Internal

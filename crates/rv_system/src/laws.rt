@@ -2,7 +2,7 @@
 ghost use Rattle.tpl_admit.specs.declared.certificate.Cert.{Cert};
 ghost use Rattle.tpl_admit.specs.Starts.{AgreesWith, first_system};
 ghost use Rattle.tpl_admit.specs.Validity.{IsSound};
-ghost use Rattle.tpl_admit.specs.Faithfulness.{IsFaithful};
+ghost use Rattle.rv_system.specs.Faithfulness.{IsFaithful};
 ghost use Rattle.rv_system.specs.Fills.{FillsAgree, FillsAreAll, FillsAreKept, FillsAreLegal, MachinesFill, ZeroIsAFill};
 
 /// From every system that agrees with the start of a sound certificate, of any number of harts, under every order of

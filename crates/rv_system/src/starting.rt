@@ -4,8 +4,8 @@ ghost use Rattle.rv_mem.specs.Full.{full_at};
 ghost use Rattle.tpl_ast.specs.States.{AreStartWords, IsState};
 ghost use Rattle.tpl_admit.specs.Starts.{start_of};
 ghost use Rattle.tpl_admit.specs.WellFormed.{IsWellFormed};
-ghost use Rattle.given_start.specs.Regions.{AreAligned};
-ghost use Rattle.rv_system.specs.Starting.{AreFilledHarts, IsFilledMemory};
+ghost use Rattle.given_start.specs.Internal.Regions.{AreAligned};
+ghost use Rattle.rv_system.specs.Internal.Starting.{AreFilledHarts, IsFilledMemory};
 
 use crate::OutOfMemory;
 use crate::filling::filled_hart;
@@ -14,7 +14,8 @@ use rv_hart::Hart;
 use rv_mem::FullMem;
 use std::alloc::Global;
 use tpl_admit::{Cert, HartState};
-use tpl_ast::{Region, template_law};
+use tpl_ast::Region;
+use tpl_lang::template_law;
 
 /// RAM of these regions, each word of which has the fill.
 fn even_memory(alloc: Global, ram: &[Region], fill: u32) -> Result<FullMem, OutOfMemory>

@@ -5,8 +5,8 @@ use Rattle.std.proofs.lemmas.Nat.{and-not, and_assoc, and_comm}
 use Rattle.std.specs.Int.Bits.{and_self}
 use Rattle.set_pieces.specs.declared.run.Run.{Run}
 use Rattle.set_pieces.specs.declared.pattern.Pattern.{Pattern}
-use Rattle.set_pieces.specs.Patterns.{matches}
-use Rattle.set_pieces.specs.Runs.{in_run}
+use Rattle.set_pieces.specs.Internal.Patterns.{matches}
+use Rattle.set_pieces.specs.Internal.Runs.{in_run}
 use Rattle.set_pieces.specs.Ends.{IsLast}
 use Rattle.set_pieces.proofs.Low.{same_tests}
 use Rattle.set_pieces.proofs.Pieces.{test_from, passes}

@@ -8,9 +8,9 @@ use Rattle.std.proofs.lemmas.Nat.{and_le_r}
 use Rattle.std.specs.Int.Bits.{and_zero_r}
 use Rattle.set_pieces.specs.declared.piece.Piece.{Piece}
 use Rattle.set_pieces.specs.declared.run.Run.{Run}
-use Rattle.set_pieces.specs.Patterns.{matches}
-use Rattle.set_pieces.specs.Pieces.{in_piece, holds}
-use Rattle.set_pieces.specs.Runs.{in_run}
+use Rattle.set_pieces.specs.Internal.Patterns.{matches}
+use Rattle.set_pieces.specs.Internal.Pieces.{in_piece, holds}
+use Rattle.set_pieces.specs.Internal.Runs.{in_run}
 use Rattle.set_pieces.specs.Ends.{HasPage}
 use Rattle.set_pieces.proofs.Masks.{and_above}
 use Rattle.set_pieces.proofs.Pieces.{test_from}

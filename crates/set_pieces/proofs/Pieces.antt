@@ -4,9 +4,9 @@ use Rattle.std.specs.Int.Bits.{bit_and, and_self}
 use Rattle.std.proofs.lemmas.Bool.{cases_lt, eqb-true, eq-eqb, leb-true, le-leb, lt-leb, lt-ltb, ltb-true, and_parts, and_from, false_from_ne_true, false≢true}
 use Rattle.std.proofs.lemmas.Bool.Decides.{nat_tests}
 use Rattle.std.proofs.lemmas.Nat.{and_assoc, and_mask}
-use Rattle.set_pieces.specs.Counting.{one, total}
+use Rattle.set_pieces.specs.Internal.Counting.{one, total}
 use Rattle.set_pieces.specs.declared.pattern.Pattern.{Pattern}
-use Rattle.set_pieces.specs.Patterns.{matches_below}
+use Rattle.set_pieces.specs.Internal.Patterns.{matches_below}
 use Rattle.set_pieces.proofs.Low.{same_tests, mod_down}
 use Rattle.set_pieces.proofs.Totals.{total_next, total_zero, total_stays}
 
@@ -121,12 +121,6 @@ both_are true true false low high x = grind (arith, nat_tests)
 both_are true false b low high x = refl
 both_are false a b low high x = refl
 
-pub missed_are : (s a k : Bool) (low high x : ℕ) → ((s && (a && k)) && (leb low x && ltb x (high + 1))) ≡ (((s && a) && (leb low x && leb x high)) && k)
-missed_are true true true low high x = grind (arith, nat_tests)
-missed_are true true false low high x = grind (arith, nat_tests)
-missed_are true false k low high x = refl
-missed_are false a k low high x = refl
-
 -- patterns that have nothing in common
 pub both_none : (s a t b : Bool) → false ≡ (a && b) → false ≡ ((s && a) && (t && b))
 both_none s true t true h = absurd (false≢true h)
@@ -135,14 +129,6 @@ both_none true true false false h = refl
 both_none false true t false h = refl
 both_none true false t b h = refl
 both_none false false t b h = refl
-
-pub missed_none : (s a t k : Bool) → false ≡ (a && k) → false ≡ (((s && a) && t) && k)
-missed_none s true t true h = absurd (false≢true h)
-missed_none true true true false h = refl
-missed_none true true false false h = refl
-missed_none false true t false h = refl
-missed_none true false t k h = refl
-missed_none false false t k h = refl
 
 -- ---- moved up and down
 

@@ -3,8 +3,8 @@ use Rattle.std.proofs.Common.{◌≡◌, ℕ, ◌<◌, ◌≤◌, Bool, true, �
 use Rattle.std.proofs.lemmas.Bool.{cases_lt, false≢true}
 use Rattle.set_pieces.specs.declared.pattern.Pattern.{Pattern}
 use Rattle.set_pieces.specs.declared.run.Run.{Run}
-use Rattle.set_pieces.specs.Patterns.{matches}
-use Rattle.set_pieces.specs.Runs.{in_run}
+use Rattle.set_pieces.specs.Internal.Patterns.{matches}
+use Rattle.set_pieces.specs.Internal.Runs.{in_run}
 use Rattle.set_pieces.specs.Ends.{IsFirstFrom, IsLast, AreEnds}
 use Rattle.set_pieces.proofs.Low.{same_tests}
 use Rattle.set_pieces.proofs.Pieces.{passes, test_from}

@@ -3,8 +3,8 @@ use Rattle.std.proofs.Common.{◌≡◌, ℕ, true, bit_and, sym, ap, ◌∙◌}
 use Rattle.std.proofs.lemmas.Bool.{eqb-true}
 use Rattle.std.proofs.lemmas.Nat.{and_assoc}
 use Rattle.set_pieces.specs.declared.run.Run.{Run}
-use Rattle.set_pieces.specs.Patterns.{matches}
-use Rattle.set_pieces.specs.Runs.{in_run}
+use Rattle.set_pieces.specs.Internal.Patterns.{matches}
+use Rattle.set_pieces.specs.Internal.Runs.{in_run}
 use Rattle.set_pieces.proofs.Pieces.{passes}
 
 matched_bits : (p : Run) (x : ℕ) → in_run p x ≡ true → bit_and x p.pattern.mask ≡ p.pattern.bits

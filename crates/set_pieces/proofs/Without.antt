@@ -5,10 +5,10 @@ use Rattle.std.proofs.lemmas.Bool.Decides.{nat_tests}
 use Rattle.set_pieces.specs.declared.pattern.Pattern.{Pattern}
 use Rattle.set_pieces.specs.declared.piece.Piece.{Piece}
 use Rattle.set_pieces.specs.declared.run.Run.{Run}
-use Rattle.set_pieces.specs.Patterns.{matches, is_matched}
-use Rattle.set_pieces.specs.Counting.{one, total}
-use Rattle.set_pieces.specs.Runs.{in_run, is_in_run}
-use Rattle.set_pieces.specs.Pieces.{in_piece, is_held}
+use Rattle.set_pieces.specs.Internal.Patterns.{matches, is_matched}
+use Rattle.set_pieces.specs.Internal.Counting.{one, total}
+use Rattle.set_pieces.specs.Internal.Runs.{in_run, is_in_run}
+use Rattle.set_pieces.specs.Internal.Pieces.{in_piece, is_held}
 use Rattle.set_pieces.proofs.Pieces.{passes, and_all}
 use Rattle.set_pieces.proofs.Totals.{total_same, total_add}
 
@@ -40,10 +40,6 @@ in_ends p x h = run_ends p.run x (own_run p x h)
 pub span_twice : (s a b : Bool) → ((s && a) && (s && b)) ≡ ((s && a) && b)
 span_twice true a b = refl
 span_twice false a b = refl
-
-pub span_again : (s a c : Bool) → (((s && a) && s) && c) ≡ ((s && a) && c)
-span_again true a c = ap (λ (b : Bool). b && c) (and_all a)
-span_again false a c = refl
 
 pub none_of : (s a c : Bool) → false ≡ (a && c) → false ≡ ((s && a) && c)
 none_of true a c none = none
@@ -151,13 +147,13 @@ unfolding in_piece
 parted p q x filled is = common_parts (in_piece p x) (in_run q.run x) (is_matched q.hole x)
     ∙ ap (λ (c : Bool). one (in_piece p x && in_piece q x) + one (in_piece p x && c)) (sym is)
 
-pub counted_both : (p q : Piece) (common : Option Piece) (filled : Option Run) (n : ℕ) → ((x : ℕ) → is_held common x ≡ (in_piece p x && in_run q.run x)) →
-    ((x : ℕ) → is_in_run filled x ≡ (in_run q.run x && is_matched q.hole x)) →
-    total (λ x. one (is_held common x)) n ≡ total (λ x. one (in_piece p x && in_piece q x)) n + total (λ x. one (in_piece p x && is_in_run filled x)) n
-counted_both p q common filled n both is =
-    total_same (λ x. one (is_held common x)) (λ x. one (in_piece p x && in_piece q x) + one (in_piece p x && is_in_run filled x)) n
-    (λ x _. ap one (both x) ∙ parted p q x (is_in_run filled x) (is x))
-    ∙ total_add (λ x. one (in_piece p x && in_piece q x)) (λ x. one (in_piece p x && is_in_run filled x)) n
+pub counted_both : (p q : Piece) (common part : Option Piece) (filled : Option Run) (n : ℕ) → ((x : ℕ) → is_held common x ≡ (in_piece p x && in_run q.run x)) →
+    ((x : ℕ) → is_in_run filled x ≡ (in_run q.run x && is_matched q.hole x)) → ((x : ℕ) → is_held part x ≡ (in_piece p x && is_in_run filled x)) →
+    total (λ x. one (is_held common x)) n ≡ total (λ x. one (in_piece p x && in_piece q x)) n + total (λ x. one (is_held part x)) n
+counted_both p q common part filled n both is parts =
+    total_same (λ x. one (is_held common x)) (λ x. one (in_piece p x && in_piece q x) + one (is_held part x)) n
+    (λ x _. ap one (both x) ∙ parted p q x (is_in_run filled x) (is x) ∙ ap (λ (b : Bool). one (in_piece p x && in_piece q x) + one b) (sym (parts x)))
+    ∙ total_add (λ x. one (in_piece p x && in_piece q x)) (λ x. one (is_held part x)) n
 
 one_apart : (a b : Bool) → one a ≡ one (a && not b) + one (a && b)
 one_apart true true = refl

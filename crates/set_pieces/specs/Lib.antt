@@ -1,5 +1,2 @@
-pub mod Counting
-pub mod Patterns
 pub mod Ends
-pub mod Runs
-pub mod Pieces
+pub mod Internal

@@ -1,9 +1,9 @@
 // The numbers of a run that a pattern doesn't match, by the bits of the pattern: for each bit those that have its bits
 // below that one, and not that one.
 ghost use Rattle.std.specs.Prelude.{◌≡◌, ℕ, ◌^◌, ◌<◌, ◌≤◌, ◌&&◌, ◌||◌, not, Bool};
-ghost use Rattle.set_pieces.specs.Patterns.{matches};
+ghost use Rattle.set_pieces.specs.Internal.Patterns.{matches};
 ghost use Rattle.set_pieces.specs.Ends.{greater, lesser, HasPage, IsFirstFrom, IsLast};
-ghost use Rattle.set_pieces.specs.Runs.{in_run, is_in_run};
+ghost use Rattle.set_pieces.specs.Internal.Runs.{in_run, is_in_run};
 
 use crate::pattern::Pattern;
 use crate::run::Run;

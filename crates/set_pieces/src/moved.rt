@@ -1,9 +1,9 @@
 // Pieces moved by a distance, modulo 2^32.
 ghost use Rattle.std.specs.Prelude.{◌≡◌, ℕ, ◌+◌, ◌-◌, ◌%◌, ◌^◌, ◌<◌, ◌&&◌, not, OnOk};
-ghost use Rattle.set_pieces.specs.Counting.{one};
-ghost use Rattle.set_pieces.specs.Patterns.{matches};
-ghost use Rattle.set_pieces.specs.Runs.{in_run, is_in_run};
-ghost use Rattle.set_pieces.specs.Pieces.{in_piece, times};
+ghost use Rattle.set_pieces.specs.Internal.Counting.{one};
+ghost use Rattle.set_pieces.specs.Internal.Patterns.{matches};
+ghost use Rattle.set_pieces.specs.Internal.Runs.{in_run, is_in_run};
+ghost use Rattle.set_pieces.specs.Internal.Pieces.{in_piece, times};
 
 use crate::error::OutOfMemory;
 use crate::parts::{push_piece, push_run};
@@ -68,11 +68,14 @@ fn push_blocks(out: &mut Vec<Piece>, p: Run, distance: u32) -> Result<(), OutOfM
     Ok(())
 }
 
-/// Appends each number of the run plus the distance, modulo 2^32.
-fn push_moved(out: &mut Vec<Piece>, p: Run, distance: u32) -> Result<(), OutOfMemory>
+/// Appends each number of the run, if there is one, plus the distance, modulo 2^32.
+fn push_moved(out: &mut Vec<Piece>, run: Option<Run>, distance: u32) -> Result<(), OutOfMemory>
     ensures { OnOk result ((y : ℕ) → y < 2 ^ 32 → times out.new.items y ≡
-        times out.old.items y + one (in_run p ((y + (2 ^ 32 - distance)) % 2 ^ 32))) }
+        times out.old.items y + one (is_in_run run ((y + (2 ^ 32 - distance)) % 2 ^ 32))) }
 {
+    let Some(p) = run else {
+        return Ok(());
+    };
     if p.pattern.is_step() {
         return push_shifted(out, Some(p), distance);
     }
@@ -82,35 +85,8 @@ fn push_moved(out: &mut Vec<Piece>, p: Run, distance: u32) -> Result<(), OutOfMe
     push_shifted(out, p.tightened(), distance)
 }
 
-/// Appends each number of the run plus the distance, modulo 2^32, if there is a run.
-fn push_moved_part(out: &mut Vec<Piece>, run: Option<Run>, distance: u32) -> Result<(), OutOfMemory>
-    ensures { OnOk result ((y : ℕ) → y < 2 ^ 32 → times out.new.items y ≡
-        times out.old.items y + one (is_in_run run ((y + (2 ^ 32 - distance)) % 2 ^ 32))) }
-{
-    match run {
-        Some(run) => push_moved(out, run, distance),
-        None => Ok(()),
-    }
-}
-
-/// The same of the numbers of a run that a pattern doesn't match, by its bits.
-fn push_moved_parts(
-    out: &mut Vec<Piece>,
-    run: Run,
-    hole: Pattern,
-    distance: u32,
-) -> Result<(), OutOfMemory>
-    ensures { OnOk result ((y : ℕ) → y < 2 ^ 32 → times out.new.items y ≡ times out.old.items y +
-        one (in_run run ((y + (2 ^ 32 - distance)) % 2 ^ 32) && not (matches hole ((y + (2 ^ 32 - distance)) % 2 ^ 32)))) }
-{
-    hole.ends();
-    for bit in 0..32 {
-        push_moved_part(out, run.missed(hole, bit), distance)?;
-    }
-    Ok(())
-}
-
-/// The same, at once where both patterns are those of numbers a power of two apart.
+/// The same of the numbers of a run that a pattern doesn't match: at once where both patterns are those of numbers a power
+/// of two apart, and else by the bits of the second one.
 fn push_moved_holed(
     out: &mut Vec<Piece>,
     run: Run,
@@ -125,7 +101,11 @@ fn push_moved_holed(
         push_piece(out, shifted_past(run, hole, distance))?;
         return Ok(());
     }
-    push_moved_parts(out, run, hole, distance)
+    hole.ends();
+    for bit in 0..32 {
+        push_moved(out, run.missed(hole, bit), distance)?;
+    }
+    Ok(())
 }
 
 /// Appends each number of the piece plus the distance, modulo 2^32.
@@ -139,7 +119,7 @@ pub fn push_moved_piece(out: &mut Vec<Piece>, p: Piece, distance: u32) -> Result
             Ok(())
         }
         None => {
-            push_moved(out, p.run, distance)?;
+            push_moved(out, Some(p.run), distance)?;
             Ok(())
         }
     }

@@ -1,9 +1,9 @@
 // What two pieces have in common, and what one leaves of another.
 ghost use Rattle.std.specs.Prelude.{◌≡◌, ℕ, ◌+◌, ◌^◌, ◌&&◌, not, OnOk};
-ghost use Rattle.set_pieces.specs.Counting.{one, total};
-ghost use Rattle.set_pieces.specs.Patterns.{is_matched, matches};
-ghost use Rattle.set_pieces.specs.Runs.{in_run, is_in_run};
-ghost use Rattle.set_pieces.specs.Pieces.{in_piece, is_held, times};
+ghost use Rattle.set_pieces.specs.Internal.Counting.{one, total};
+ghost use Rattle.set_pieces.specs.Internal.Patterns.{is_matched, matches};
+ghost use Rattle.set_pieces.specs.Internal.Runs.{in_run, is_in_run};
+ghost use Rattle.set_pieces.specs.Internal.Pieces.{in_piece, is_held, times};
 
 use crate::error::OutOfMemory;
 use crate::pattern::Pattern;
@@ -149,14 +149,13 @@ fn push_outside(out: &mut Vec<Piece>, p: Piece, q: Run) -> Result<(), OutOfMemor
     push_around(out, p, q)
 }
 
-/// Appends what the piece and the run have in common, if there is a run.
-fn push_within(out: &mut Vec<Piece>, p: Piece, run: Option<Run>) -> Result<(), OutOfMemory>
-    ensures { OnOk result ((x : ℕ) → times out.new.items x ≡
-        times out.old.items x + one (in_piece p x && is_in_run run x)) }
+/// What the piece and the run have in common, if there is a run.
+fn common_part(p: Piece, run: Option<Run>) -> Option<Piece>
+    ensures { (x : ℕ) → is_held result x ≡ (in_piece p x && is_in_run run x) }
 {
     match run {
-        Some(run) => push_piece(out, p.common(run)),
-        None => Ok(()),
+        Some(run) => p.common(run),
+        None => None,
     }
 }
 
@@ -166,7 +165,7 @@ pub fn push_less(out: &mut Vec<Piece>, p: Piece, q: Piece) -> Result<(), OutOfMe
         times out.old.items x + one (in_piece p x && not (in_piece q x))) }
 {
     push_outside(out, p, q.run)?;
-    push_within(out, p, q.filled())?;
+    push_piece(out, common_part(p, q.filled()))?;
     Ok(())
 }
 
@@ -181,19 +180,9 @@ fn count_piece(piece: Option<Piece>) -> u64
     }
 }
 
-/// How many numbers the piece and the run have in common, if there is a run.
-fn count_within(p: Piece, run: Option<Run>) -> u64
-    ensures { result ≡ total (λ x. one (in_piece p x && is_in_run run x)) (2 ^ 32) }
-{
-    match run {
-        Some(run) => count_piece(p.common(run)),
-        None => 0,
-    }
-}
-
 /// How many numbers two pieces have in common.
 pub fn count_both(p: Piece, q: Piece) -> u64
     ensures { result ≡ total (λ x. one (in_piece p x && in_piece q x)) (2 ^ 32) }
 {
-    count_piece(p.common(q.run)) - count_within(p, q.filled())
+    count_piece(p.common(q.run)) - count_piece(common_part(p, q.filled()))
 }

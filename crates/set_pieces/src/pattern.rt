@@ -13,8 +13,8 @@ pub struct Pattern {
 
 impl Pattern {
     ghost use Rattle.std.specs.Prelude.{◌≡◌, ℕ, ◌+◌, ◌-◌, ◌*◌, ◌/◌, ◌%◌, ◌^◌, ◌<◌, ◌≤◌, ◌↔◌, ◌&&◌, true, false, not, bit_and, IfSome, IsNone, IsTrue};
-    ghost use Rattle.set_pieces.specs.Counting.{one, total};
-    ghost use Rattle.set_pieces.specs.Patterns.{is_matched, matches, matches_below, IsStep};
+    ghost use Rattle.set_pieces.specs.Internal.Counting.{one, total};
+    ghost use Rattle.set_pieces.specs.Internal.Patterns.{is_matched, matches, matches_below, IsStep};
     ghost use Rattle.set_pieces.specs.Ends.{IsLastTo};
 
     /// Whether the number matches.
@@ -156,7 +156,7 @@ impl Pattern {
     }
 
     /// The pattern of the numbers that have its bits below this one, and not this one.
-    fn turned(self, bit: u32) -> Option<Pattern>
+    pub(crate) fn turned(self, bit: u32) -> Option<Pattern>
         requires { bit < 32 }
         ensures { (x : ℕ) → is_matched result x ≡ (matches_below self bit x && not (matches_below self (bit + 1) x)) }
     {
@@ -169,17 +169,6 @@ impl Pattern {
             mask: self.mask & low,
             bits: (self.bits & low) ^ one,
         })
-    }
-
-    /// The pattern of the numbers that match, and that have the other's bits below this one, and not this one.
-    pub fn missed(self, other: Pattern, bit: u32) -> Option<Pattern>
-        requires { bit < 32 }
-        ensures { (x : ℕ) → is_matched result x ≡ (matches self x && (matches_below other bit x && not (matches_below other (bit + 1) x))) }
-    {
-        match other.turned(bit) {
-            Some(turned) => self.both(turned),
-            None => None,
-        }
     }
 
     /// Changes nothing. Its contract says that a number has all bits of a pattern where it has those below

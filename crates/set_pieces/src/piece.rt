@@ -1,10 +1,10 @@
 // Runs but for the numbers that a second pattern matches.
 ghost use Rattle.std.specs.Prelude.{◌≡◌, ℕ, ◌-◌, ◌+◌, ◌%◌, ◌^◌, ◌<◌, ◌≤◌, ◌&&◌, ◌||◌, true, false, not, nat_lt, nat_le, bit_and, IfSome, IsNone};
-ghost use Rattle.set_pieces.specs.Counting.{one, total};
-ghost use Rattle.set_pieces.specs.Patterns.{is_matched, matches, matches_below, IsStep};
+ghost use Rattle.set_pieces.specs.Internal.Counting.{one, total};
+ghost use Rattle.set_pieces.specs.Internal.Patterns.{is_matched, matches, matches_below, IsStep};
 ghost use Rattle.set_pieces.specs.Ends.{HasPage, IsFirstFrom, IsLast, AreEnds};
-ghost use Rattle.set_pieces.specs.Runs.{in_run, is_in_run};
-ghost use Rattle.set_pieces.specs.Pieces.{in_piece, is_held};
+ghost use Rattle.set_pieces.specs.Internal.Runs.{in_run, is_in_run};
+ghost use Rattle.set_pieces.specs.Internal.Pieces.{in_piece, is_held};
 
 use crate::holes::{first_without, last_without, pages_unmatched};
 use crate::pattern::Pattern;

@@ -16,9 +16,9 @@ pub struct Run {
 
 impl Run {
     ghost use Rattle.std.specs.Prelude.{◌≡◌, ℕ, ◌+◌, ◌-◌, ◌%◌, ◌^◌, ◌<◌, ◌≤◌, ◌&&◌, ◌==◌, true, false, not, nat_lt, nat_le, bit_and, IfSome, IsNone};
-    ghost use Rattle.set_pieces.specs.Counting.{one, total};
-    ghost use Rattle.set_pieces.specs.Patterns.{matches, matches_below, IsStep};
-    ghost use Rattle.set_pieces.specs.Runs.{in_span, in_run, is_in_run, HoldsSome};
+    ghost use Rattle.set_pieces.specs.Internal.Counting.{one, total};
+    ghost use Rattle.set_pieces.specs.Internal.Patterns.{matches, matches_below, IsStep};
+    ghost use Rattle.set_pieces.specs.Internal.Runs.{in_span, in_run, is_in_run, HoldsSome};
     ghost use Rattle.set_pieces.specs.Ends.{HasPage, IsFirstFrom, IsLast, AreEnds};
 
     /// The numbers whose bits under the mask are these, if it has them all. Where the highest bits are among
@@ -203,10 +203,8 @@ impl Run {
         ensures { (x : ℕ) → is_in_run result x ≡ (in_run self x &&
             (matches_below other bit x && not (matches_below other (bit + 1) x))) }
     {
-        match self.pattern.missed(other, bit) {
-            Some(pattern) => self
-                .with_pattern(pattern)
-                .clipped(u64::from(self.low), u64::from(self.high) + 1),
+        match other.turned(bit) {
+            Some(turned) => self.matched(turned),
             None => None,
         }
     }

@@ -7,8 +7,8 @@ use Rattle.std.proofs.Math.Nat.{add-mod-mod, mod-add-mod}
 use Rattle.std.proofs.Math.Pow.{mod-mod-pow}
 use Rattle.dom_set.specs.Elements.{elements_of, is_in, is_matching}
 use Rattle.dom_set.specs.Laws.{ElementsPass, IsInTests}
-use Rattle.set_sums.specs.Remainders.{AreClasses, HasClasses, HasClassSums, HasRemainders}
-use Rattle.set_sums.specs.Spans.{HasDifferences}
+use Rattle.set_sums.specs.Internal.Remainders.{AreClasses, HasClasses, HasClassSums, HasRemainders}
+use Rattle.set_sums.specs.Internal.Spans.{HasDifferences}
 use Rattle.set_sums.proofs.Members.{element, is_in-elements_of}
 use Rattle.set_sums.proofs.Spans.{first_of_two, second_of_two}
 

@@ -8,7 +8,7 @@ use Rattle.std.proofs.lemmas.List.Kept.{AllPairs-from_increasing}
 use Rattle.std.proofs.lemmas.Option.{get_or_from_slice_get}
 use Rattle.dom_set.specs.Elements.{elements_of, is_in, is_within}
 use Rattle.dom_set.specs.Laws.{ElementsPass, IsInTests}
-use Rattle.set_sums.specs.Spans.{AreCovered, AreKept, AreNegated, AreNegatives, HasDifferencesWithin, HasSums, HaveSums, IsBetween, IsOfRanges}
+use Rattle.set_sums.specs.Internal.Spans.{AreCovered, AreKept, AreNegated, AreNegatives, HasDifferencesWithin, HasSums, HaveSums, IsBetween, IsOfRanges}
 use Rattle.set_sums.proofs.Members.{element, is_in-elements_of, is_in-filter, joined, left, right}
 
 pub either : (a b : Bool) → IsTrue (a || b) → IsTrue a ⊎ IsTrue b

@@ -14,9 +14,9 @@ use Rattle.dom_set.specs.declared.track.Track.{Track}
 use Rattle.dom_set.specs.Elements.{first_cyclic, is_in, is_within}
 use Rattle.dom_set.specs.Tracks.{is_on, is_on_one}
 use Rattle.near_marks.specs.declared.steps.Steps.{Steps}
-use Rattle.near_marks.specs.Near.{HaveNear, is_at, is_at_one, is_marked}
-use Rattle.set_sums.specs.Near.{AreBackward, AreForward, AreInRanges, HasNearDifferences, HasNearOn, IsAgainst, IsAlong, IsNarrow}
-use Rattle.set_sums.specs.Spans.{IsOfRanges}
+use Rattle.near_marks.specs.Internal.Near.{HaveNear, is_at, is_at_one, is_marked}
+use Rattle.set_sums.specs.Internal.Near.{AreBackward, AreForward, AreInRanges, HasNearDifferences, HasNearOn, IsAgainst, IsAlong, IsNarrow}
+use Rattle.set_sums.specs.Internal.Spans.{IsOfRanges}
 use Rattle.near_marks.proofs.Grids.{mirrored}
 use Rattle.set_sums.proofs.Members.{element}
 use Rattle.set_sums.proofs.Spans.{either}

@@ -4,9 +4,9 @@ use Rattle.std.specs.List.{filter}
 use Rattle.dom_set.specs.Elements.{is_in}
 use Rattle.set_sums.specs.declared.sums.Wanted.{Wanted}
 use Rattle.set_sums.specs.declared.sums.Wanted.TheVariants.{Sums, Differences}
-use Rattle.set_sums.specs.Remainders.{HasClassSums}
-use Rattle.set_sums.specs.Spans.{HasDifferencesWithin, HasSumsWithin}
-use Rattle.set_sums.specs.Wanted.{Holds, HoldsAny}
+use Rattle.set_sums.specs.Internal.Remainders.{HasClassSums}
+use Rattle.set_sums.specs.Internal.Spans.{HasDifferencesWithin, HasSumsWithin}
+use Rattle.set_sums.specs.Internal.Wanted.{Holds, HoldsAny}
 use Rattle.set_sums.proofs.Members.{element, in_both}
 
 word : (n : ℕ) → n % 2 ^ 32 < 2 ^ 32

@@ -1,4 +1,1 @@
-pub mod Near
-pub mod Remainders
-pub mod Spans
-pub mod Wanted
+pub mod Internal

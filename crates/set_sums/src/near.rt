@@ -1,6 +1,6 @@
 // Differences of two sets that are near 0, by the places and the low bits of their elements together.
 ghost use Rattle.std.specs.Prelude.{◌+◌, ◌-◌, ◌*◌, ◌<◌, ◌≤◌, IfOk, IfSome, IsTrue};
-ghost use Rattle.set_sums.specs.Near.{AreBackward, AreForward, AreInRanges, HasNearDifferences, HasNearOn, IsAgainst, IsAlong, IsNarrow};
+ghost use Rattle.set_sums.specs.Internal.Near.{AreBackward, AreForward, AreInRanges, HasNearDifferences, HasNearOn, IsAgainst, IsAlong, IsNarrow};
 
 use crate::ranges::{Span, push_round, words_of};
 use dom_set::{OutOfMemory, Set, Track};

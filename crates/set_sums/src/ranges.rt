@@ -1,7 +1,7 @@
 // Sets by ranges and sums of sets, where more elements than those asked for do no harm.
 ghost use Rattle.std.specs.Prelude.{◌≡◌, ℕ, ◌+◌, ◌-◌, ◌%◌, ◌^◌, ◌<◌, [], ◌∷◌, false, true, All, IfOk, IfSome, IsNone, IsTrue, OnOk};
 ghost use Rattle.dom_set.specs.Elements.{is_in};
-ghost use Rattle.set_sums.specs.Spans.{AreCovered, AreKept, AreNegated, AreNegatives, HasDifferencesWithin, HasHalves, HasSumsWithin, HaveHalves, HaveHalvesOf, HaveRound, HaveSums, HaveSumsOf, HaveSumsWith, IsAround, IsBetween, IsMet, IsOfRanges, MayMeet};
+ghost use Rattle.set_sums.specs.Internal.Spans.{AreCovered, AreKept, AreNegated, AreNegatives, HasDifferencesWithin, HasHalves, HasSumsWithin, HaveHalves, HaveHalvesOf, HaveRound, HaveSums, HaveSumsOf, HaveSumsWith, IsAround, IsBetween, IsMet, IsOfRanges, MayMeet};
 
 use crate::near::is_narrow;
 use dom_set::{OutOfMemory, Set, set_laws};

@@ -1,8 +1,8 @@
 // What sums leave when they are divided by a power of two, as addresses that are aligned do.
 ghost use Rattle.std.specs.Prelude.{◌≡◌, ℕ, ◌+◌, ◌-◌, ◌*◌, ◌%◌, ◌^◌, ◌<◌, ◌≤◌, true, IfOk, IfSome, IsTrue, OnOk};
 ghost use Rattle.dom_set.specs.Elements.{is_in, is_matching};
-ghost use Rattle.set_sums.specs.Spans.{HasDifferences};
-ghost use Rattle.set_sums.specs.Remainders.{AreClasses, AreClassesOf, AreSameClasses, HasClasses, HasClassSums, HasRemainders, HasRemaindersBelow};
+ghost use Rattle.set_sums.specs.Internal.Spans.{HasDifferences};
+ghost use Rattle.set_sums.specs.Internal.Remainders.{AreClasses, AreClassesOf, AreSameClasses, HasClasses, HasClassSums, HasRemainders, HasRemaindersBelow};
 
 use crate::ranges::meet;
 use dom_set::{OutOfMemory, Set, set_laws};

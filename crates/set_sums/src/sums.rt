@@ -1,7 +1,7 @@
 // Sums and differences of elements of two sets that are in a domain.
 ghost use Rattle.std.specs.Prelude.{IfOk};
-ghost use Rattle.set_sums.specs.Wanted.{Holds, HoldsAny};
-ghost use Rattle.set_sums.specs.Spans.{HasDifferencesWithin, HasSumsWithin};
+ghost use Rattle.set_sums.specs.Internal.Wanted.{Holds, HoldsAny};
+ghost use Rattle.set_sums.specs.Internal.Spans.{HasDifferencesWithin, HasSumsWithin};
 
 use crate::near::{is_narrow, near_differences};
 use crate::ranges::{differences_around, lowered, shifted, sums_around};

@@ -6,12 +6,12 @@ use Rattle.replay_check.specs.declared.verdict.Verdict.{Verdict}
 use Rattle.replay_check.specs.declared.verdict.Verdict.TheVariants.{Yes, No}
 use Rattle.tpl_admit.specs.declared.certificate.Cert.{Cert}
 use Rattle.tpl_admit.specs.WellFormed.{IsWellFormed}
-use Rattle.tpl_ast.specs.declared.fault.Fault.{Fault}
+use Rattle.tpl_lang.specs.declared.fault.Fault.{Fault}
 use Rattle.trace_text.specs.Faults.{fault_text}
 use Rattle.cover_sweep.specs.Summary.{summary_text}
 use Rattle.trace_text.specs.Report.{report_text}
 use Rattle.trace_text.specs.Verdicts.{gave_up_text, malformed_text, verdict_text}
-use Rattle.tpl_ast.specs.Laws.{LongTextsAreRefused, TemplatesKeepLimits}
+use Rattle.tpl_lang.specs.Laws.{LongTextsAreRefused, TemplatesKeepLimits}
 use Rattle.gen_turn.specs.Laws.{TextsTellWhatIsMade}
 use Rattle.tool_words.specs.declared.command.Command.{Command}
 use Rattle.tool_words.specs.declared.command.Command.TheVariants.{Gen, Replay, Exec, Show, Demo}

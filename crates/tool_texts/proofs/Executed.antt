@@ -2,8 +2,8 @@
 use Rattle.std.proofs.Common.{◌≡◌, ℕ, ◌+◌, ◌<◌, ◌≤◌, inl, inr, List, [], ◌++◌, length, append-nil, refl, ap, ◌∙◌, Result, Ok, Err, arith, length-append}
 use Rattle.std.specs.Prelude.{IfOk}
 use Rattle.tpl_admit.specs.declared.certificate.Cert.{Cert}
-use Rattle.tpl_admit.specs.Failures.{IsFirstFailure}
-use Rattle.tpl_admit.specs.Faithfulness.{IsFaithful, Keeps}
+use Rattle.replay_check.specs.Failures.{IsFirstFailure}
+use Rattle.rv_system.specs.Faithfulness.{IsFaithful, Keeps}
 use Rattle.tpl_admit.specs.Starts.{AgreesWith, first_system}
 use Rattle.tpl_admit.specs.Validity.{IsSound, IsValid}
 use Rattle.run_order.specs.Orders.{TurnsAreTaken}

@@ -2,16 +2,17 @@
 use Rattle.std.proofs.Common.{◌≡◌, ℕ, inl, inr, if◌then◌else◌, List, Some, None, sym, ap, subst}
 use Rattle.tpl_ast.specs.declared.template.Region.{Region}
 use Rattle.tpl_ast.specs.declared.template.Template.{Template}
-use Rattle.tpl_ast.specs.Laws.{LinesTellLayouts}
-use Rattle.tpl_ast.specs.Parsing.{Said, said_by}
+use Rattle.tpl_ast.specs.Laws.{LinesTellExpansions}
+use Rattle.tpl_lang.specs.Parsing.{Said, said_by}
 use Rattle.tpl_admit.specs.declared.admission.Unmet.{Unmet}
 use Rattle.tpl_admit.specs.declared.certificate.Cert.{Cert}
 use Rattle.tpl_admit.specs.Admission.{trace_in}
 use Rattle.tpl_admit.specs.Admitting.{failures_of}
-use Rattle.tpl_admit.specs.Failures.{AllAreRight, AllEndAsTold, EndsAsTold, HartGoesWrong, HartIsRight, IsFirstFailure}
+use Rattle.replay_check.specs.Failures.{AllAreRight, AllEndAsTold, HartGoesWrong, HartIsRight, IsFirstFailure}
+use Rattle.tpl_admit.specs.Validity.{EndsAsPrinted}
 use Rattle.tpl_admit.specs.Laws.{with_template}
 use Rattle.tpl_admit.specs.Solo.{solo_run, knows_after}
-use Rattle.tpl_admit.specs.Starts.{final_of, fixed_in, found, is_given, start_of}
+use Rattle.tpl_admit.specs.Starts.{final_of, fixed_in, is_given, start_of, lookup}
 use Rattle.tpl_admit.specs.Unmet.{IsLeast}
 use Rattle.tpl_admit.proofs.Said.{failures_same}
 
@@ -24,10 +25,10 @@ in_ram c t r = with_template c (record t { ram = r })
 right_same : (c : Cert) (t : Template) → c.template.ram ≡ t.ram → (k : ℕ) → HartIsRight c k → HartIsRight (with_template c t) k
 right_same c t ram k right = subst (λ (r : List Region). HartIsRight (in_ram c t r) k) ram right
 
-end_same : (c : Cert) (t : Template) → c.template.ram ≡ t.ram → (k : ℕ) → EndsAsTold c k → EndsAsTold (with_template c t) k
+end_same : (c : Cert) (t : Template) → c.template.ram ≡ t.ram → (k : ℕ) → EndsAsPrinted c k → EndsAsPrinted (with_template c t) k
 end_same c t ram k end = record {
   fixed = subst (λ (r : List Region). fixed_in r k (final_of c k) ≡ (solo_run (in_ram c t r) k).hart.fixed) ram end.fixed;
-  places = λ key. subst (λ (r : List Region). found (final_of c k).places key ≡ (if knows_after (is_given (start_of c k)) (solo_run (in_ram c t r) k).moments key then Some ((solo_run (in_ram c t r) k).hart.file key) else None)) ram (end.places key);
+  places = λ key. subst (λ (r : List Region). lookup (final_of c k).places key ≡ (if knows_after (is_given (start_of c k)) (solo_run (in_ram c t r) k).steps key then Some ((solo_run (in_ram c t r) k).hart.file key) else None)) ram (end.places key);
 }
 
 steps_same : (c : Cert) (t : Template) → c.template.ram ≡ t.ram → AllAreRight c → AllAreRight (with_template c t)
@@ -36,7 +37,7 @@ steps_same c t ram all = λ k within. right_same c t ram k (all k within)
 ends_same : (c : Cert) (t : Template) → c.template.ram ≡ t.ram → AllEndAsTold c → AllEndAsTold (with_template c t)
 ends_same c t ram all = λ k within. end_same c t ram k (all k within)
 
-pub failure_same : LinesTellLayouts → (c : Cert) (t : Template) → said_by c.template ≡ said_by t → (kind hart step : ℕ) → IsFirstFailure c kind hart step → IsFirstFailure (with_template c t) kind hart step
+pub failure_same : LinesTellExpansions → (c : Cert) (t : Template) → said_by c.template ≡ said_by t → (kind hart step : ℕ) → IsFirstFailure c kind hart step → IsFirstFailure (with_template c t) kind hart step
 failure_same tell c t same kind hart step (inl f) =
     let ram : c.template.ram ≡ t.ram = ap (λ (s : Said). s.ram) same in
     inl (record {

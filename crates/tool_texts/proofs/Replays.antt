@@ -1,9 +1,9 @@
 -- `replay` has one answer at most.
 use Rattle.std.proofs.Common.{◌≡◌, ℕ, ◌<◌, ◌≤◌, inl, inr, List, length, sym, ◌∙◌, ap, subst, arith}
 use Rattle.std.specs.List.{AllByRecursion}
-use Rattle.tpl_ast.specs.Laws.{LinesTellLayouts}
+use Rattle.tpl_ast.specs.Laws.{LinesTellExpansions}
 use Rattle.tpl_admit.specs.declared.certificate.Cert.{Cert}
-use Rattle.tpl_admit.specs.Failures.{IsFirstFailure}
+use Rattle.replay_check.specs.Failures.{IsFirstFailure}
 use Rattle.tpl_admit.specs.Laws.{SaidDecides}
 use Rattle.tpl_admit.specs.Validity.{IsValid}
 use Rattle.elf_image.specs.Told.{Told, told}
@@ -30,7 +30,7 @@ pub record Rests : Type 0 where
   pub valid : ValidHasNoFailure
   pub failure : OneFailure
   pub decides : SaidDecides
-  pub layouts : LinesTellLayouts
+  pub layouts : LinesTellExpansions
 
 -- certificates of one file fail alike
 pub failure_moved : Rests → (bytes : List ℕ) (a b : Cert) → IsFileOf bytes a → IsFileOf bytes b → (kind hart step : ℕ) → IsFirstFailure a kind hart step → IsFirstFailure b kind hart step

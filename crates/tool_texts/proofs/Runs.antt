@@ -12,7 +12,7 @@ use Rattle.tpl_ast.specs.Limits.{most_records}
 use Rattle.tpl_ast.specs.declared.template.Region.{Region}
 use Rattle.tpl_ast.specs.declared.template.Template.{Template}
 use Rattle.tpl_admit.specs.declared.certificate.Cert.{Cert}
-use Rattle.tpl_admit.specs.Faithfulness.{IsFaithful, Keeps}
+use Rattle.rv_system.specs.Faithfulness.{IsFaithful, Keeps}
 use Rattle.tpl_admit.specs.Laws.{with_template}
 use Rattle.tpl_admit.specs.Starts.{AgreesWith, first_system, trace_of}
 use Rattle.tpl_admit.specs.System.{of_hart, times}

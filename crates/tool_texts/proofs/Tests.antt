@@ -1,9 +1,9 @@
 -- A text has one test at most, or one line that says why none is given.
 use Rattle.std.proofs.Common.{◌≡◌, ℕ, ◌<◌, ◌≤◌, inl, inr, List, length, sym, ◌∙◌, ap, arith, Result, Ok, Err}
-use Rattle.tpl_ast.specs.declared.fault.Fault.{Fault}
+use Rattle.tpl_lang.specs.declared.fault.Fault.{Fault}
 use Rattle.tpl_ast.specs.declared.template.Template.{Template}
-use Rattle.tpl_ast.specs.Laws.{LongTextsAreRefused, TemplatesKeepLimits}
-use Rattle.tpl_ast.specs.Parsing.{Parses, Said, parses, said_by}
+use Rattle.tpl_lang.specs.Laws.{LongTextsAreRefused, TemplatesKeepLimits}
+use Rattle.tpl_lang.specs.Parsing.{Parses, Said, parses, said_by}
 use Rattle.tpl_admit.specs.declared.certificate.Cert.{Cert}
 use Rattle.tpl_admit.specs.Laws.{with_template}
 use Rattle.elf_image.specs.File.{file_bytes}

@@ -1,8 +1,8 @@
 -- What `exec` answers.
 use Rattle.std.specs.Prelude.{◌≡◌, ℕ, true, List, [], ◌++◌, length, map, None, ◌⊎◌}
 use Rattle.tpl_admit.specs.declared.certificate.Cert.{Cert}
-use Rattle.tpl_admit.specs.Faithfulness.{IsFaithful}
-use Rattle.tpl_admit.specs.Failures.{IsFirstFailure}
+use Rattle.rv_system.specs.Faithfulness.{IsFaithful}
+use Rattle.replay_check.specs.Failures.{IsFirstFailure}
 use Rattle.tpl_admit.specs.Starts.{first_system, trace_of}
 use Rattle.tpl_admit.specs.System.{Ran, of_hart, run_of}
 use Rattle.tpl_admit.specs.Validity.{IsValid}

@@ -7,5 +7,5 @@ pub mod Show
 pub mod Demo
 pub mod Tests
 pub mod Files
-pub mod Reasons
 pub mod Laws
+pub mod Internal

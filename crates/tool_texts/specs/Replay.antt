@@ -2,8 +2,8 @@
 use Rattle.std.specs.Prelude.{◌≡◌, List, ℕ, [], ◌⊎◌}
 use Rattle.tpl_admit.specs.declared.certificate.Cert.{Cert}
 use Rattle.tpl_admit.specs.Validity.{IsValid}
-use Rattle.tpl_admit.specs.Faithfulness.{IsFaithful}
-use Rattle.tpl_admit.specs.Failures.{IsFirstFailure}
+use Rattle.rv_system.specs.Faithfulness.{IsFaithful}
+use Rattle.replay_check.specs.Failures.{IsFirstFailure}
 use Rattle.replay_check.specs.declared.verdict.Verdict.TheVariants.{Yes, No}
 use Rattle.trace_text.specs.Verdicts.{verdict_text}
 use Rattle.tool_texts.specs.Files.{IsFileOf, IsMalformed}

@@ -1,8 +1,8 @@
 -- The test of a template's text, or why none is given.
 use Rattle.std.specs.Prelude.{◌≡◌, List, ℕ, Err, ◌⊎◌}
-use Rattle.tpl_ast.specs.declared.fault.Fault.{Fault}
+use Rattle.tpl_lang.specs.declared.fault.Fault.{Fault}
 use Rattle.tpl_ast.specs.declared.template.Template.{Template}
-use Rattle.tpl_ast.specs.Parsing.{Parses, parses}
+use Rattle.tpl_lang.specs.Parsing.{Parses, parses}
 use Rattle.tpl_admit.specs.declared.certificate.Cert.{Cert}
 use Rattle.gen_turn.specs.Generating.{IsGivenUp, IsOfTest}
 use Rattle.trace_text.specs.Faults.{fault_text}

@@ -6,7 +6,8 @@ use elf_image::{file_lengths, one_first_wrong, one_spelling};
 use gen_turn::texts_tell_what_is_made;
 use replay_check::one_verdict;
 use tpl_admit::said_law;
-use tpl_ast::{language_laws, layout_law, template_law};
+use tpl_ast::expansion_law;
+use tpl_lang::{language_laws, template_law};
 use trace_text::length_laws;
 
 /// Does nothing. Its contract says that a command has one answer at most to its bytes, that none rests on bytes behind
@@ -22,7 +23,7 @@ pub fn answer_laws()
     one_first_wrong();
     said_law();
     texts_tell_what_is_made();
-    layout_law();
+    expansion_law();
     file_lengths();
     template_law();
     language_laws();

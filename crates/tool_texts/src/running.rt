@@ -22,7 +22,8 @@ use rv_hart::Record;
 use rv_system::{Execution, execute, sound_certificates_are_faithful};
 use std::alloc::Global;
 use tpl_admit::Cert;
-use tpl_ast::{Items, template_law};
+use tpl_ast::Items;
+use tpl_lang::template_law;
 use trace_text::{events, length_laws};
 
 /// What `exec` answers to the bytes that it read.

@@ -3,12 +3,12 @@ ghost use Rattle.std.specs.Prelude.{◌≡◌, ℕ, List, [], true, false, IfOk,
 ghost use Rattle.tpl_admit.specs.WellFormed.{IsWellFormed};
 ghost use Rattle.trace_text.specs.Report.{report_text};
 ghost use Rattle.tpl_ast.specs.declared.template.Template.{Template as ATemplate};
-ghost use Rattle.tpl_ast.specs.Parsing.{Parses, parses};
+ghost use Rattle.tpl_lang.specs.Parsing.{Parses, parses};
 ghost use Rattle.gen_turn.specs.Generating.{IsGivenUp};
 ghost use Rattle.tool_words.specs.declared.command.Effort.{Effort as AnEffort};
 ghost use Rattle.tool_texts.specs.Answers.{number_of};
 ghost use Rattle.tool_texts.specs.Tests.{IsRefusal, IsTest};
-ghost use Rattle.tool_texts.specs.Reasons.{TellsNone};
+ghost use Rattle.tool_texts.specs.Internal.Reasons.{TellsNone};
 
 use crate::OutOfMemory;
 use crate::answer::{Answer, Status};
@@ -16,7 +16,8 @@ use gen_turn::{Generated, generate};
 use std::alloc::Global;
 use tool_words::Effort;
 use tpl_admit::Cert;
-use tpl_ast::{Fault, Template};
+use tpl_ast::Template;
+use tpl_lang::Fault;
 use tpl_parse::{ParseError, parse};
 use trace_text::{fault_text, gave_up, report};
 

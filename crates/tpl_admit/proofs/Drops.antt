@@ -6,7 +6,7 @@ use Rattle.std.proofs.lemmas.Bool.{and_from, and_parts, cases_Bool, cases_lt, eq
 use Rattle.tpl_admit.specs.declared.admission.Unmet.{Unmet}
 use Rattle.tpl_admit.specs.declared.dropped.Dropped.{Dropped}
 use Rattle.tpl_admit.specs.Admitting.{comes_before, is_drop}
-use Rattle.tpl_admit.specs.Ordered.{is_ascending, stands_before}
+use Rattle.tpl_admit.specs.Internal.Ordered.{is_ascending, stands_before}
 use Rattle.tpl_admit.specs.WellFormed.{AreDropped, drop_place}
 use Rattle.tpl_admit.proofs.Order.{before_turned, never_before_itself, never_true, not_before_step, placed_before}
 

@@ -1,6 +1,6 @@
 mod Drops
 pub mod Failures
-pub mod Layouts
+pub mod Expansions
 mod Limits
 pub mod Memory
 mod Order

@@ -6,7 +6,7 @@ use Rattle.std.proofs.lemmas.List.Sums.{sum_by-cons}
 use Rattle.rv_hart.specs.declared.record.Record.{Record}
 use Rattle.tpl_admit.specs.declared.certificate.Cert.{Cert}
 use Rattle.tpl_admit.specs.Admission.{trace_in}
-use Rattle.tpl_admit.specs.Walks.{IsWithinLimits}
+use Rattle.tpl_admit.specs.Internal.Walks.{IsWithinLimits}
 use Rattle.tpl_admit.specs.WellFormed.{IsWellFormed}
 
 each_within : (traces : List (List Record)) (most : ℕ) → sum_by (λ t. length t) traces ≤ most → AllByRecursion (λ t. length t ≤ most) traces

@@ -1,5 +1,5 @@
 -- Where a trace fails its template: the failures of each hart, and of which trace there is none.
-use Rattle.std.specs.Prelude.{◌≡◌, ℕ, ◌+◌, ◌-◌, Bool, true, false, not, ◌&&◌, ◌||◌, ◌==◌, List, [], ◌∷◌, ◌++◌, length, map, Option, Some, None, slice_index_or, slice_set, replicate, take, nat_lt, min, ◌^◌, if◌then◌else◌}
+use Rattle.std.specs.Prelude.{◌≡◌, ℕ, ◌+◌, ◌-◌, Bool, true, false, not, ◌&&◌, ◌||◌, ◌==◌, List, [], ◌∷◌, ◌++◌, length, map, Option, Some, None, slice_index_or, slice_set, take, nat_lt, min, ◌^◌, if◌then◌else◌}
 use Rattle.std.specs.List.{list_all, list_any}
 use Rattle.dom_set.specs.Elements.{is_in}
 use Rattle.rv_csr.specs.declared.privilege.Priv.{Priv}
@@ -7,6 +7,7 @@ use Rattle.rv_csr.specs.declared.privilege.Priv.TheVariants.{U, S, M}
 use Rattle.rv_hart.specs.declared.record.Outcome.{Outcome}
 use Rattle.rv_hart.specs.declared.record.Outcome.TheVariants.{Retired, Trap}
 use Rattle.rv_hart.specs.declared.record.Record.{Record}
+use Rattle.rv_hart.specs.Registers.{no_registers, written}
 use Rattle.tpl_ast.specs.declared.template.Atom.{Atom}
 use Rattle.tpl_ast.specs.declared.template.Atom.TheVariants as atoms
 use Rattle.tpl_ast.specs.declared.template.HartDecl.{HartDecl}
@@ -15,11 +16,11 @@ use Rattle.tpl_ast.specs.declared.template.Template.{Template}
 use Rattle.tpl_ast.specs.declared.template.Var.{Var}
 use Rattle.tpl_ast.specs.declared.template.Var.TheVariants as vars
 use Rattle.tpl_ast.specs.declared.template.Wish.{Wish}
-use Rattle.tpl_ast.specs.Expansion as layouts
-use Rattle.tpl_ast.specs.Expansion.{Piece, layout_of}
+use Rattle.tpl_ast.specs.Expansion as expansions
+use Rattle.tpl_ast.specs.Expansion.{Piece, expansion_of}
 use Rattle.tpl_admit.specs.declared.admission.Unmet.{Unmet}
 use Rattle.tpl_admit.specs.declared.dropped.Dropped.{Dropped}
-use Rattle.tpl_admit.specs.Starts.{found, no_state}
+use Rattle.tpl_admit.specs.Starts.{no_state, lookup}
 use Rattle.tpl_admit.specs.Truth.{holds}
 use Rattle.tpl_admit.specs.Variables.{Moment, outcome_in}
 
@@ -105,20 +106,16 @@ pub record Stand : Type 0 where
   pub regs : List (Option ℕ)
   pub records : List Record
 
-abbrev pub written : Option (ℕ × ℕ) → List (Option ℕ) → List (Option ℕ)
-written None regs = regs
-written (Some rd) regs = slice_set regs rd.0 (Some rd.1)
-
 -- after its next record; where there is none it stays
 abbrev pub went_on : Stand → List Record → Stand
 went_on s [] = s
 went_on s (r ∷ rs) = record { step = s.step + 1; pc = r.next_pc; regs = written r.rd s.regs; records = rs }
 
 abbrev pub stand_after : Piece → Stand → Stand
-stand_after (layouts.Leaf ws) s = went_on s s.records
-stand_after (layouts.FetchFault causes) s = went_on s s.records
-stand_after (layouts.Label name) s = s
-stand_after layouts.Stuck s = s
+stand_after (expansions.Leaf ws) s = went_on s s.records
+stand_after (expansions.FetchFault causes) s = went_on s s.records
+stand_after (expansions.Label name) s = s
+stand_after expansions.Stuck s = s
 
 abbrev pub here : Stand → List Failure
 here s = (s.step, no_atom) ∷ []
@@ -148,10 +145,10 @@ abbrev pub label_failures : Context → Stand → ℕ → List Failure
 label_failures c s name = if is_value (c.names name) s.pc then [] else here s
 
 abbrev pub failures_at : Context → Piece → Stand → List Failure
-failures_at c (layouts.Leaf ws) s = leaf_failures c s ws s.records
-failures_at c (layouts.FetchFault causes) s = fetch_failures s causes s.records
-failures_at c (layouts.Label name) s = label_failures c s name
-failures_at c layouts.Stuck s = here s
+failures_at c (expansions.Leaf ws) s = leaf_failures c s ws s.records
+failures_at c (expansions.FetchFault causes) s = fetch_failures s causes s.records
+failures_at c (expansions.Label name) s = label_failures c s name
+failures_at c expansions.Stuck s = here s
 
 -- no record is left over
 abbrev pub left_over : Stand → List Record → List Failure
@@ -172,7 +169,7 @@ is_same_level _ _ = false
 
 -- the value is given
 abbrev pub gives : List (ℕ × ℕ) → ℕ × ℕ → Bool
-gives given e = is_value (found given e.0) e.1
+gives given e = is_value (lookup given e.0) e.1
 
 -- a hart's start has all that the template says of it
 abbrev pub starts_as : HartState → HartState → Bool
@@ -191,11 +188,7 @@ abbrev pub records_of : Trace → ℕ → List Record
 records_of t k = slice_index_or t.records k []
 
 abbrev pub context_of : Trace → ℕ → Context
-context_of t k = record { hart = k; names = found t.names; others = take k t.records; dropped = t.dropped }
-
--- x0 is 0, and of the others none has a value yet
-abbrev pub no_values : List (Option ℕ)
-no_values = Some 0 ∷ replicate 31 None
+context_of t k = record { hart = k; names = lookup t.names; others = take k t.records; dropped = t.dropped }
 
 -- the values of registers among those of places
 abbrev pub with_given : List (ℕ × ℕ) → List (Option ℕ) → List (Option ℕ)
@@ -203,26 +196,26 @@ with_given [] regs = regs
 with_given (e ∷ es) regs = with_given es (if nat_lt e.0 32 then slice_set regs e.0 (Some e.1) else regs)
 
 abbrev pub first_stand : Trace → ℕ → Stand
-first_stand t k = let s = slice_index_or t.start k no_state in record { step = 0; pc = s.pc; regs = with_given s.places no_values; records = records_of t k }
+first_stand t k = let s = slice_index_or t.start k no_state in record { step = 0; pc = s.pc; regs = with_given s.places no_registers; records = records_of t k }
 
 abbrev pub hart_failures : Trace → ℕ → HartDecl → List Piece → List Failure
 hart_failures t k h pieces = start_failures t k h.start ++ failures_in (context_of t k) pieces (first_stand t k)
 
-abbrev pub of_hart : ℕ → Failure → Unmet
-of_hart k f = record { hart = k; step = f.0; atom = f.1 }
+abbrev pub at_hart : ℕ → Failure → Unmet
+at_hart k f = record { hart = k; step = f.0; atom = f.1 }
 
 -- no choice is left over behind the last hart
 abbrev pub choices_over : Trace → ℕ → List ℕ → List Unmet
 choices_over t k [] = []
-choices_over t k (n ∷ ns) = of_hart (k - 1) (length (records_of t (k - 1)), no_atom) ∷ []
+choices_over t k (n ∷ ns) = at_hart (k - 1) (length (records_of t (k - 1)), no_atom) ∷ []
 
 -- the harts from one on, with the numbers that are left for their choices; behind a body that got stuck nothing is judged
 abbrev pub failures_from : Trace → ℕ → List HartDecl → Option (List ℕ) → List Unmet
 failures_from t k hs None = []
 failures_from t k [] (Some choices) = choices_over t k choices
 failures_from t k (h ∷ hs) (Some choices) =
-    let laid = layout_of h.body.items choices in
-    map (of_hart k) (hart_failures t k h laid.pieces) ++ failures_from t (k + 1) hs laid.left
+    let laid = expansion_of h.body.items choices in
+    map (at_hart k) (hart_failures t k h laid.pieces) ++ failures_from t (k + 1) hs laid.left
 
 -- all failures, by hart
 abbrev pub failures_of : Trace → List Unmet

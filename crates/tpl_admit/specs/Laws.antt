@@ -1,7 +1,7 @@
 -- What a template says decides, and not how its bodies are kept.
 use Rattle.std.specs.Prelude.{◌≡◌}
 use Rattle.tpl_ast.specs.declared.template.Template.{Template}
-use Rattle.tpl_ast.specs.Parsing.{said_by}
+use Rattle.tpl_lang.specs.Parsing.{said_by}
 use Rattle.tpl_admit.specs.declared.certificate.Cert.{Cert}
 use Rattle.tpl_admit.specs.Validity.{IsValid}
 

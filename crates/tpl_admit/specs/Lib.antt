@@ -4,15 +4,11 @@ pub mod Races
 pub mod Solo
 pub mod Variables
 pub mod Truth
-pub mod Moments
 pub mod Admitting
-pub mod Ordered
-pub mod Walks
 pub mod Admission
 pub mod Validity
-pub mod Faithfulness
 pub mod Sizes
 pub mod WellFormed
 pub mod Unmet
-pub mod Failures
 pub mod Laws
+pub mod Internal

@@ -8,13 +8,13 @@ use Rattle.rv_hart.specs.Whole.{WholeHart}
 use Rattle.tpl_ast.specs.declared.template.Region.{Region}
 use Rattle.tpl_admit.specs.declared.certificate.Cert.{Cert}
 use Rattle.tpl_ast.specs.declared.template.HartState.{HartState}
-use Rattle.tpl_ast.specs.States.{is_in}
+use Rattle.tpl_ast.specs.States.{is_in_ram}
 use Rattle.tpl_admit.specs.System.{System}
 
 -- the value that a list of pairs gives to a key
-abbrev pub found : List (ℕ × ℕ) → ℕ → Option ℕ
-found [] key = None
-found (e ∷ es) key = if nat_eq e.0 key then Some e.1 else found es key
+abbrev pub lookup : List (ℕ × ℕ) → ℕ → Option ℕ
+lookup [] key = None
+lookup (e ∷ es) key = if nat_eq e.0 key then Some e.1 else lookup es key
 
 abbrev pub no_state : HartState
 no_state = record { pc = 0; privilege = M; mstatus = 0; medeleg = 0; satp = 0; places = [] }
@@ -32,7 +32,7 @@ trace_of c k = slice_index_or c.traces k []
 
 -- the value that the start gives to word n
 abbrev pub word_of : Cert → ℕ → Option ℕ
-word_of c n = found c.words (n * 4)
+word_of c n = lookup c.words (n * 4)
 
 -- the fixed parts that a state gives to hart k
 abbrev pub fixed_in : List Region → ℕ → HartState → Fixed
@@ -43,13 +43,13 @@ fixed_in ram k s = record {
   medeleg = s.medeleg;
   satp = s.satp;
   number = k;
-  ram = λ n. is_in ram (n * 4);
+  ram = λ n. is_in_ram ram (n * 4);
 }
 
 -- a hart has these fixed parts, and the values that are given
 pub record IsInState (ram : List Region) (k : ℕ) (s : HartState) (h : WholeHart) : Type 0 where
   pub fixed : h.fixed ≡ fixed_in ram k s
-  pub places : (key v : ℕ) → found s.places key ≡ Some v → h.file key ≡ v
+  pub places : (key v : ℕ) → lookup s.places key ≡ Some v → h.file key ≡ v
 
 -- a whole system begins as the certificate says; all other registers, CSRs and words are arbitrary
 pub record AgreesWith (c : Cert) (sys : System) : Type 0 where
@@ -62,7 +62,7 @@ abbrev pub zero_elsewhere : (ℕ → Option ℕ) → ℕ → ℕ
 zero_elsewhere given x = unwrap_or (given x) 0
 
 abbrev pub first_hart : Cert → ℕ → WholeHart
-first_hart c k = record { fixed = fixed_in c.template.ram k (start_of c k); file = zero_elsewhere (found (start_of c k).places) }
+first_hart c k = record { fixed = fixed_in c.template.ram k (start_of c k); file = zero_elsewhere (lookup (start_of c k).places) }
 
 abbrev pub first_memory : Cert → ℕ → ℕ
 first_memory c = zero_elsewhere (word_of c)
@@ -73,4 +73,4 @@ first_system c = record { harts = first_hart c; memory = first_memory c }
 
 -- a place has a value at the start
 abbrev pub is_given : HartState → ℕ → Bool
-is_given s key = is_some (found s.places key)
+is_given s key = is_some (lookup s.places key)

@@ -1,5 +1,5 @@
 -- Which certificates have a file: values that a file can hold, within its limits.
-use Rattle.std.specs.Prelude.{◌≡◌, ℕ, ◌+◌, ◌*◌, ◌^◌, ◌<◌, ◌≤◌, Bool, true, List, [], ◌∷◌, length, sum_by, Option, Some, None, slice_get}
+use Rattle.std.specs.Prelude.{◌≡◌, ℕ, ◌+◌, ◌*◌, ◌<◌, ◌≤◌, true, List, [], ◌∷◌, length, sum_by, Option, Some, None, slice_get}
 use Rattle.std.specs.List.{AllByRecursion}
 use Rattle.rv_csr.specs.Causes.{is_cause}
 use Rattle.rv_hart.specs.Effects.{IsAccess}
@@ -9,7 +9,7 @@ use Rattle.rv_hart.specs.declared.record.Record.{Record}
 use Rattle.dom_set.specs.Elements.{is_in}
 use Rattle.tpl_ast.specs.declared.template.NameDecl.{NameDecl}
 use Rattle.tpl_ast.specs.Limits.{FileLimits, file_limits}
-use Rattle.tpl_ast.specs.Parsing.{Parses}
+use Rattle.tpl_lang.specs.Parsing.{Parses}
 use Rattle.tpl_admit.specs.declared.certificate.Cert.{Cert}
 use Rattle.tpl_admit.specs.declared.dropped.Dropped.{Dropped}
 use Rattle.tpl_ast.specs.States.{AreStartWords, IsState, IsWord}

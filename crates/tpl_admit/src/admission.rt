@@ -4,7 +4,7 @@ ghost use Rattle.tpl_admit.specs.declared.admission.Unmet.{Unmet as AnUnmet};
 ghost use Rattle.tpl_admit.specs.declared.certificate.Cert.{Cert as ACert};
 ghost use Rattle.tpl_admit.specs.Admission.{Admits, trace_in};
 ghost use Rattle.tpl_admit.specs.Unmet.{IsLeastFailure};
-ghost use Rattle.tpl_admit.specs.Walks.{trace};
+ghost use Rattle.tpl_admit.specs.Internal.Walks.{trace};
 ghost use Rattle.tpl_admit.specs.WellFormed.{IsWellFormed};
 
 use crate::{Cert, Trace};

@@ -1,10 +1,11 @@
 // The harts of a trace, one after another.
 ghost use Rattle.std.specs.Prelude.{◌≡◌, ◌≤◌, ◌<◌, ◌&&◌, Some, [], length, map, not, option_map, slice_index_or, slice_set};
 ghost use Rattle.std.specs.List.{list_all};
-ghost use Rattle.tpl_ast.specs.Expansion.{layout_of};
-ghost use Rattle.tpl_admit.specs.Admitting.{context_of, failures_from, first_stand, least_among, least_failure, gives, hart_failures, start_failures, has_words, is_same_level, is_value, no_values, starts_as, with_given};
-ghost use Rattle.tpl_admit.specs.Starts.{found};
-ghost use Rattle.tpl_admit.specs.Walks.{IsWithinLimits, context, noted, trace, walked};
+ghost use Rattle.tpl_ast.specs.Expansion.{expansion_of};
+ghost use Rattle.tpl_admit.specs.Admitting.{context_of, failures_from, first_stand, least_among, least_failure, gives, hart_failures, start_failures, has_words, is_same_level, is_value, starts_as, with_given};
+ghost use Rattle.rv_hart.specs.Registers.{no_registers};
+ghost use Rattle.tpl_admit.specs.Starts.{lookup};
+ghost use Rattle.tpl_admit.specs.Internal.Walks.{IsWithinLimits, context, noted, trace, walked};
 
 use crate::admission::Unmet;
 use crate::judging::{Context, Trace, Walk};
@@ -49,7 +50,7 @@ fn starts_as(told: &HartState, start: &HartState) -> bool
 
 /// The values of registers among those of places; x0 is 0.
 fn registers(places: &[(u32, u32)]) -> [Option<u32>; 32]
-    ensures { result ≡ with_given places.now no_values }
+    ensures { result ≡ with_given places.now no_registers }
 {
     let mut regs = [None; 32];
     regs[0] = Some(0);
@@ -127,8 +128,8 @@ impl<'c> Trace<'c> {
     ) -> (Option<Unmet>, Option<&'c [u32]>)
         requires limits { IsWithinLimits (trace self.now) }
         requires hart { k < length self.now.start.now }
-        ensures least { result.0 ≡ noted (context_of (trace self.now) k) (hart_failures (trace self.now) k hart.now (layout_of hart.now.body.items choices.now).pieces) least }
-        ensures left { option_map (λ c. c.now) result.1 ≡ (layout_of hart.now.body.items choices.now).left }
+        ensures least { result.0 ≡ noted (context_of (trace self.now) k) (hart_failures (trace self.now) k hart.now (expansion_of hart.now.body.items choices.now).pieces) least }
+        ensures left { option_map (λ c. c.now) result.1 ≡ (expansion_of hart.now.body.items choices.now).left }
     {
         let by = self.context(k);
         let least = self.note_start(&by, k, &hart.start, least);
@@ -151,12 +152,12 @@ impl<'c> Trace<'c> {
                     None => 0,
                     Some(records) => records.len() as u32,
                 };
-                let found = Unmet {
+                let lookup = Unmet {
                     hart: last as u8,
                     step,
                     atom: NO_ATOM,
                 };
-                lesser(least, found)
+                lesser(least, lookup)
             }
         }
     }

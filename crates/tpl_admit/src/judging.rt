@@ -1,6 +1,6 @@
 // A hart's records against its body.
 ghost use Rattle.std.specs.Prelude.{◌≡◌, ◌+◌, ◌≤◌, length, true};
-ghost use Rattle.tpl_admit.specs.Ordered.{is_ascending};
+ghost use Rattle.tpl_admit.specs.Internal.Ordered.{is_ascending};
 ghost use Rattle.tpl_ast.specs.Limits.{most_records};
 
 use crate::admission::Unmet;

@@ -1,11 +1,11 @@
 // Laws of certificates.
 ghost use Rattle.tpl_admit.specs.Laws.{SaidDecides};
 
-use tpl_ast::layout_law;
+use tpl_ast::expansion_law;
 
 /// Does nothing. Its contract says that a certificate stays valid with another template that says the same.
 pub fn said_law()
     ensures { SaidDecides }
 {
-    layout_law();
+    expansion_law();
 }

@@ -4,8 +4,8 @@ ghost use Rattle.std.specs.List.{list_any};
 ghost use Rattle.rv_isa.specs.Arithmetic.{is_branch};
 ghost use Rattle.rv_isa.specs.Fields.{reads_rs1, reads_rs2};
 ghost use Rattle.rv_hart.specs.Machine.{is_taken};
-ghost use Rattle.tpl_admit.specs.Moments.{moment};
-ghost use Rattle.tpl_admit.specs.Starts.{found};
+ghost use Rattle.tpl_admit.specs.Internal.Moments.{moment};
+ghost use Rattle.tpl_admit.specs.Starts.{lookup};
 ghost use Rattle.tpl_admit.specs.Truth.{are_different, are_same, condition_on, holds, is_among, is_apart, is_shared, is_some_false, is_some_true, record_touches, touches, trace_touches};
 ghost use Rattle.tpl_admit.specs.Variables.{address_of, data_address, first_operand, first_register, instruction_in, is_data, is_refused, offset, op_in, outcome_in, second_operand, second_register, target_of, value_of};
 
@@ -29,7 +29,7 @@ pub struct Moment<'m> {
 
 /// The value of a key among pairs.
 pub fn find(pairs: &[(u32, u32)], key: u32) -> Option<u32>
-    ensures { result ≡ found pairs.now key }
+    ensures { result ≡ lookup pairs.now key }
 {
     for pair in pairs {
         if pair.0 == key {

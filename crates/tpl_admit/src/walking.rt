@@ -2,11 +2,12 @@
 ghost use Rattle.std.specs.Prelude.{◌≡◌, ◌<◌, ◌∷◌, IfSome, IsNone, is_some, map, option_map, slice_get, true};
 ghost use Rattle.std.specs.List.{list_any};
 ghost use Rattle.tpl_ast.specs.Depths.{size_of_body, size_of_ways};
-ghost use Rattle.tpl_ast.specs.Expansion.{FetchFault, Label, Leaf, layout_of, layout_of_item, repeated};
-ghost use Rattle.tpl_admit.specs.Admitting.{comes_before, false_atoms, fetch_failures, fixes_outcome, here, is_excused, is_drop, is_on_outcome, is_unfetched, is_value, label_failures, leaf_failures, left_over, lesser, numbered, of_hart, says_outcome, unmet_atoms, unretired, went_on, written};
-ghost use Rattle.tpl_admit.specs.Moments.{moment};
-ghost use Rattle.tpl_admit.specs.Ordered.{is_ascending, stands_before};
-ghost use Rattle.tpl_admit.specs.Walks.{chosen_of, context, noted, one_passed, stopped, through, walked};
+ghost use Rattle.tpl_ast.specs.Expansion.{FetchFault, Label, Leaf, expansion_of, expansion_of_item, repeated};
+ghost use Rattle.tpl_admit.specs.Admitting.{comes_before, false_atoms, fetch_failures, fixes_outcome, here, is_excused, is_drop, is_on_outcome, is_unfetched, is_value, label_failures, leaf_failures, left_over, lesser, numbered, says_outcome, unmet_atoms, unretired, went_on, at_hart};
+ghost use Rattle.rv_hart.specs.Registers.{written};
+ghost use Rattle.tpl_admit.specs.Internal.Moments.{moment};
+ghost use Rattle.tpl_admit.specs.Internal.Ordered.{is_ascending, stands_before};
+ghost use Rattle.tpl_admit.specs.Internal.Walks.{chosen_of, context, noted, one_passed, stopped, through, walked};
 
 use crate::admission::Unmet;
 use crate::dropped::Dropped;
@@ -100,7 +101,7 @@ fn is_unfetched(outcome: Outcome) -> bool
 }
 
 /// The alternative with a number, from 0.
-#[tactic(auto, using(crate::proofs::Layouts::smaller_way))]
+#[tactic(auto, using(crate::proofs::Expansions::smaller_way))]
 fn alternative(ways: &[(u32, Vec<Item>)], n: u32) -> Option<&[Item]>
     ensures lookup { option_map (λ b. b.now) result ≡ option_map (λ w. w.1.items) (slice_get ways.now n) }
     ensures smaller { IfSome result (λ body. size_of_body body.now < size_of_ways ways.now) }
@@ -123,7 +124,7 @@ impl<'c> Context<'c> {
 
     /// The failure of this hart at a step, with an atom.
     pub fn failure(&self, step: u32, atom: u32) -> Unmet
-        ensures { result ≡ of_hart self.now.hart (step, atom) }
+        ensures { result ≡ at_hart self.now.hart (step, atom) }
     {
         Unmet {
             hart: self.hart,
@@ -270,7 +271,7 @@ impl<'c> Walk<'c> {
     /// Goes through items.
     #[cycle(walk)]
     pub fn items(&mut self, by: &Context<'_>, items: &[Item])
-        ensures { walked self.new ≡ through (context by.now) (layout_of items.now) (walked self.old) }
+        ensures { walked self.new ≡ through (context by.now) (expansion_of items.now) (walked self.old) }
     {
         for item in items {
             self.item(by, item);
@@ -279,7 +280,7 @@ impl<'c> Walk<'c> {
 
     #[cycle(walk)]
     fn item(&mut self, by: &Context<'_>, item: &Item)
-        ensures { walked self.new ≡ through (context by.now) (layout_of_item item.now) (walked self.old) }
+        ensures { walked self.new ≡ through (context by.now) (expansion_of_item item.now) (walked self.old) }
     {
         if self.choices.is_none() {
             return;
@@ -296,7 +297,7 @@ impl<'c> Walk<'c> {
 
     #[cycle(walk)]
     fn repeat(&mut self, by: &Context<'_>, times: u32, body: &[Item])
-        ensures { walked self.new ≡ through (context by.now) (repeated times (layout_of body.now)) (walked self.old) }
+        ensures { walked self.new ≡ through (context by.now) (repeated times (expansion_of body.now)) (walked self.old) }
     {
         for _ in 0..times {
             self.items(by, body);
@@ -317,7 +318,7 @@ impl<'c> Walk<'c> {
     fn take<'w>(&mut self, by: &Context<'_>, ways: &'w [(u32, Vec<Item>)]) -> Option<&'w [Item]>
         requires { is_some self.old.choices ≡ true }
         ensures none { IsNone result → walked self.new ≡ through (context by.now) (chosen_of ways.now) (walked self.old) }
-        ensures some { IfSome result (λ body. through (context by.now) (layout_of body.now) (walked self.new) ≡ through (context by.now) (chosen_of ways.now) (walked self.old)) }
+        ensures some { IfSome result (λ body. through (context by.now) (expansion_of body.now) (walked self.new) ≡ through (context by.now) (chosen_of ways.now) (walked self.old)) }
         ensures smaller { IfSome result (λ body. size_of_body body.now < size_of_ways ways.now) }
     {
         let Some([n, rest @ ..]) = self.choices else {

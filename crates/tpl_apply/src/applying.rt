@@ -1,10 +1,11 @@
 // What a statement adds to what is known.
 ghost use Rattle.std.specs.Prelude.{◌≡◌, ◌<◌, false, true, length, OnOk};
 ghost use Rattle.tpl_ast.specs.Bodies.{LabelOf};
-ghost use Rattle.tpl_ast.specs.Judging.{is_phrase_above};
-ghost use Rattle.tpl_ast.specs.Parsing.{after, all_values, allows, closed_in, is_declared, is_double, passes_count, takes_items, with_item, with_name};
-ghost use Rattle.tpl_state.specs.State.{known};
-ghost use Rattle.tpl_token.specs.Phrases.{phrase};
+ghost use Rattle.tpl_lang.specs.Faults.{is_phrase_above, allows, is_double, passes_count, takes_items};
+ghost use Rattle.tpl_lang.specs.Statements.{after, all_values, closed_in, with_item, with_name};
+ghost use Rattle.tpl_lang.specs.Known.{is_declared};
+ghost use Rattle.tpl_state.specs.Internal.State.{known};
+ghost use Rattle.tpl_token.specs.Internal.Phrases.{phrase};
 ghost use Rattle.tpl_ast.specs.Limits.{most_names};
 
 use crate::blocks::{

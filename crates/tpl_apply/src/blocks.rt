@@ -1,10 +1,12 @@
 // What items and braces do.
 ghost use Rattle.std.specs.Prelude.{◌≡◌, [], ◌∷◌, true, OnOk};
 ghost use Rattle.tpl_ast.specs.Bodies.{EnterChoose, EnterRepeat, EnterSeq, EnterWay, FetchFault, Leaf};
-ghost use Rattle.tpl_ast.specs.Parsing as language;
-ghost use Rattle.tpl_ast.specs.Parsing.{Alternative, Choice, Inside, Sequence, Times, Whole, is_in_choice, opened_as, start_of, takes_items, with_block, with_hart, with_item};
-ghost use Rattle.tpl_state.specs.Growing.{is_body_closable};
-ghost use Rattle.tpl_state.specs.State.{known};
+ghost use Rattle.tpl_lang.specs.Known as language;
+ghost use Rattle.tpl_lang.specs.Known.{Alternative, Choice, Inside, Sequence, Times, Whole};
+ghost use Rattle.tpl_lang.specs.Faults.{is_in_choice, takes_items};
+ghost use Rattle.tpl_lang.specs.Statements.{opened_as, start_of, with_block, with_hart, with_item};
+ghost use Rattle.tpl_state.specs.Internal.Growing.{is_body_closable};
+ghost use Rattle.tpl_state.specs.Internal.State.{known};
 
 use dom_set::{OutOfMemory, Set};
 use std::alloc::Global;

@@ -2,21 +2,23 @@
 ghost use Rattle.std.specs.Prelude.{◌≡◌, ◌<◌, length, ◌∷◌, [], ◌++◌, false, true, Some, OnOk};
 ghost use Rattle.std.specs.List.{list_any};
 ghost use Rattle.std.specs.Option.{unwrap_or};
-ghost use Rattle.tpl_ast.specs.Judging.{is_above};
-ghost use Rattle.tpl_ast.specs.Parsing.{all_values, inserted, is_declared, key_in, numbers, with_name};
-ghost use Rattle.tpl_ast.specs.Sets.{fours, number, resolved};
-ghost use Rattle.tpl_ast.specs.Words.{csr_of};
-ghost use Rattle.tpl_judge.specs.Aligns.{is_misaligned};
-ghost use Rattle.tpl_state.specs.State.{known};
-ghost use Rattle.tpl_token.specs.Phrases.{set_view};
+ghost use Rattle.tpl_lang.specs.Faults.{is_above, key_of_csr};
+ghost use Rattle.tpl_lang.specs.Statements.{all_values, inserted, with_name, values_of};
+ghost use Rattle.tpl_lang.specs.Known.{is_declared};
+ghost use Rattle.tpl_lang.specs.Sets.{fours, number, resolved};
+ghost use Rattle.tpl_lang.specs.Words.{csr_of};
+ghost use Rattle.tpl_judge.specs.Internal.Aligns.{is_misaligned};
+ghost use Rattle.tpl_state.specs.Internal.State.{known};
+ghost use Rattle.tpl_token.specs.Internal.Phrases.{set_view};
 ghost use Rattle.tpl_ast.specs.Limits.{most_names};
 
 use dom_set::{OutOfMemory, Set};
 use std::alloc::Global;
-use tpl_ast::{Numeral, Region, csr_of};
+use tpl_ast::Region;
 use tpl_judge::{
-    all_values, fours, insert_pair, key_in, number, push_bytes, push_numbers, resolve,
+    all_values, fours, insert_pair, key_of_csr, number, push_bytes, push_numbers, resolve,
 };
+use tpl_lang::{Numeral, csr_of};
 use tpl_state::State;
 use tpl_token::SetText;
 
@@ -35,7 +37,7 @@ pub fn add_region(state: &mut State, low: Numeral, high: Numeral) -> Result<(), 
 /// Frames of the pool.
 pub fn add_pool(state: &mut State, frames: &[Numeral]) -> Result<(), OutOfMemory>
     ensures { let k = known state.old in OnOk result (known state.new ≡
-        record k { pool = k.pool ++ numbers frames.now }) }
+        record k { pool = k.pool ++ values_of frames.now }) }
 {
     push_numbers(&mut state.pool, frames)
 }
@@ -43,7 +45,7 @@ pub fn add_pool(state: &mut State, frames: &[Numeral]) -> Result<(), OutOfMemory
 /// Frames for page tables.
 pub fn add_tables(state: &mut State, frames: &[Numeral]) -> Result<(), OutOfMemory>
     ensures { let k = known state.old in OnOk result (known state.new ≡
-        record k { tables = k.tables ++ numbers frames.now }) }
+        record k { tables = k.tables ++ values_of frames.now }) }
 {
     push_numbers(&mut state.tables, frames)
 }
@@ -52,7 +54,7 @@ pub fn add_tables(state: &mut State, frames: &[Numeral]) -> Result<(), OutOfMemo
 pub fn add_flags(state: &mut State, flags: &[Numeral]) -> Result<(), OutOfMemory>
     requires { list_any (is_above 255) flags.now ≡ false }
     ensures { let k = known state.old in OnOk result (known state.new ≡
-        record k { flags = k.flags ++ numbers flags.now }) }
+        record k { flags = k.flags ++ values_of flags.now }) }
 {
     push_bytes(&mut state.flags, flags)
 }
@@ -139,9 +141,9 @@ pub fn add_word(state: &mut State, address: Numeral, word: Numeral) -> Result<()
 /// A CSR of the hart that is open.
 pub fn add_csr(state: &mut State, name: &[u8], value: Numeral) -> Result<(), OutOfMemory>
     ensures { let k = known state.old in OnOk result (known state.new ≡
-        record k { given = inserted (key_in (csr_of name.now)) (number value) k.given }) }
+        record k { given = inserted (key_of_csr (csr_of name.now)) (number value) k.given }) }
 {
-    insert_pair(&mut state.given, key_in(csr_of(name)), number(value))
+    insert_pair(&mut state.given, key_of_csr(csr_of(name)), number(value))
 }
 
 /// A register of the hart that is open.

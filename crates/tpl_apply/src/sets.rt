@@ -1,8 +1,8 @@
 // The values of domains.
 ghost use Rattle.std.specs.Prelude.{◌≡◌, false, IfOk};
-ghost use Rattle.tpl_ast.specs.Judging.{is_domain_above};
-ghost use Rattle.tpl_ast.specs.Sets.{domain_of};
-ghost use Rattle.tpl_token.specs.Phrases.{domain_view};
+ghost use Rattle.tpl_lang.specs.Faults.{is_domain_above};
+ghost use Rattle.tpl_lang.specs.Sets.{domain_of};
+ghost use Rattle.tpl_token.specs.Internal.Phrases.{domain_view};
 
 use dom_set::{OutOfMemory, Set};
 use std::alloc::Global;

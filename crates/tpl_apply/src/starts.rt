@@ -1,7 +1,7 @@
 // The start of the hart that is open.
 ghost use Rattle.std.specs.Prelude.{◌≡◌, IfOk};
-ghost use Rattle.tpl_ast.specs.Parsing.{start_of};
-ghost use Rattle.tpl_state.specs.State.{known};
+ghost use Rattle.tpl_lang.specs.Statements.{start_of};
+ghost use Rattle.tpl_state.specs.Internal.State.{known};
 
 use dom_set::OutOfMemory;
 use std::alloc::Global;

@@ -1,10 +1,10 @@
 // The atoms of a line.
 ghost use Rattle.std.specs.Prelude.{◌≡◌, ◌≤◌, false, length, map, IfOk};
 ghost use Rattle.std.specs.List.{list_any};
-ghost use Rattle.tpl_ast.specs.Judging.{is_atom_above, is_wish_above};
-ghost use Rattle.tpl_ast.specs.Parsing.{atom_of, wish_of};
-ghost use Rattle.tpl_state.specs.State.{known};
-ghost use Rattle.tpl_token.specs.Phrases.{atom_view, wish_view, wishes_view};
+ghost use Rattle.tpl_lang.specs.Faults.{is_atom_above, is_wish_above};
+ghost use Rattle.tpl_lang.specs.Statements.{atom_of, wish_of};
+ghost use Rattle.tpl_state.specs.Internal.State.{known};
+ghost use Rattle.tpl_token.specs.Internal.Phrases.{atom_view, wish_view, wishes_view};
 ghost use Rattle.tpl_ast.specs.Limits.{most_names};
 
 use crate::sets::domain_of;

@@ -1,6 +1,8 @@
 -- A body as the list of its lines.
 use Rattle.std.specs.Prelude.{ℕ, List, [], ◌∷◌, ◌++◌, map, Vec}
 use Rattle.std.specs.Global.{Global}
+use Rattle.tpl_ast.specs.declared.template.HartDecl.{HartDecl}
+use Rattle.tpl_ast.specs.declared.template.HartState.{HartState}
 use Rattle.tpl_ast.specs.declared.template.Item.{Item}
 use Rattle.tpl_ast.specs.declared.template.Item.TheOpen.{Item-F}
 use Rattle.tpl_ast.specs.declared.template.Item.TheOpen as layers
@@ -49,3 +51,11 @@ lines_of_item = fold-Item (List BodyLine) lines_in
 -- the lines of a body
 abbrev pub lines_of_body : List Item → List BodyLine
 lines_of_body items = joined (map lines_of_item items)
+
+-- a hart, with its body as the list of its lines
+pub record HartLines : Type 0 where
+  pub start : HartState
+  pub body : List BodyLine
+
+abbrev pub hart_lines : HartDecl → HartLines
+hart_lines h = record { start = h.start; body = lines_of_body h.body.items }

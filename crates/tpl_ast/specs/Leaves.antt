@@ -6,7 +6,6 @@ use Rattle.tpl_ast.specs.declared.template.Atom.TheVariants as atoms
 use Rattle.tpl_ast.specs.declared.template.Var.{Var}
 use Rattle.tpl_ast.specs.declared.template.Var.TheVariants as vars
 use Rattle.tpl_ast.specs.declared.template.Wish.{Wish}
-use Rattle.tpl_ast.specs.Grammar.{are_comparable}
 use Rattle.tpl_ast.specs.Limits.{most_atoms}
 
 abbrev pub var_number : Var → ℕ
@@ -25,6 +24,17 @@ var_number vars.Outcome = 11
 
 abbrev pub same_var : Var → Var → Bool
 same_var v u = nat_eq (var_number v) (var_number u)
+
+-- two different ones of rs1, rs2 and rd, or a and b, in this order
+abbrev pub are_comparable : Var → Var → Bool
+are_comparable vars.Rs1 vars.Rs2 = true
+are_comparable vars.Rs1 vars.Rd = true
+are_comparable vars.Rs2 vars.Rs1 = true
+are_comparable vars.Rs2 vars.Rd = true
+are_comparable vars.Rd vars.Rs1 = true
+are_comparable vars.Rd vars.Rs2 = true
+are_comparable vars.A vars.B = true
+are_comparable _ _ = false
 
 -- relations between two variables are between two registers, or between the values of the sources
 abbrev pub IsPlain : Atom → Type 0

@@ -1,17 +1,7 @@
-pub mod Kinds
-pub mod Numbers
-pub mod Words
-pub mod Lines
-pub mod Tokens
-pub mod Phrases
-pub mod Grammar
-pub mod Spelling
-pub mod Sets
-pub mod Judging
-pub mod Bodies
+pub mod Limits
 pub mod Lengths
 pub mod Depths
-pub mod Parsing
+pub mod Bodies
 pub mod Expansion
 pub mod States
 pub mod Leaves
@@ -19,4 +9,3 @@ pub mod Choices
 pub mod Naming
 pub mod Templates
 pub mod Laws
-pub mod Limits

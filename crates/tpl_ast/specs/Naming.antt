@@ -9,7 +9,6 @@ use Rattle.tpl_ast.specs.declared.template.Item.TheFolds.{fold-Item}
 use Rattle.tpl_ast.specs.declared.template.Item.TheOpen.{Item-F}
 use Rattle.tpl_ast.specs.declared.template.Item.TheOpen as layers
 use Rattle.tpl_ast.specs.declared.template.NameDecl.{NameDecl}
-use Rattle.tpl_ast.specs.Grammar.{◌>>=◌}
 use Rattle.tpl_ast.specs.Leaves.{atoms_of, is_name_below}
 
 -- ---- bodies
@@ -17,6 +16,11 @@ use Rattle.tpl_ast.specs.Leaves.{atoms_of, is_name_below}
 -- how many names are known behind a part of a body, from how many are known in front of it; None where the part breaks the order
 abbrev pub Naming : Type 0
 Naming = ℕ → Option ℕ
+
+infixl 10 ◌>>=◌
+abbrev pub ◌>>=◌ : {A B : Type 0} → Option A → (A → Option B) → Option B
+(Some x) >>= f = f x
+None >>= f = None
 
 -- one part behind another
 abbrev pub named_in_turn : List Naming → Naming

@@ -39,10 +39,10 @@ pub record IsState (s : HartState) : Type 0 where
 -- ---- words of memory
 
 -- the address lies in one of the regions
-abbrev pub is_in : List Region → ℕ → Bool
-is_in ram a = list_any (λ r. nat_le r.low a && nat_lt a r.high) ram
+abbrev pub is_in_ram : List Region → ℕ → Bool
+is_in_ram ram a = list_any (λ r. nat_le r.low a && nat_lt a r.high) ram
 
 -- aligned words of RAM from an address on, in ascending order and each once, with words as values
 abbrev pub AreStartWords : List Region → ℕ → List (ℕ × ℕ) → Type 0
 AreStartWords ram from [] = Unit {0}
-AreStartWords ram from (e ∷ es) = (from ≤ e.0) × (e.0 % 4 ≡ 0) × (is_in ram e.0 ≡ true) × (e.1 < 2 ^ 32) × AreStartWords ram (e.0 + 4) es
+AreStartWords ram from (e ∷ es) = (from ≤ e.0) × (e.0 % 4 ≡ 0) × (is_in_ram ram e.0 ≡ true) × (e.1 < 2 ^ 32) × AreStartWords ram (e.0 + 4) es

@@ -1,5 +1,5 @@
 -- What is known of every template.
-use Rattle.std.specs.Prelude.{◌≡◌, ℕ, ◌%◌, ◌^◌, ◌<◌, ◌≤◌, ◌⊎◌, Bool, true, false, ◌&&◌, ◌||◌, ◌==◌, nat_le, nat_lt, List, [], ◌∷◌, length, map, Vec}
+use Rattle.std.specs.Prelude.{◌≡◌, ℕ, ◌+◌, ◌-◌, ◌%◌, ◌<◌, ◌≤◌, ◌⊎◌, Bool, true, false, ◌&&◌, ◌||◌, ◌==◌, nat_le, nat_lt, List, [], ◌∷◌, length, map, Vec}
 use Rattle.std.specs.Global.{Global}
 use Rattle.std.specs.List.{AllByRecursion, list_all, list_any}
 use Rattle.dom_set.specs.Elements.{is_in}
@@ -15,9 +15,22 @@ use Rattle.tpl_ast.specs.Choices.{all_true, all_ways, is_fit, weight_of}
 use Rattle.tpl_ast.specs.Leaves.{is_leaf}
 use Rattle.tpl_ast.specs.Lengths.{length_of_harts}
 use Rattle.tpl_ast.specs.Naming.{AreNamesInOrder}
-use Rattle.tpl_ast.specs.Parsing.{holds, is_number_among, size_of}
 use Rattle.tpl_ast.specs.States.{AreStartWords, IsState}
 use Rattle.tpl_ast.specs.Limits.{data_bound, last_end, longest_name, most_flags, most_harts, most_memory, most_names, most_pool, most_records, most_regions, most_tables, most_text, most_times, most_ways, most_weight}
+
+-- ---- regions and frames
+
+-- how many bytes the regions have together
+abbrev pub size_of : List Region → ℕ
+size_of [] = 0
+size_of (r ∷ rs) = r.high - r.low + size_of rs
+
+-- so many bytes from an address on lie in the region
+abbrev pub holds : ℕ → ℕ → Region → Bool
+holds lo size r = nat_le r.low lo && nat_le (lo + size) r.high
+
+abbrev pub is_number_among : List ℕ → ℕ → Bool
+is_number_among ns n = list_any (λ m. m == n) ns
 
 -- ---- memory
 

@@ -1,14 +1,15 @@
 -- Lists of parts that are read one after another.
 use Rattle.std.proofs.Common.{◌≡◌, ℕ, suc, ◌-◌, ◌+◌, ◌<◌, List, [], ◌∷◌, ◌++◌, length, Option, Some, None, option_map, refl, sym, ap, ◌∙◌, append_assoc, arith}
-use Rattle.tpl_ast.specs.declared.mark.Mark.{Mark}
-use Rattle.tpl_ast.specs.declared.mark.Mark.TheVariants as marks
-use Rattle.tpl_ast.specs.Tokens.{Token, Word, Number, Sign}
-use Rattle.tpl_ast.specs.declared.phrase.Numeral.{Numeral}
-use Rattle.tpl_ast.specs.Grammar.{Read, ◌>>=◌, list_of, more_numbers, number_at, semicolon_at, some_wishes, wish_at}
-use Rattle.tpl_ast.specs.Phrases.{WishPhrase}
+use Rattle.tpl_lang.specs.declared.mark.Mark.{Mark}
+use Rattle.tpl_lang.specs.declared.mark.Mark.TheVariants as marks
+use Rattle.tpl_lang.specs.Tokens.{Token, Word, Number, Sign}
+use Rattle.tpl_lang.specs.declared.phrase.Numeral.{Numeral}
+use Rattle.tpl_lang.specs.Reading.{more_numbers}
+use Rattle.tpl_lang.specs.PartReading.{Read, ◌>>=◌, list_of, number_at, semicolon_at, some_wishes, wish_at}
+use Rattle.tpl_lang.specs.Phrases.{WishPhrase}
 use Rattle.tpl_cursor.specs.declared.stop.Stop.{Stop}
 use Rattle.tpl_cursor.specs.declared.stop.Stop.TheVariants.{Memory, Unexpected}
-use Rattle.tpl_cursor.specs.Reading.{Fails}
+use Rattle.tpl_cursor.specs.Internal.Reading.{Fails}
 
 -- what was read before, and what is still read
 abbrev pub with_front : {A : Type 0} → List A → Read (List A) → Read (List A)

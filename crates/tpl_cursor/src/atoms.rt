@@ -1,14 +1,16 @@
 // Atoms, alone and with `prefer` before them.
 ghost use Rattle.std.specs.Prelude.{◌≡◌, length, option_map};
-ghost use Rattle.tpl_ast.specs.Words.{key_of};
-ghost use Rattle.tpl_ast.specs.Grammar.{among_by, are_comparable, atom_by, constrained_at, equal_of, named_equal, not_taken_at, of_var, related_by, semicolon_at, some_wishes, unequal_of, var_named, var_of, wish_at, wishes_at};
-ghost use Rattle.tpl_cursor.specs.Reading.{Gives, Passes, Reads};
-ghost use Rattle.tpl_token.specs.Phrases.{atom_view, wish_view, wishes_view};
+ghost use Rattle.tpl_lang.specs.Words.{key_of};
+ghost use Rattle.tpl_lang.specs.PartReading.{among_by, atom_by, constrained_at, equal_of, named_equal, not_taken_at, of_var, related_by, semicolon_at, some_wishes, unequal_of, var_named, var_of, wish_at, wishes_at};
+ghost use Rattle.tpl_ast.specs.Leaves.{are_comparable};
+ghost use Rattle.tpl_cursor.specs.Internal.Reading.{Gives, Passes, Reads};
+ghost use Rattle.tpl_token.specs.Internal.Phrases.{atom_view, wish_view, wishes_view};
 
 use crate::cursor::Cursor;
 use crate::stop::Stop;
 use std::alloc::Global;
-use tpl_ast::{Key, Mark, Var, key_of};
+use tpl_ast::Var;
+use tpl_lang::{Key, Mark, key_of};
 use tpl_token::{AtomText, Token, WishText};
 
 /// The variable that a key names.
@@ -69,7 +71,7 @@ fn named_equal(var: Var, word: &[u8]) -> Option<AtomText<'_>>
 }
 
 /// A variable that equals what a word names.
-#[tactic(auto, unfolding(tpl_ast::specs::Grammar::equal_of))]
+#[tactic(auto, unfolding(tpl_lang::specs::PartReading::equal_of))]
 fn equal_of(var: Var, word: &[u8]) -> Option<AtomText<'_>>
     ensures { option_map atom_view result ≡ equal_of var word.now }
 {
@@ -80,7 +82,7 @@ fn equal_of(var: Var, word: &[u8]) -> Option<AtomText<'_>>
 }
 
 /// A variable that differs from what a word names.
-#[tactic(auto, unfolding(tpl_ast::specs::Grammar::unequal_of))]
+#[tactic(auto, unfolding(tpl_lang::specs::PartReading::unequal_of))]
 fn unequal_of<'a>(var: Var, word: &[u8]) -> Option<AtomText<'a>>
     ensures { option_map atom_view result ≡ unequal_of var word.now }
 {
@@ -139,7 +141,7 @@ impl<'t, 'a> Cursor<'t, 'a> {
     }
 
     /// What is said of a variable.
-    #[tactic(auto, unfolding(tpl_ast::specs::Grammar::constrained_at))]
+    #[tactic(auto, unfolding(tpl_lang::specs::PartReading::constrained_at))]
     fn constrained(&mut self, alloc: Global, var: Var) -> Result<AtomText<'a>, Stop>
         ensures { Reads atom_view result self.new (constrained_at var self.old) }
     {
@@ -150,7 +152,7 @@ impl<'t, 'a> Cursor<'t, 'a> {
         }
     }
 
-    #[tactic(auto, unfolding(tpl_ast::specs::Grammar::not_taken_at))]
+    #[tactic(auto, unfolding(tpl_lang::specs::PartReading::not_taken_at))]
     fn not_taken(&mut self) -> Result<AtomText<'a>, Stop>
         ensures { Reads atom_view result self.new (not_taken_at self.old) }
     {
@@ -181,7 +183,7 @@ impl<'t, 'a> Cursor<'t, 'a> {
     }
 
     /// An atom, with an optional `prefer` before it.
-    #[tactic(auto, unfolding(tpl_ast::specs::Grammar::wish_at))]
+    #[tactic(auto, unfolding(tpl_lang::specs::PartReading::wish_at))]
     fn wish(&mut self, alloc: Global) -> Result<WishText<'a>, Stop>
         ensures { Reads wish_view result self.new (wish_at self.old) }
     {
@@ -201,7 +203,7 @@ impl<'t, 'a> Cursor<'t, 'a> {
         }
     }
 
-    #[tactic(auto, unfolding(tpl_ast::specs::Grammar::semicolon_at))]
+    #[tactic(auto, unfolding(tpl_lang::specs::PartReading::semicolon_at))]
     fn semicolon(&mut self) -> Result<(), Stop>
         ensures { Passes result self.new (semicolon_at self.old) }
     {
@@ -228,7 +230,7 @@ impl<'t, 'a> Cursor<'t, 'a> {
     }
 
     /// Atoms up to the end of the line, with semicolons between them.
-    #[tactic(auto, unfolding(tpl_ast::specs::Grammar::wishes_at))]
+    #[tactic(auto, unfolding(tpl_lang::specs::PartReading::wishes_at))]
     pub fn wishes(&mut self, alloc: Global) -> Result<Vec<WishText<'a>>, Stop>
         ensures { Gives (λ v. wishes_view v.items) result (wishes_at self.old) }
     {

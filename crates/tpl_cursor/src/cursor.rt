@@ -1,14 +1,16 @@
 // The parts of a statement that stand before the tokens that are left.
 ghost use Rattle.std.specs.Prelude.{◌≡◌, ◌↔◌, [], IsTrue, length};
-ghost use Rattle.tpl_ast.specs.Grammar.{colon_at, domain_at, element_at, elements_at, end_at, first_at, align_at, is_at, key_at, mark_at, name_at, names_at, numbers_at, list_of, outcome_at, outcome_part_at, outcomes_at, word_part_at, number_at, open_at, outcome_word_at, pc_at, priv_at, set_at, within_at, word_at};
-ghost use Rattle.tpl_cursor.specs.Reading.{Gives, Passes, Reads};
-ghost use Rattle.tpl_token.specs.Phrases.{domain_view, set_view, words_view};
-ghost use Rattle.tpl_token.specs.Views.{view, views};
+ghost use Rattle.tpl_lang.specs.Reading.{numbers_at, outcome_word_at, pc_at, priv_at};
+ghost use Rattle.tpl_lang.specs.PartReading.{colon_at, domain_at, element_at, elements_at, end_at, first_at, align_at, is_at, key_at, mark_at, name_at, names_at, list_of, outcome_at, outcome_part_at, outcomes_at, word_part_at, number_at, open_at, set_at, within_at, word_at};
+ghost use Rattle.tpl_cursor.specs.Internal.Reading.{Gives, Passes, Reads};
+ghost use Rattle.tpl_token.specs.Internal.Phrases.{domain_view, set_view, words_view};
+ghost use Rattle.tpl_token.specs.Internal.Views.{view, views};
 
 use crate::stop::Stop;
 use std::alloc::Global;
 use std::marker::Model;
-use tpl_ast::{Element, Key, Mark, Numeral, OutcomeElement, Var, key_of};
+use tpl_ast::Var;
+use tpl_lang::{Element, Key, Mark, Numeral, OutcomeElement, key_of};
 use tpl_token::{DomainText, SetText, Token, is_reserved};
 
 /// The tokens of a line that are left. Each reader takes the part that it is named for off their front, or says that
@@ -20,8 +22,8 @@ pub struct Cursor<'t, 'a> {
 
 impl<'t, 'a> Model for Cursor<'t, 'a> {
     ghost use Rattle.std.specs.Prelude.{List};
-    ghost use Rattle.tpl_ast.specs.Tokens.{Token};
-    ghost use Rattle.tpl_token.specs.Views.{views};
+    ghost use Rattle.tpl_lang.specs.Tokens.{Token};
+    ghost use Rattle.tpl_token.specs.Internal.Views.{views};
 
     ghost Value = { List Token };
 
@@ -61,7 +63,7 @@ impl<'t, 'a> Cursor<'t, 'a> {
     }
 
     /// The word that stands next.
-    #[tactic(auto, unfolding(tpl_ast::specs::Grammar::word_at))]
+    #[tactic(auto, unfolding(tpl_lang::specs::PartReading::word_at))]
     pub fn word(&mut self) -> Result<&'a [u8], Stop>
         ensures { Reads (λ w. w.now) result self.new (word_at self.old) }
     {
@@ -72,7 +74,7 @@ impl<'t, 'a> Cursor<'t, 'a> {
     }
 
     /// The number that stands next.
-    #[tactic(auto, unfolding(tpl_ast::specs::Grammar::number_at))]
+    #[tactic(auto, unfolding(tpl_lang::specs::PartReading::number_at))]
     pub fn number(&mut self) -> Result<Numeral, Stop>
         ensures { Reads (λ n. n) result self.new (number_at self.old) }
     {
@@ -82,7 +84,7 @@ impl<'t, 'a> Cursor<'t, 'a> {
         }
     }
 
-    #[tactic(auto, unfolding(tpl_ast::specs::Grammar::mark_at))]
+    #[tactic(auto, unfolding(tpl_lang::specs::PartReading::mark_at))]
     pub(crate) fn mark(&mut self) -> Result<Mark, Stop>
         ensures { Reads (λ m. m) result self.new (mark_at self.old) }
     {
@@ -93,7 +95,7 @@ impl<'t, 'a> Cursor<'t, 'a> {
     }
 
     /// The word of the language that stands next.
-    #[tactic(auto, unfolding(tpl_ast::specs::Grammar::key_at))]
+    #[tactic(auto, unfolding(tpl_lang::specs::PartReading::key_at))]
     pub fn key(&mut self) -> Result<Key, Stop>
         ensures { Reads (λ k. k) result self.new (key_at self.old) }
     {
@@ -105,7 +107,7 @@ impl<'t, 'a> Cursor<'t, 'a> {
     }
 
     /// A word that may be declared.
-    #[tactic(auto, unfolding(tpl_ast::specs::Grammar::name_at))]
+    #[tactic(auto, unfolding(tpl_lang::specs::PartReading::name_at))]
     pub fn name(&mut self) -> Result<&'a [u8], Stop>
         ensures { Reads (λ w. w.now) result self.new (name_at self.old) }
     {
@@ -118,7 +120,7 @@ impl<'t, 'a> Cursor<'t, 'a> {
     }
 
     /// Nothing: no token is left.
-    #[tactic(auto, unfolding(tpl_ast::specs::Grammar::end_at))]
+    #[tactic(auto, unfolding(tpl_lang::specs::PartReading::end_at))]
     pub fn end(&mut self) -> Result<(), Stop>
         ensures { Gives (λ x. x) result (end_at self.old) }
     {
@@ -130,7 +132,7 @@ impl<'t, 'a> Cursor<'t, 'a> {
     }
 
     /// An open brace at the end.
-    #[tactic(auto, unfolding(tpl_ast::specs::Grammar::open_at))]
+    #[tactic(auto, unfolding(tpl_lang::specs::PartReading::open_at))]
     pub fn open(&mut self) -> Result<(), Stop>
         ensures { Gives (λ x. x) result (open_at self.old) }
     {
@@ -141,7 +143,7 @@ impl<'t, 'a> Cursor<'t, 'a> {
     }
 
     /// The symbol `=`.
-    #[tactic(auto, unfolding(tpl_ast::specs::Grammar::is_at))]
+    #[tactic(auto, unfolding(tpl_lang::specs::PartReading::is_at))]
     pub fn is(&mut self) -> Result<(), Stop>
         ensures { Passes result self.new (is_at self.old) }
     {
@@ -152,7 +154,7 @@ impl<'t, 'a> Cursor<'t, 'a> {
     }
 
     /// The symbol `:`.
-    #[tactic(auto, unfolding(tpl_ast::specs::Grammar::colon_at))]
+    #[tactic(auto, unfolding(tpl_lang::specs::PartReading::colon_at))]
     pub fn colon(&mut self) -> Result<(), Stop>
         ensures { Passes result self.new (colon_at self.old) }
     {
@@ -163,7 +165,7 @@ impl<'t, 'a> Cursor<'t, 'a> {
     }
 
     /// The word `in`.
-    #[tactic(auto, unfolding(tpl_ast::specs::Grammar::within_at))]
+    #[tactic(auto, unfolding(tpl_lang::specs::PartReading::within_at))]
     pub fn within(&mut self) -> Result<(), Stop>
         ensures { Passes result self.new (within_at self.old) }
     {
@@ -174,7 +176,7 @@ impl<'t, 'a> Cursor<'t, 'a> {
     }
 
     /// The word `pc`.
-    #[tactic(auto, unfolding(tpl_ast::specs::Grammar::pc_at))]
+    #[tactic(auto, unfolding(tpl_lang::specs::Reading::pc_at))]
     pub fn pc(&mut self) -> Result<(), Stop>
         ensures { Passes result self.new (pc_at self.old) }
     {
@@ -185,7 +187,7 @@ impl<'t, 'a> Cursor<'t, 'a> {
     }
 
     /// The word `priv`.
-    #[tactic(auto, unfolding(tpl_ast::specs::Grammar::priv_at))]
+    #[tactic(auto, unfolding(tpl_lang::specs::Reading::priv_at))]
     pub fn priv_word(&mut self) -> Result<(), Stop>
         ensures { Passes result self.new (priv_at self.old) }
     {
@@ -196,7 +198,7 @@ impl<'t, 'a> Cursor<'t, 'a> {
     }
 
     /// The word `outcome`.
-    #[tactic(auto, unfolding(tpl_ast::specs::Grammar::outcome_word_at))]
+    #[tactic(auto, unfolding(tpl_lang::specs::Reading::outcome_word_at))]
     pub fn outcome_word(&mut self) -> Result<(), Stop>
         ensures { Passes result self.new (outcome_word_at self.old) }
     {
@@ -207,7 +209,7 @@ impl<'t, 'a> Cursor<'t, 'a> {
     }
 
     /// An element, and the symbol behind it.
-    #[tactic(auto, unfolding(tpl_ast::specs::Grammar::element_at))]
+    #[tactic(auto, unfolding(tpl_lang::specs::PartReading::element_at))]
     pub(crate) fn element(&mut self) -> Result<(Element, Mark), Stop>
         ensures { Reads (λ x. x) result self.new (element_at self.old) }
     {
@@ -240,7 +242,7 @@ impl<'t, 'a> Cursor<'t, 'a> {
     }
 
     /// What stands behind `align`, if that is there.
-    #[tactic(auto, unfolding(tpl_ast::specs::Grammar::align_at))]
+    #[tactic(auto, unfolding(tpl_lang::specs::PartReading::align_at))]
     pub(crate) fn align(&mut self) -> Result<Option<Numeral>, Stop>
         ensures { Reads (λ x. x) result self.new (align_at self.old) }
     {
@@ -256,7 +258,7 @@ impl<'t, 'a> Cursor<'t, 'a> {
     }
 
     /// A set: a name, or elements in braces with what stands behind `align`.
-    #[tactic(auto, unfolding(tpl_ast::specs::Grammar::set_at))]
+    #[tactic(auto, unfolding(tpl_lang::specs::PartReading::set_at))]
     pub fn set(&mut self, alloc: Global) -> Result<SetText<'a>, Stop>
         ensures { Reads set_view result self.new (set_at self.old) }
     {
@@ -272,7 +274,7 @@ impl<'t, 'a> Cursor<'t, 'a> {
     }
 
     /// A word, and the symbol behind it.
-    #[tactic(auto, unfolding(tpl_ast::specs::Grammar::word_part_at))]
+    #[tactic(auto, unfolding(tpl_lang::specs::PartReading::word_part_at))]
     pub(crate) fn word_part(&mut self) -> Result<(&'a [u8], Mark), Stop>
         ensures { Reads (λ p. (p.0.now, p.1)) result self.new (word_part_at self.old) }
     {
@@ -298,7 +300,7 @@ impl<'t, 'a> Cursor<'t, 'a> {
         Err(Stop::Unexpected)
     }
 
-    #[tactic(auto, unfolding(tpl_ast::specs::Grammar::outcome_at))]
+    #[tactic(auto, unfolding(tpl_lang::specs::PartReading::outcome_at))]
     pub(crate) fn outcome(&mut self) -> Result<OutcomeElement, Stop>
         ensures { Reads (λ o. o) result self.new (outcome_at self.old) }
     {
@@ -313,7 +315,7 @@ impl<'t, 'a> Cursor<'t, 'a> {
     }
 
     /// An outcome, and the symbol behind it.
-    #[tactic(auto, unfolding(tpl_ast::specs::Grammar::outcome_part_at))]
+    #[tactic(auto, unfolding(tpl_lang::specs::PartReading::outcome_part_at))]
     pub(crate) fn outcome_part(&mut self) -> Result<(OutcomeElement, Mark), Stop>
         ensures { Reads (λ p. p) result self.new (outcome_part_at self.old) }
     {
@@ -340,7 +342,7 @@ impl<'t, 'a> Cursor<'t, 'a> {
     }
 
     /// Names in braces.
-    #[tactic(auto, unfolding(tpl_ast::specs::Grammar::names_at))]
+    #[tactic(auto, unfolding(tpl_lang::specs::PartReading::names_at))]
     pub(crate) fn names(&mut self, alloc: Global) -> Result<Vec<&'a [u8]>, Stop>
         ensures { Reads (λ v. words_view v.items) result self.new (names_at self.old) }
     {
@@ -351,7 +353,7 @@ impl<'t, 'a> Cursor<'t, 'a> {
     }
 
     /// Outcomes in braces.
-    #[tactic(auto, unfolding(tpl_ast::specs::Grammar::outcomes_at))]
+    #[tactic(auto, unfolding(tpl_lang::specs::PartReading::outcomes_at))]
     pub fn outcomes(&mut self, alloc: Global) -> Result<Vec<OutcomeElement>, Stop>
         ensures { Reads (λ v. v.items) result self.new (outcomes_at self.old) }
     {
@@ -373,7 +375,7 @@ impl<'t, 'a> Cursor<'t, 'a> {
     }
 
     /// Numbers up to the end of the line, at least one.
-    #[tactic(auto, unfolding(tpl_ast::specs::Grammar::numbers_at))]
+    #[tactic(auto, unfolding(tpl_lang::specs::Reading::numbers_at))]
     pub fn numbers(&mut self, alloc: Global) -> Result<Vec<Numeral>, Stop>
         ensures { Gives (λ v. v.items) result (numbers_at self.old) }
     {

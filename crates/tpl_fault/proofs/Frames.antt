@@ -5,10 +5,11 @@ use Rattle.std.proofs.lemmas.List.{take_more}
 use Rattle.tpl_ast.specs.declared.template.Region.{Region}
 use Rattle.std.specs.Bool.{◌==◌}
 use Rattle.std.specs.List.{list_any}
-use Rattle.tpl_ast.specs.declared.phrase.Numeral.{Numeral}
-use Rattle.tpl_ast.specs.Sets.{number}
-use Rattle.tpl_ast.specs.Parsing.{are_bad_frames, is_bad_frame, is_number_among}
-use Rattle.tpl_fault.specs.Frames.{others_after}
+use Rattle.tpl_lang.specs.declared.phrase.Numeral.{Numeral}
+use Rattle.tpl_lang.specs.Sets.{number}
+use Rattle.tpl_lang.specs.Faults.{are_bad_frames, is_bad_frame}
+use Rattle.tpl_ast.specs.Templates.{is_number_among}
+use Rattle.tpl_fault.specs.Internal.Frames.{others_after}
 
 pub after_push : (fs : List Numeral) (f : Numeral) (others : List ℕ) → others_after (fs ++ f ∷ []) others ≡ number f ∷ others_after fs others
 after_push [] f others = refl

@@ -1,8 +1,8 @@
 // The least fault of a statement.
 ghost use Rattle.std.specs.Prelude.{◌≡◌, IfOk};
-ghost use Rattle.tpl_ast.specs.Parsing.{fault_of};
-ghost use Rattle.tpl_state.specs.State.{known};
-ghost use Rattle.tpl_token.specs.Phrases.{phrase};
+ghost use Rattle.tpl_lang.specs.Kinds.{fault_of};
+ghost use Rattle.tpl_state.specs.Internal.State.{known};
+ghost use Rattle.tpl_token.specs.Internal.Phrases.{phrase};
 
 use crate::names::{is_double, is_unknown};
 use crate::order::{allows, is_deep, is_last, is_long, passes_count};
@@ -11,13 +11,13 @@ use crate::sets::is_empty;
 use crate::starts::is_bad_start;
 use dom_set::OutOfMemory;
 use std::alloc::Global;
-use tpl_ast::Kind;
 use tpl_judge::{is_name_twice, is_phrase_above, is_phrase_long};
+use tpl_lang::Kind;
 use tpl_state::State;
 use tpl_token::Statement;
 
 /// The least kind of fault that a statement has where it stands, if it has one. Behind a `last` one the text ends.
-#[tactic(auto, unfolding(tpl_ast::specs::Parsing::fault_of))]
+#[tactic(auto, unfolding(tpl_lang::specs::Kinds::fault_of))]
 pub fn find_fault(
     alloc: Global,
     state: &State,

@@ -1,12 +1,14 @@
 // Names that are declared before, and words and names that aren't known.
 ghost use Rattle.std.specs.Prelude.{◌≡◌};
 ghost use Rattle.std.specs.List.{list_any};
-ghost use Rattle.tpl_ast.specs.Parsing.{is_atom_unknown, is_declared, is_domain_unknown, is_double, is_set_unknown, is_unknown};
-ghost use Rattle.tpl_state.specs.State.{known};
-ghost use Rattle.tpl_token.specs.Phrases.{atom_view, domain_view, phrase, set_view, wishes_view};
+ghost use Rattle.tpl_lang.specs.Faults.{is_atom_unknown, is_domain_unknown, is_double, is_set_unknown, is_unknown};
+ghost use Rattle.tpl_lang.specs.Known.{is_declared};
+ghost use Rattle.tpl_state.specs.Internal.State.{known};
+ghost use Rattle.tpl_token.specs.Internal.Phrases.{atom_view, domain_view, phrase, set_view, wishes_view};
 
-use tpl_ast::{Var, csr_of};
+use tpl_ast::Var;
 use tpl_judge::is_any_word_unknown;
+use tpl_lang::csr_of;
 use tpl_state::State;
 use tpl_token::{AtomText, DomainText, SetText, Statement, WishText};
 

@@ -1,15 +1,16 @@
 // Whether a statement may stand where it stands, and what it does to blocks.
 ghost use Rattle.std.specs.Prelude.{◌≡◌};
-ghost use Rattle.tpl_ast.specs.Parsing.{allows, is_deep, is_finished, is_first, is_item_place, is_last, is_long, is_never_given, opens, passes_count};
-ghost use Rattle.tpl_ast.specs.Words.{csr_of};
-ghost use Rattle.tpl_state.specs.State.{known};
-ghost use Rattle.tpl_token.specs.Phrases.{phrase};
+ghost use Rattle.tpl_lang.specs.Faults.{allows, is_deep, is_finished, is_first, is_item_place, is_last, is_long, is_never_given, opens, passes_count};
+ghost use Rattle.tpl_lang.specs.Words.{csr_of};
+ghost use Rattle.tpl_state.specs.Internal.State.{known};
+ghost use Rattle.tpl_token.specs.Internal.Phrases.{phrase};
 
 use rv_csr::Register;
 use tpl_ast::{
     MAX_BLOCKS, MAX_FLAGS, MAX_HARTS, MAX_NAMES, MAX_POOL, MAX_RECORDS, MAX_REGIONS, MAX_SETS,
-    MAX_TABLES, MAX_WAYS, csr_of,
+    MAX_TABLES, MAX_WAYS,
 };
+use tpl_lang::csr_of;
 use tpl_state::State;
 use tpl_token::Statement;
 

@@ -1,14 +1,14 @@
 // Whether regions, frames, flags and words may be given.
 ghost use Rattle.std.specs.Prelude.{◌≡◌, ◌++◌};
-ghost use Rattle.tpl_ast.specs.Parsing.{are_bad_frames, is_bad_frame, is_bad_ram, is_bad_word};
-ghost use Rattle.tpl_fault.specs.Frames.{others_after};
-ghost use Rattle.tpl_state.specs.State.{known};
-ghost use Rattle.tpl_token.specs.Phrases.{phrase};
+ghost use Rattle.tpl_lang.specs.Faults.{are_bad_frames, is_bad_frame, is_bad_ram, is_bad_word};
+ghost use Rattle.tpl_fault.specs.Internal.Frames.{others_after};
+ghost use Rattle.tpl_state.specs.Internal.State.{known};
+ghost use Rattle.tpl_token.specs.Internal.Phrases.{phrase};
 
-use tpl_ast::Numeral;
 use tpl_judge::{
     any_holds, has_key, has_value, is_any_pointer_flag, is_bad_region, is_number_among, number,
 };
+use tpl_lang::Numeral;
 use tpl_state::State;
 use tpl_token::Statement;
 

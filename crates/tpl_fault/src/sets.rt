@@ -1,12 +1,11 @@
 // Sets without elements.
 ghost use Rattle.std.specs.Prelude.{◌≡◌, false, IfOk};
 ghost use Rattle.std.specs.List.{list_any};
-ghost use Rattle.tpl_ast.specs.Judging.{is_atom_above, is_domain_above, is_phrase_above, is_wish_above};
-ghost use Rattle.tpl_ast.specs.Parsing.{is_atom_empty, is_domain_empty, is_empty, is_none_of};
-ghost use Rattle.tpl_ast.specs.Sets.{fours, resolved};
-ghost use Rattle.tpl_judge.specs.Aligns.{is_misaligned};
-ghost use Rattle.tpl_state.specs.State.{known};
-ghost use Rattle.tpl_token.specs.Phrases.{atom_view, domain_view, phrase, set_view, wishes_view};
+ghost use Rattle.tpl_lang.specs.Faults.{is_atom_above, is_domain_above, is_phrase_above, is_wish_above, is_atom_empty, is_domain_empty, is_empty, is_none_of};
+ghost use Rattle.tpl_lang.specs.Sets.{fours, resolved};
+ghost use Rattle.tpl_judge.specs.Internal.Aligns.{is_misaligned};
+ghost use Rattle.tpl_state.specs.Internal.State.{known};
+ghost use Rattle.tpl_token.specs.Internal.Phrases.{atom_view, domain_view, phrase, set_view, wishes_view};
 
 use dom_set::OutOfMemory;
 use std::alloc::Global;

@@ -1,21 +1,21 @@
 // Whether a hart's start may be given.
 ghost use Rattle.std.specs.Prelude.{◌≡◌, ◌||◌, not};
 ghost use Rattle.rv_csr.specs.Table.{is_legal_for};
-ghost use Rattle.tpl_ast.specs.Parsing.{has_key, is_bad_start, key_in};
-ghost use Rattle.tpl_state.specs.State.{known};
-ghost use Rattle.tpl_token.specs.Phrases.{phrase};
+ghost use Rattle.tpl_lang.specs.Faults.{has_key, is_bad_start, key_of_csr};
+ghost use Rattle.tpl_state.specs.Internal.State.{known};
+ghost use Rattle.tpl_token.specs.Internal.Phrases.{phrase};
 
 use rv_csr::Register;
-use tpl_ast::csr_of;
-use tpl_judge::{has_key, is_legal_for, key_in, number};
+use tpl_judge::{has_key, is_legal_for, key_of_csr, number};
+use tpl_lang::csr_of;
 use tpl_state::State;
 use tpl_token::Statement;
 
 /// Whether a CSR was given before, or not this value.
 fn is_bad_csr(state: &State, register: Option<Register>, value: u32) -> bool
-    ensures { result ≡ (not (is_legal_for register value) || has_key (known state.now).given (key_in register)) }
+    ensures { result ≡ (not (is_legal_for register value) || has_key (known state.now).given (key_of_csr register)) }
 {
-    !is_legal_for(register, value) || has_key(&state.given, key_in(register))
+    !is_legal_for(register, value) || has_key(&state.given, key_of_csr(register))
 }
 
 /// Whether a statement gives a hart's number, a pc, a CSR or a register that is not allowed.

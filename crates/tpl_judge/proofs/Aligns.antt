@@ -3,11 +3,11 @@ use Rattle.std.proofs.Common.{◌≡◌, ℕ, ◌<◌, ◌^◌, false, Some, ref
 use Rattle.std.proofs.lemmas.Bool.{not-false, or_parts}
 use Rattle.std.specs.Int.{IsPowerOfTwo}
 use Rattle.dom_set.specs.Laws.{PowersAreTested}
-use Rattle.tpl_ast.specs.declared.phrase.Numeral.{Numeral}
-use Rattle.tpl_ast.specs.Judging.{is_align_wrong, is_large, is_set_above}
-use Rattle.tpl_ast.specs.Phrases.{SetPhrase, Named, Listed}
-use Rattle.tpl_ast.specs.Sets.{number}
-use Rattle.tpl_judge.specs.Aligns.{is_misaligned}
+use Rattle.tpl_lang.specs.declared.phrase.Numeral.{Numeral}
+use Rattle.tpl_lang.specs.Faults.{is_align_wrong, is_large, is_set_above}
+use Rattle.tpl_lang.specs.Phrases.{SetPhrase, Named, Listed}
+use Rattle.tpl_lang.specs.Sets.{number}
+use Rattle.tpl_judge.specs.Internal.Aligns.{is_misaligned}
 
 pub aligned_set : (limit : ℕ) (s : SetPhrase) → is_set_above limit s ≡ false → is_misaligned s ≡ false
 aligned_set limit (Named name) fine = refl

@@ -2,9 +2,9 @@
 use Rattle.std.proofs.Common.{◌≡◌, ℕ, suc, ◌≤◌, Bool, true, false, not, cond, ltb, List, [], ◌∷◌, refl, sym, ap, ◌∙◌, add-one, arith}
 use Rattle.std.specs.List.{insert, list_all}
 use Rattle.std.proofs.lemmas.Bool.{and_from, and_parts, le-ltb, ltb-false, ltb-true, not_from_false}
-use Rattle.tpl_ast.specs.Parsing.{inserted}
-use Rattle.tpl_state.specs.Ordered.{is_ascending}
-use Rattle.tpl_judge.specs.Entries.{place_of}
+use Rattle.tpl_lang.specs.Statements.{inserted}
+use Rattle.tpl_state.specs.Internal.Ordered.{is_ascending}
+use Rattle.tpl_judge.specs.Internal.Entries.{place_of}
 use Rattle.tpl_judge.proofs.Searches.{not_below}
 
 place_cases : (key : ℕ) (e : ℕ × ℕ) (es : List (ℕ × ℕ)) (b : Bool) → ltb key e.0 ≡ b → place_of key (e ∷ es) ≡ cond b 0 (suc (place_of key es))

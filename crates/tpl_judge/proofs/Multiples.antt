@@ -6,7 +6,7 @@ use Rattle.std.proofs.lemmas.Bool.Decides.{nat_tests}
 use Rattle.std.specs.Int.{IsPowerOfTwo}
 use Rattle.dom_set.specs.Elements.{elements_of, is_in, is_within}
 use Rattle.dom_set.specs.Laws.{ElementsPass, IsInTests, SameTestsSameElements}
-use Rattle.tpl_ast.specs.Sets.{fours, listed}
+use Rattle.tpl_lang.specs.Sets.{fours, listed}
 
 pub power_four : IsPowerOfTwo 4
 power_four = (2, refl)

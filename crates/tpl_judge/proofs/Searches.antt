@@ -4,9 +4,10 @@ use Rattle.std.specs.Option.{is_some, unwrap_or}
 use Rattle.std.specs.List.{list_all, slice_get, slice_index_or}
 use Rattle.std.specs.List.Sorted.{IsPartitionedBy, IsPartitionPoint}
 use Rattle.std.proofs.lemmas.Bool.{and_parts, cases_Bool, cases_lt, eqb-false, eqb-true, false_from_ne_true, le-leb, leb-true, lt-ltb, ltb-false, ltb-true}
-use Rattle.tpl_ast.specs.Parsing.{has_key, value_at}
-use Rattle.tpl_state.specs.Ordered.{is_ascending}
-use Rattle.tpl_judge.specs.Entries.{place_of, value_in, value_of}
+use Rattle.tpl_lang.specs.Faults.{has_key}
+use Rattle.tpl_lang.specs.Statements.{value_at}
+use Rattle.tpl_state.specs.Internal.Ordered.{is_ascending}
+use Rattle.tpl_judge.specs.Internal.Entries.{place_of, value_in, value_of}
 
 -- ---- keys rise
 

@@ -1,2 +1,1 @@
-pub mod Aligns
-pub mod Entries
+pub mod Internal

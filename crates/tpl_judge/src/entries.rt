@@ -1,8 +1,9 @@
 // Pairs of a key and a value, by ascending key.
 ghost use Rattle.std.specs.Prelude.{◌≡◌, ◌≤◌, length, true, IfOk, OnOk};
-ghost use Rattle.tpl_ast.specs.Parsing.{has_key, inserted, is_fixed_key, lazy_places, value_at};
-ghost use Rattle.tpl_judge.specs.Entries.{place_of, value_in, value_of};
-ghost use Rattle.tpl_state.specs.Ordered.{is_ascending};
+ghost use Rattle.tpl_lang.specs.Faults.{has_key};
+ghost use Rattle.tpl_lang.specs.Statements.{inserted, is_fixed_key, lazy_places, value_at};
+ghost use Rattle.tpl_judge.specs.Internal.Entries.{place_of, value_in, value_of};
+ghost use Rattle.tpl_state.specs.Internal.Ordered.{is_ascending};
 
 use dom_set::OutOfMemory;
 use std::alloc::Global;

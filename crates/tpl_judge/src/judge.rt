@@ -1,15 +1,14 @@
 // What is wrong with a statement, whatever lines stand before it.
 ghost use Rattle.std.specs.Prelude.{◌≡◌, IfOk};
 ghost use Rattle.std.specs.List.{list_any};
-ghost use Rattle.tpl_ast.specs.Judging.{has_twice, is_above, is_align_wrong, is_atom_above, is_domain_above, is_domain_long, is_element_above, is_large, is_name_among, is_name_twice, is_no_cause, is_no_fetch_cause, is_no_register, is_phrase_above, is_phrase_long, is_set_above, is_set_long, is_wish_above, is_wish_long, limit_of, names_in};
-ghost use Rattle.tpl_token.specs.Phrases.{domain_view, atom_view, phrase, set_view, wish_view, wishes_view, words_view};
+ghost use Rattle.tpl_lang.specs.Faults.{has_twice, is_above, is_align_wrong, is_atom_above, is_domain_above, is_domain_long, is_element_above, is_large, is_name_among, is_name_twice, is_no_cause, is_no_fetch_cause, is_no_register, is_phrase_above, is_phrase_long, is_set_above, is_set_long, is_wish_above, is_wish_long, limit_of, names_in};
+ghost use Rattle.tpl_token.specs.Internal.Phrases.{domain_view, atom_view, phrase, set_view, wish_view, wishes_view, words_view};
 
 use crate::values::number;
 use rv_csr::is_cause;
 use std::alloc::{AllocError, Global};
-use tpl_ast::{
-    Element, MAX_ATOMS, MAX_ELEMENTS, MAX_TIMES, MAX_WEIGHT, Numeral, OutcomeElement, Var,
-};
+use tpl_ast::{MAX_ATOMS, MAX_ELEMENTS, MAX_TIMES, MAX_WEIGHT, Var};
+use tpl_lang::{Element, Numeral, OutcomeElement};
 use tpl_token::{AtomText, DomainText, SetText, Statement, WishText};
 
 fn is_large(n: Numeral) -> bool

@@ -15,5 +15,5 @@ pub use judge::{is_name_twice, is_phrase_above, is_phrase_long};
 pub use names::is_any_word_unknown;
 pub use ram::{any_holds, has_value, is_any_pointer_flag, is_bad_region, is_number_among};
 pub use sets::{align_law, all_values, causes, fours, resolve, vectors_of, word_points};
-pub use starts::{is_legal_for, key_in};
+pub use starts::{is_legal_for, key_of_csr};
 pub use values::{number, push_bytes, push_numbers};

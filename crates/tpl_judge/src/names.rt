@@ -1,10 +1,11 @@
 // Words that aren't known.
 ghost use Rattle.std.specs.Prelude.{◌≡◌};
 ghost use Rattle.std.specs.List.{list_any};
-ghost use Rattle.tpl_ast.specs.Parsing.{is_word_unknown};
-ghost use Rattle.tpl_token.specs.Phrases.{words_view};
+ghost use Rattle.tpl_lang.specs.Faults.{is_word_unknown};
+ghost use Rattle.tpl_token.specs.Internal.Phrases.{words_view};
 
-use tpl_ast::{Var, csr_of, op_of};
+use tpl_ast::Var;
+use tpl_lang::{csr_of, op_of};
 
 /// Whether a word is no operation or CSR, whichever the variable takes.
 fn is_word_unknown(var: Var, word: &[u8]) -> bool

@@ -1,11 +1,13 @@
 // Whether regions, frames and flags may be given.
 ghost use Rattle.std.specs.Prelude.{◌≡◌, ◌==◌, ◌^◌, ◌-◌, min};
 ghost use Rattle.std.specs.List.{list_any};
-ghost use Rattle.tpl_ast.specs.Parsing.{holds, is_bad_region, is_number_among, is_pointer_flag, overlaps, size_of};
-ghost use Rattle.tpl_ast.specs.Sets.{number};
+ghost use Rattle.tpl_ast.specs.Templates.{holds, is_number_among, size_of};
+ghost use Rattle.tpl_lang.specs.Faults.{is_bad_region, is_pointer_flag, overlaps};
+ghost use Rattle.tpl_lang.specs.Sets.{number};
 
 use crate::values::number;
-use tpl_ast::{LAST_END, MAX_MEMORY, Numeral, Region};
+use tpl_ast::{LAST_END, MAX_MEMORY, Region};
+use tpl_lang::Numeral;
 
 fn overlaps(low: u32, high: u32, region: Region) -> bool
     ensures { result ≡ overlaps low high region }

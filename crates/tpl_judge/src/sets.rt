@@ -1,18 +1,20 @@
 // Sets of numbers.
 ghost use Rattle.std.specs.Prelude.{◌≡◌, ℕ, ◌+◌, ◌-◌, ◌^◌, ◌++◌, false, map, min, IfOk, OnOk};
 ghost use Rattle.std.specs.Int.{IsPowerOfTwo};
-ghost use Rattle.tpl_ast.specs.Judging.{is_align_wrong, is_set_above};
-ghost use Rattle.tpl_ast.specs.Parsing.{all_values, vectors_of};
-ghost use Rattle.tpl_ast.specs.Phrases.{SetPhrase};
-ghost use Rattle.tpl_ast.specs.Sets.{align_in, address_in, fours, listed, number, outcome_number, points, ranges_in, ranges_of, resolved, word_number, wraps};
-ghost use Rattle.tpl_judge.specs.Aligns.{is_misaligned};
-ghost use Rattle.tpl_token.specs.Phrases.{set_view, words_view};
+ghost use Rattle.tpl_lang.specs.Faults.{is_align_wrong, is_set_above};
+ghost use Rattle.tpl_lang.specs.Statements.{all_values};
+ghost use Rattle.tpl_lang.specs.Parsing.{vectors_of};
+ghost use Rattle.tpl_lang.specs.Phrases.{SetPhrase};
+ghost use Rattle.tpl_lang.specs.Sets.{align_in, address_in, fours, listed, number, outcome_number, points, ranges_in, ranges_of, resolved, word_number, wraps};
+ghost use Rattle.tpl_judge.specs.Internal.Aligns.{is_misaligned};
+ghost use Rattle.tpl_token.specs.Internal.Phrases.{set_view, words_view};
 
 use crate::values::number;
 use dom_set::{OutOfMemory, Set, set_laws};
 use rv_csr::{Register, row_of};
 use std::alloc::Global;
-use tpl_ast::{Element, Numeral, OutcomeElement, Var, csr_of, op_number};
+use tpl_ast::Var;
+use tpl_lang::{Element, Numeral, OutcomeElement, csr_of, op_number};
 use tpl_state::Sets;
 use tpl_token::SetText;
 

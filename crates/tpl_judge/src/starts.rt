@@ -1,13 +1,13 @@
 // The registers of a hart's start.
 ghost use Rattle.std.specs.Prelude.{◌≡◌};
 ghost use Rattle.rv_csr.specs.Table.{is_legal_for};
-ghost use Rattle.tpl_ast.specs.Parsing.{key_in};
+ghost use Rattle.tpl_lang.specs.Faults.{key_of_csr};
 
 use rv_csr::{Register, row_of};
 
 /// The key of a register among a hart's places.
-pub fn key_in(register: Option<Register>) -> u32
-    ensures { result ≡ key_in register }
+pub fn key_of_csr(register: Option<Register>) -> u32
+    ensures { result ≡ key_of_csr register }
 {
     match register {
         None => 0,

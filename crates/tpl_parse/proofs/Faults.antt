@@ -1,11 +1,12 @@
 -- What a statement without a fault has not.
 use Rattle.std.proofs.Common.{◌≡◌, Bool, true, false, not, ◌&&◌, ◌||◌, Option, Some, None, if◌then◌else◌, refl}
 use Rattle.std.proofs.lemmas.Bool.{not-false, or_parts}
-use Rattle.tpl_ast.specs.declared.fault.Kind.{Kind}
-use Rattle.tpl_ast.specs.declared.fault.Kind.TheVariants as kinds
-use Rattle.tpl_ast.specs.Judging.{is_name_twice, is_phrase_above, is_phrase_long}
-use Rattle.tpl_ast.specs.Parsing.{Known, allows, fault_of, is_last, is_unknown, is_double, is_empty, is_deep, is_long, passes_count}
-use Rattle.tpl_ast.specs.Phrases.{Phrase}
+use Rattle.tpl_lang.specs.declared.fault.Kind.{Kind}
+use Rattle.tpl_lang.specs.declared.fault.Kind.TheVariants as kinds
+use Rattle.tpl_lang.specs.Faults.{is_name_twice, is_phrase_above, is_phrase_long, allows, is_last, is_unknown, is_double, is_empty, is_deep, is_long, passes_count}
+use Rattle.tpl_lang.specs.Kinds.{fault_of}
+use Rattle.tpl_lang.specs.Known.{Known}
+use Rattle.tpl_lang.specs.Phrases.{Phrase}
 
 -- no fault is found by a list of questions where the first finds one
 unfold_if : (b : Bool) (k : Kind) (rest : Option Kind) → (if b then Some k else rest) ≡ None → (b ≡ false) × (rest ≡ None)

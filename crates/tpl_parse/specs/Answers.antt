@@ -1,10 +1,10 @@
 -- What the parser returns, against the definition of the language.
 use Rattle.std.specs.Prelude.{◌≡◌, ℕ, Result, Ok, Err}
-use Rattle.tpl_ast.specs.declared.fault.Fault.{Fault}
-use Rattle.tpl_ast.specs.declared.fault.Kind.{Kind}
-use Rattle.tpl_ast.specs.declared.fault.Kind.TheVariants.{Unexpected}
+use Rattle.tpl_lang.specs.declared.fault.Fault.{Fault}
+use Rattle.tpl_lang.specs.declared.fault.Kind.{Kind}
+use Rattle.tpl_lang.specs.declared.fault.Kind.TheVariants.{Unexpected}
 use Rattle.tpl_ast.specs.declared.template.Template.{Template}
-use Rattle.tpl_ast.specs.Parsing.{Said, fault, said_by}
+use Rattle.tpl_lang.specs.Parsing.{Said, fault, said_by}
 use Rattle.tpl_parse.specs.declared.error.ParseError.{ParseError}
 use Rattle.tpl_parse.specs.declared.error.ParseError.TheVariants as errors
 use Rattle.tpl_parse.specs.declared.error.Trouble.{Trouble}

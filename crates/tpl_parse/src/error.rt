@@ -1,14 +1,14 @@
 // Why a text is not read.
 ghost use Rattle.std.specs.Prelude.{◌≡◌};
-ghost use Rattle.tpl_ast.specs.declared.fault.Kind.TheVariants.{Unexpected};
+ghost use Rattle.tpl_lang.specs.declared.fault.Kind.TheVariants.{Unexpected};
 ghost use Rattle.tpl_parse.specs.Answers.{trouble_of};
 ghost use Rattle.tpl_parse.specs.declared.error.Trouble.TheVariants.{Memory};
 
 use dom_set::OutOfMemory;
 use std::alloc::AllocError;
 use thiserror::Error;
-use tpl_ast::{Fault, Kind};
 use tpl_cursor::Stop;
+use tpl_lang::{Fault, Kind};
 
 /// Why a text was not read.
 #[derive(Clone, Copy, Debug, PartialEq, Eq, Error)]

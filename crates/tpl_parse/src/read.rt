@@ -1,25 +1,27 @@
 // The lines of a text, each judged after those before it.
 ghost use Rattle.std.specs.Prelude.{◌≡◌, ◌≤◌, ◌<◌, length, Err, IfOk};
-ghost use Rattle.tpl_ast.specs.declared.fault.Kind.TheVariants.{TooLong};
-ghost use Rattle.tpl_ast.specs.Lines.{lines};
-ghost use Rattle.tpl_ast.specs.Parsing.{Parses, fault, judged, nothing, parses, run, said, said_by, told};
+ghost use Rattle.tpl_lang.specs.declared.fault.Kind.TheVariants.{TooLong};
+ghost use Rattle.tpl_lang.specs.Lines.{lines};
+ghost use Rattle.tpl_lang.specs.Parsing.{Parses, fault, parses, said, said_by, line_parsed, lines_parsed, tokens_parsed};
+ghost use Rattle.tpl_lang.specs.Known.{nothing};
 ghost use Rattle.tpl_parse.specs.declared.error.ParseError.TheVariants as errors;
 ghost use Rattle.tpl_parse.specs.Answers.{Answers, IsSaid, Meets, at_line};
-ghost use Rattle.tpl_state.specs.State.{known};
-ghost use Rattle.tpl_token.specs.Views.{views};
+ghost use Rattle.tpl_state.specs.Internal.State.{known};
+ghost use Rattle.tpl_token.specs.Internal.Views.{views};
 ghost use Rattle.tpl_ast.specs.Limits.{most_text};
 
 use crate::error::{ParseError, Trouble};
 use std::alloc::Global;
 use tpl_apply::apply;
-use tpl_ast::{Fault, Items, Kind, MAX_TEXT, Template};
+use tpl_ast::{Items, MAX_TEXT, Template};
 use tpl_fault::{find_fault, is_finished};
 use tpl_judge::vectors_of;
+use tpl_lang::{Fault, Kind};
 use tpl_phrase::read_statement;
 use tpl_state::State;
 use tpl_token::{Token, has_bad_byte, length_until, split_line, strip, tokens};
 
-#[tactic(auto, unfolding(tpl_ast::specs::Parsing::told), using(crate::proofs::Faults::faultless))]
+#[tactic(auto, unfolding(tpl_lang::specs::Parsing::tokens_parsed), using(crate::proofs::Faults::faultless))]
 fn read_tokens(
     alloc: Global,
     state: &mut State,
@@ -27,7 +29,7 @@ fn read_tokens(
     tokens: &[Token<'_>],
     last: bool,
 ) -> Result<(), Trouble>
-    ensures { Meets (known state.new) result (told (known state.old) line (views tokens.now) last) }
+    ensures { Meets (known state.new) result (tokens_parsed (known state.old) line (views tokens.now) last) }
 {
     if tokens.is_empty() {
         if last && !is_finished(state) {
@@ -43,7 +45,7 @@ fn read_tokens(
     Ok(())
 }
 
-#[tactic(auto, unfolding(tpl_ast::specs::Parsing::judged))]
+#[tactic(auto, unfolding(tpl_lang::specs::Parsing::line_parsed))]
 fn read_line(
     alloc: Global,
     state: &mut State,
@@ -51,7 +53,7 @@ fn read_line(
     bytes: &[u8],
     last: bool,
 ) -> Result<(), Trouble>
-    ensures { Meets (known state.new) result (judged (known state.old) line bytes.now last) }
+    ensures { Meets (known state.new) result (line_parsed (known state.old) line bytes.now last) }
 {
     if has_bad_byte(bytes) {
         return Err(Trouble::Fault(Kind::BadByte));
@@ -99,7 +101,7 @@ fn refuse(trouble: Trouble, line: u32) -> ParseError
 /// What all lines have said, or the first faulty one and its fault.
 fn read_lines(alloc: Global, text: &[u8]) -> Result<State, ParseError>
     requires { length text.now ≤ most_text }
-    ensures { Answers (λ s. said (known s)) result (run nothing 1 (lines text.now)) }
+    ensures { Answers (λ s. said (known s)) result (lines_parsed nothing 1 (lines text.now)) }
 {
     let mut state = State::new(alloc);
     let mut line: u32 = 1;
@@ -125,7 +127,7 @@ fn read_lines(alloc: Global, text: &[u8]) -> Result<State, ParseError>
 }
 
 /// The template that a text says, or its first faulty line with the least kind of fault on it.
-#[tactic(auto, unfolding(tpl_ast::specs::Parsing::parses))]
+#[tactic(auto, unfolding(tpl_lang::specs::Parsing::parses))]
 pub fn parse(alloc: Global, text: &[u8]) -> Result<Template, ParseError>
     ensures said { Answers said_by result (parses text.now) }
     ensures text { IfOk result (λ t. t.text ≡ text.now) }

@@ -1,16 +1,16 @@
 // The statement that the tokens of a line are.
-ghost use Rattle.tpl_ast.specs.Grammar.{block_at, csr_at, data_at, domain_of_name_at, fault_at, hart_at, close_at, keyed_at, label_at, named_set_at, privilege_at, ram_at, reg_at, register_at, repeat_at, start_at, statement_of, vectors_at, way_at};
-ghost use Rattle.tpl_cursor.specs.Reading.{Gives, Reads};
-ghost use Rattle.tpl_token.specs.Phrases.{phrase};
-ghost use Rattle.tpl_token.specs.Views.{views};
+ghost use Rattle.tpl_lang.specs.Reading.{block_at, csr_at, data_at, domain_of_name_at, fault_at, hart_at, close_at, keyed_at, label_at, named_set_at, privilege_at, ram_at, reg_at, register_at, repeat_at, start_at, statement_of, vectors_at, way_at};
+ghost use Rattle.tpl_cursor.specs.Internal.Reading.{Gives, Reads};
+ghost use Rattle.tpl_token.specs.Internal.Phrases.{phrase};
+ghost use Rattle.tpl_token.specs.Internal.Views.{views};
 
 use rv_csr::Priv;
 use std::alloc::Global;
-use tpl_ast::{Key, Mark, Numeral, key_of};
 use tpl_cursor::{Cursor, Stop};
+use tpl_lang::{Key, Mark, Numeral, key_of};
 use tpl_token::{Statement, Token, register_of};
 
-#[tactic(auto, unfolding(tpl_ast::specs::Grammar::ram_at))]
+#[tactic(auto, unfolding(tpl_lang::specs::Reading::ram_at))]
 fn ram<'a>(cursor: &mut Cursor<'_, 'a>) -> Result<Statement<'a>, Stop>
     ensures { Gives phrase result (ram_at cursor.old) }
 {
@@ -20,7 +20,7 @@ fn ram<'a>(cursor: &mut Cursor<'_, 'a>) -> Result<Statement<'a>, Stop>
     Ok(Statement::Ram(low, high))
 }
 
-#[tactic(auto, unfolding(tpl_ast::specs::Grammar::vectors_at))]
+#[tactic(auto, unfolding(tpl_lang::specs::Reading::vectors_at))]
 fn vectors<'a>(alloc: Global, cursor: &mut Cursor<'_, 'a>) -> Result<Statement<'a>, Stop>
     ensures { Gives phrase result (vectors_at cursor.old) }
 {
@@ -29,7 +29,7 @@ fn vectors<'a>(alloc: Global, cursor: &mut Cursor<'_, 'a>) -> Result<Statement<'
     Ok(Statement::Vectors(set))
 }
 
-#[tactic(auto, unfolding(tpl_ast::specs::Grammar::named_set_at))]
+#[tactic(auto, unfolding(tpl_lang::specs::Reading::named_set_at))]
 fn named_set<'a>(alloc: Global, cursor: &mut Cursor<'_, 'a>) -> Result<Statement<'a>, Stop>
     ensures { Gives phrase result (named_set_at cursor.old) }
 {
@@ -41,7 +41,7 @@ fn named_set<'a>(alloc: Global, cursor: &mut Cursor<'_, 'a>) -> Result<Statement
 }
 
 /// A name with its domain.
-#[tactic(auto, unfolding(tpl_ast::specs::Grammar::domain_of_name_at))]
+#[tactic(auto, unfolding(tpl_lang::specs::Reading::domain_of_name_at))]
 fn domain_of_name<'a>(alloc: Global, cursor: &mut Cursor<'_, 'a>) -> Result<Statement<'a>, Stop>
     ensures { Gives phrase result (domain_of_name_at cursor.old) }
 {
@@ -52,7 +52,7 @@ fn domain_of_name<'a>(alloc: Global, cursor: &mut Cursor<'_, 'a>) -> Result<Stat
     Ok(Statement::Name(name, set))
 }
 
-#[tactic(auto, unfolding(tpl_ast::specs::Grammar::data_at))]
+#[tactic(auto, unfolding(tpl_lang::specs::Reading::data_at))]
 fn data<'a>(cursor: &mut Cursor<'_, 'a>) -> Result<Statement<'a>, Stop>
     ensures { Gives phrase result (data_at cursor.old) }
 {
@@ -63,7 +63,7 @@ fn data<'a>(cursor: &mut Cursor<'_, 'a>) -> Result<Statement<'a>, Stop>
     Ok(Statement::Data(address, word))
 }
 
-#[tactic(auto, unfolding(tpl_ast::specs::Grammar::hart_at))]
+#[tactic(auto, unfolding(tpl_lang::specs::Reading::hart_at))]
 fn hart<'a>(cursor: &mut Cursor<'_, 'a>) -> Result<Statement<'a>, Stop>
     ensures { Gives phrase result (hart_at cursor.old) }
 {
@@ -72,7 +72,7 @@ fn hart<'a>(cursor: &mut Cursor<'_, 'a>) -> Result<Statement<'a>, Stop>
     Ok(Statement::Hart(number))
 }
 
-#[tactic(auto, unfolding(tpl_ast::specs::Grammar::privilege_at))]
+#[tactic(auto, unfolding(tpl_lang::specs::Reading::privilege_at))]
 fn privilege(cursor: &mut Cursor<'_, '_>) -> Result<Priv, Stop>
     ensures { Reads (λ p. p) result cursor.new (privilege_at cursor.old) }
 {
@@ -84,7 +84,7 @@ fn privilege(cursor: &mut Cursor<'_, '_>) -> Result<Priv, Stop>
     }
 }
 
-#[tactic(auto, unfolding(tpl_ast::specs::Grammar::start_at))]
+#[tactic(auto, unfolding(tpl_lang::specs::Reading::start_at))]
 fn start<'a>(cursor: &mut Cursor<'_, 'a>) -> Result<Statement<'a>, Stop>
     ensures { Gives phrase result (start_at cursor.old) }
 {
@@ -96,7 +96,7 @@ fn start<'a>(cursor: &mut Cursor<'_, 'a>) -> Result<Statement<'a>, Stop>
     Ok(Statement::Start(pc, privilege))
 }
 
-#[tactic(auto, unfolding(tpl_ast::specs::Grammar::csr_at))]
+#[tactic(auto, unfolding(tpl_lang::specs::Reading::csr_at))]
 fn csr<'a>(cursor: &mut Cursor<'_, 'a>) -> Result<Statement<'a>, Stop>
     ensures { Gives phrase result (csr_at cursor.old) }
 {
@@ -108,7 +108,7 @@ fn csr<'a>(cursor: &mut Cursor<'_, 'a>) -> Result<Statement<'a>, Stop>
 }
 
 /// A register's number, None where it is too large.
-#[tactic(auto, unfolding(tpl_ast::specs::Grammar::register_at))]
+#[tactic(auto, unfolding(tpl_lang::specs::Reading::register_at))]
 fn register(cursor: &mut Cursor<'_, '_>) -> Result<Option<u32>, Stop>
     ensures { Reads (λ n. n) result cursor.new (register_at cursor.old) }
 {
@@ -119,7 +119,7 @@ fn register(cursor: &mut Cursor<'_, '_>) -> Result<Option<u32>, Stop>
     }
 }
 
-#[tactic(auto, unfolding(tpl_ast::specs::Grammar::reg_at))]
+#[tactic(auto, unfolding(tpl_lang::specs::Reading::reg_at))]
 fn reg<'a>(cursor: &mut Cursor<'_, 'a>) -> Result<Statement<'a>, Stop>
     ensures { Gives phrase result (reg_at cursor.old) }
 {
@@ -130,7 +130,7 @@ fn reg<'a>(cursor: &mut Cursor<'_, 'a>) -> Result<Statement<'a>, Stop>
     Ok(Statement::Reg(number, value))
 }
 
-#[tactic(auto, unfolding(tpl_ast::specs::Grammar::fault_at))]
+#[tactic(auto, unfolding(tpl_lang::specs::Reading::fault_at))]
 fn fault<'a>(alloc: Global, cursor: &mut Cursor<'_, 'a>) -> Result<Statement<'a>, Stop>
     ensures { Gives phrase result (fault_at cursor.old) }
 {
@@ -141,7 +141,7 @@ fn fault<'a>(alloc: Global, cursor: &mut Cursor<'_, 'a>) -> Result<Statement<'a>
     Ok(Statement::Fault(outcomes))
 }
 
-#[tactic(auto, unfolding(tpl_ast::specs::Grammar::repeat_at))]
+#[tactic(auto, unfolding(tpl_lang::specs::Reading::repeat_at))]
 fn repeat<'a>(cursor: &mut Cursor<'_, 'a>) -> Result<Statement<'a>, Stop>
     ensures { Gives phrase result (repeat_at cursor.old) }
 {
@@ -150,7 +150,7 @@ fn repeat<'a>(cursor: &mut Cursor<'_, 'a>) -> Result<Statement<'a>, Stop>
     Ok(Statement::Repeat(times))
 }
 
-#[tactic(auto, unfolding(tpl_ast::specs::Grammar::label_at))]
+#[tactic(auto, unfolding(tpl_lang::specs::Reading::label_at))]
 fn label<'a>(cursor: &mut Cursor<'_, 'a>) -> Result<Statement<'a>, Stop>
     ensures { Gives phrase result (label_at cursor.old) }
 {
@@ -160,7 +160,7 @@ fn label<'a>(cursor: &mut Cursor<'_, 'a>) -> Result<Statement<'a>, Stop>
 }
 
 /// An alternative behind its weight.
-#[tactic(auto, unfolding(tpl_ast::specs::Grammar::way_at))]
+#[tactic(auto, unfolding(tpl_lang::specs::Reading::way_at))]
 fn way<'a>(cursor: &mut Cursor<'_, 'a>, weight: Numeral) -> Result<Statement<'a>, Stop>
     ensures { Gives phrase result (way_at weight cursor.old) }
 {
@@ -170,7 +170,7 @@ fn way<'a>(cursor: &mut Cursor<'_, 'a>, weight: Numeral) -> Result<Statement<'a>
 }
 
 /// The statement that a word opens.
-#[tactic(auto, unfolding(tpl_ast::specs::Grammar::block_at))]
+#[tactic(auto, unfolding(tpl_lang::specs::Reading::block_at))]
 fn keyed<'a>(alloc: Global, cursor: &mut Cursor<'_, 'a>, key: Key) -> Result<Statement<'a>, Stop>
     ensures { Gives phrase result (keyed_at key cursor.old) }
 {
@@ -207,7 +207,7 @@ fn keyed<'a>(alloc: Global, cursor: &mut Cursor<'_, 'a>, key: Key) -> Result<Sta
     }
 }
 
-#[tactic(auto, unfolding(tpl_ast::specs::Grammar::close_at))]
+#[tactic(auto, unfolding(tpl_lang::specs::Reading::close_at))]
 fn close<'a>(cursor: &mut Cursor<'_, 'a>) -> Result<Statement<'a>, Stop>
     ensures { Gives phrase result (close_at cursor.old) }
 {
@@ -216,7 +216,7 @@ fn close<'a>(cursor: &mut Cursor<'_, 'a>) -> Result<Statement<'a>, Stop>
 }
 
 /// The statement that the tokens of a line are, all of them.
-#[tactic(auto, unfolding(tpl_ast::specs::Grammar::statement_of))]
+#[tactic(auto, unfolding(tpl_lang::specs::Reading::statement_of))]
 pub fn read_statement<'a>(alloc: Global, tokens: &[Token<'a>]) -> Result<Statement<'a>, Stop>
     ensures { Gives phrase result (statement_of (views tokens.now)) }
 {

@@ -14,11 +14,12 @@ use Rattle.tpl_ast.specs.declared.template.Item.TheVariants as variants
 use Rattle.tpl_ast.specs.declared.template.Item.TheFolds.{fold-roll-Item}
 use Rattle.tpl_ast.specs.declared.template.Wish.{Wish}
 use Rattle.tpl_ast.specs.Bodies.{BodyLine, Leaf, FetchFault, EnterSeq, EnterRepeat, EnterChoose, EnterWay, LabelOf, Leave, lines_in, lines_of_body, lines_of_item, lines_of_ways}
-use Rattle.tpl_ast.specs.Parsing as language
-use Rattle.tpl_ast.specs.Parsing.{Open, Whole, is_repeat}
+use Rattle.tpl_lang.specs.Known as language
+use Rattle.tpl_lang.specs.Known.{Open, Whole}
+use Rattle.tpl_lang.specs.Faults.{is_repeat}
 use Rattle.tpl_state.specs.declared.body.Block.TheVariants as blocks
 use Rattle.tpl_state.specs.declared.body.OpenBlock.{OpenBlock}
-use Rattle.tpl_state.specs.Growing.{fits_in, is_nested, kind_of, lines_of_alternatives, lines_of_block, lines_of_open, open_of, stacked}
+use Rattle.tpl_state.specs.Internal.Growing.{fits_in, is_nested, kind_of, lines_of_alternatives, lines_of_block, lines_of_open, open_of, stacked}
 
 pub body_push : (xs : List Item) (i : Item) → lines_of_body (xs ++ i ∷ []) ≡ lines_of_body xs ++ lines_of_item i
 body_push [] i = append-nil (lines_of_item i)

@@ -10,10 +10,10 @@ use Rattle.std.proofs.lemmas.List.Sums.{prefix_len-le-length}
 use Rattle.std.proofs.lemmas.List.{length-map, map-append}
 use Rattle.indexmap.specs.IndexMap.{insert_entry}
 use Rattle.tpl_ast.specs.declared.template.NameDecl.{NameDecl}
-use Rattle.tpl_ast.specs.Parsing.{index_among, name_among}
-use Rattle.tpl_ast.specs.Sets.{NamedSet, find_set}
+use Rattle.tpl_lang.specs.Known.{index_among, name_among}
+use Rattle.tpl_lang.specs.Sets.{NamedSet, find_set}
 use Rattle.tpl_state.specs.declared.names.Domain.{Domain}
-use Rattle.tpl_state.specs.Finding.{elements_of_set}
+use Rattle.tpl_state.specs.Internal.Finding.{elements_of_set}
 
 -- bytes are compared either way round
 swapped : (xs ys : List ℕ) → bytes_eq xs ys ≡ bytes_eq ys xs

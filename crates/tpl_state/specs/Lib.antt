@@ -1,5 +1,1 @@
-pub mod Growing
-pub mod Finding
-pub mod Places
-pub mod State
-pub mod Ordered
+pub mod Internal

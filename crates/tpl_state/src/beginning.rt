@@ -1,7 +1,7 @@
 // What is known before the first line.
 ghost use Rattle.std.specs.Prelude.{◌≡◌};
-ghost use Rattle.tpl_ast.specs.Parsing.{nothing};
-ghost use Rattle.tpl_state.specs.State.{known};
+ghost use Rattle.tpl_lang.specs.Known.{nothing};
+ghost use Rattle.tpl_state.specs.Internal.State.{known};
 
 use crate::body::Growing;
 use crate::names::Names;

@@ -2,8 +2,10 @@
 ghost use Rattle.std.specs.Prelude.{◌≡◌, ◌<◌, ◌+◌, ◌||◌, nat_lt, ◌∷◌, [], ◌++◌, false, length, true, IfOk, OnOk};
 ghost use Rattle.std.specs.List.{list_any};
 ghost use Rattle.tpl_ast.specs.Bodies.{EnterChoose, EnterRepeat, EnterSeq, EnterWay, FetchFault, LabelOf, Leaf, Leave, lines_of_body, lines_of_item};
-ghost use Rattle.tpl_ast.specs.Parsing.{Alternative, Choice, Sequence, Times, Whole, add_length, add_way, body_length, is_choice, is_closable, is_in_choice, is_repeat, opened_as, takes_items, ways_in};
-ghost use Rattle.tpl_state.specs.Growing.{closed, fits_in, is_body_closable, is_weighted, kind_of, lines_of_block, open_of, ways_of};
+ghost use Rattle.tpl_lang.specs.Known.{Alternative, Choice, Sequence, Times, Whole};
+ghost use Rattle.tpl_lang.specs.Statements.{add_length, add_way, opened_as};
+ghost use Rattle.tpl_lang.specs.Faults.{body_length, is_choice, is_closable, is_in_choice, is_repeat, takes_items, ways_in};
+ghost use Rattle.tpl_state.specs.Internal.Growing.{closed, fits_in, is_body_closable, is_weighted, kind_of, lines_of_block, open_of, ways_of};
 
 use dom_set::Set;
 use std::alloc::{AllocError, Global};
@@ -38,7 +40,7 @@ pub struct Growing {
 
 impl Model for Growing {
     ghost use Rattle.std.specs.Prelude.{◌≡◌, [], true};
-    ghost use Rattle.tpl_state.specs.Growing.{Grown, is_nested, lines_of_open, stacked};
+    ghost use Rattle.tpl_state.specs.Internal.Growing.{Grown, is_nested, lines_of_open, stacked};
 
     ghost Value = { Grown };
 

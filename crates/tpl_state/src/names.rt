@@ -1,7 +1,7 @@
 // Names and labels that are declared.
 ghost use Rattle.std.specs.Prelude.{◌≡◌, ◌≤◌, ◌+◌, ◌++◌, ◌∷◌, [], false, length, IfOk, OnErr, OnOk};
 ghost use Rattle.tpl_ast.specs.Limits.{most_names};
-ghost use Rattle.tpl_ast.specs.Parsing.{index_among, name_among};
+ghost use Rattle.tpl_lang.specs.Known.{index_among, name_among};
 
 use dom_set::{OutOfMemory, Set};
 use indexmap::IndexMap;

@@ -1,7 +1,7 @@
 // Where a line stands.
 ghost use Rattle.std.specs.Prelude.{◌≡◌};
-ghost use Rattle.tpl_ast.specs.Parsing.{is_begin, is_ended, is_head, is_inside, is_settings};
-ghost use Rattle.tpl_state.specs.Places.{place_view};
+ghost use Rattle.tpl_lang.specs.Faults.{is_begin, is_ended, is_head, is_inside, is_settings};
+ghost use Rattle.tpl_state.specs.Internal.Places.{place_view};
 
 /// What may come next.
 #[derive(Clone, Copy, Debug, PartialEq, Eq)]

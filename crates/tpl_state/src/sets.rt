@@ -1,8 +1,8 @@
 // Sets that are declared.
 ghost use Rattle.std.specs.Prelude.{◌≡◌, ◌++◌, ◌∷◌, [], None, length, option_map, OnErr, OnOk};
 ghost use Rattle.std.specs.Option.{is_some};
-ghost use Rattle.tpl_ast.specs.Sets.{find_set};
-ghost use Rattle.tpl_state.specs.Finding.{elements_of_set};
+ghost use Rattle.tpl_lang.specs.Sets.{find_set};
+ghost use Rattle.tpl_state.specs.Internal.Finding.{elements_of_set};
 
 use dom_set::{OutOfMemory, Set};
 use indexmap::IndexMap;
@@ -17,7 +17,7 @@ pub struct Sets {
 
 impl Model for Sets {
     ghost use Rattle.std.specs.Prelude.{List, map};
-    ghost use Rattle.tpl_ast.specs.Sets.{NamedSet};
+    ghost use Rattle.tpl_lang.specs.Sets.{NamedSet};
 
     ghost Value = { List NamedSet };
 

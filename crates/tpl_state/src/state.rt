@@ -1,7 +1,7 @@
 // What the lines so far have said.
 ghost use Rattle.std.specs.Prelude.{◌≡◌, ◌≤◌, length, true};
 ghost use Rattle.tpl_ast.specs.Limits.{most_names};
-ghost use Rattle.tpl_state.specs.Ordered.{is_ascending};
+ghost use Rattle.tpl_state.specs.Internal.Ordered.{is_ascending};
 
 use crate::body::Growing;
 use crate::names::Names;

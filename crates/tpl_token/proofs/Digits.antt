@@ -2,7 +2,7 @@
 use Rattle.std.proofs.Common.{◌≡◌, ℕ, ◌+◌, ◌*◌, ◌^◌, ◌≤◌, List, [], ◌∷◌, None, refl, arith}
 use Rattle.std.proofs.lemmas.Bool.{le-ltb}
 use Rattle.std.proofs.Math.Nat.{mul-le-mul_left}
-use Rattle.tpl_ast.specs.Numbers.{digit_of, value_of, fitting}
+use Rattle.tpl_lang.specs.Numbers.{digit_of, value_of, fitting}
 
 grows : (base n : ℕ) (ds : List ℕ) → 1 ≤ base → n ≤ value_of base n ds
 grows base n [] low = omega arith

@@ -1,7 +1,7 @@
 -- The first line of a text.
 use Rattle.std.proofs.Common.{◌≡◌, ℕ, suc, ◌+◌, ◌<◌, Bool, true, false, cond, List, [], ◌∷◌, length, take, drop, refl, sym, ap, ◌∙◌, arith, add-one, eqb, drop-cons, length-drop, ◌-◌}
 use Rattle.std.proofs.lemmas.List.{take_all, drop_all}
-use Rattle.tpl_ast.specs.Lines.{length_until, lines, to_first}
+use Rattle.tpl_lang.specs.Lines.{length_until, lines, to_first}
 
 -- the lines behind the end of the first
 abbrev pub behind : List ℕ → List (List ℕ)

@@ -1,8 +1,8 @@
 -- The first piece of a line, and those behind it.
 use Rattle.std.proofs.Common.{◌≡◌, ℕ, suc, ◌<◌, Bool, true, false, cond, List, [], ◌∷◌, ◌++◌, Option, Some, None, length, take, drop, get_or, refl, sym, ap, ◌∙◌, arith, add-one, append_assoc}
 use Rattle.std.specs.Prelude.{option_map}
-use Rattle.tpl_ast.specs.Tokens.{joins, with_byte, pieces, Token, is_blank, token_of, tokens_among}
-use Rattle.tpl_token.specs.Pieces.{joined, piece_len}
+use Rattle.tpl_lang.specs.Tokens.{joins, with_byte, pieces, Token, is_blank, token_of, tokens_among}
+use Rattle.tpl_token.specs.Internal.Pieces.{joined, piece_len}
 
 -- what a byte does before pieces of which the first begins with c
 with_byte_cases : (b c : ℕ) (cs : List ℕ) (ps : List (List ℕ)) (j : Bool) → joins b c ≡ j → with_byte b ((c ∷ cs) ∷ ps) ≡ cond j ((b ∷ c ∷ cs) ∷ ps) ((b ∷ []) ∷ (c ∷ cs) ∷ ps)

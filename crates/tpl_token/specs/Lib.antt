@@ -1,3 +1,1 @@
-pub mod Views
-pub mod Phrases
-pub mod Pieces
+pub mod Internal

@@ -1,7 +1,7 @@
 // The lines of a text.
 ghost use Rattle.std.specs.Prelude.{◌≡◌, ◌<◌, ◌≤◌, ◌∷◌, IfSome, length, option_copied};
 ghost use Rattle.std.specs.List.{list_any};
-ghost use Rattle.tpl_ast.specs.Lines.{length_until, lines, lines_left, stripped, is_bad_byte};
+ghost use Rattle.tpl_lang.specs.Lines.{length_until, lines, lines_left, stripped, is_bad_byte};
 
 /// How many bytes stand before the first b.
 pub fn length_until(bytes: &[u8], b: u8) -> usize

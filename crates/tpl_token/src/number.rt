@@ -1,7 +1,7 @@
 // The values of numbers.
 ghost use Rattle.std.specs.Prelude.{◌≡◌, ◌≤◌, nat_lt};
 ghost use Rattle.std.specs.List.{list_all};
-ghost use Rattle.tpl_ast.specs.Numbers.{digit_of, value_of, fitting, negated_of, are_digits};
+ghost use Rattle.tpl_lang.specs.Numbers.{digit_of, value_of, fitting, negated_of, are_digits};
 
 fn digit(b: u8) -> u32
     ensures { result ≡ digit_of b }

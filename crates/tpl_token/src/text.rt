@@ -1,6 +1,7 @@
 // Statements whose words lie in the text.
 use rv_csr::Priv;
-use tpl_ast::{Element, Numeral, OutcomeElement, Var};
+use tpl_ast::Var;
+use tpl_lang::{Element, Numeral, OutcomeElement};
 
 /// A set of numbers as it is spelled.
 #[derive(Drop)]

@@ -2,13 +2,14 @@
 ghost use Rattle.std.specs.Prelude.{◌≡◌, ◌<◌, ◌≤◌, ◌&&◌, not, length, IfOk, option_map};
 ghost use Rattle.std.specs.List.{list_all};
 ghost use Rattle.std.specs.Char.{is_ascii_uppercase};
-ghost use Rattle.tpl_ast.specs.Tokens.{is_blank, is_word, is_word_byte, joins, mark_of, number_of, token_of, tokens_of};
-ghost use Rattle.tpl_token.specs.Pieces.{piece_len};
-ghost use Rattle.tpl_token.specs.Views.{view, views};
+ghost use Rattle.tpl_lang.specs.Tokens.{is_blank, is_word, is_word_byte, joins, mark_of, number_of, token_of, tokens_of};
+ghost use Rattle.tpl_token.specs.Internal.Pieces.{piece_len};
+ghost use Rattle.tpl_token.specs.Internal.Views.{view, views};
 
 use crate::number::{are_digits, decimal, hexadecimal, negated};
 use std::alloc::{AllocError, Global};
-use tpl_ast::{MAX_NAME, Mark, Numeral};
+use tpl_ast::MAX_NAME;
+use tpl_lang::{Mark, Numeral};
 
 /// A token; a word lies in the text.
 #[derive(Clone, Copy, Debug)]
@@ -65,7 +66,7 @@ fn are_word_bytes(word: &[u8]) -> bool
         .all(|b| is_word_byte(*b) && !b.is_ascii_uppercase())
 }
 
-#[tactic(auto, unfolding(tpl_ast::specs::Tokens::is_word))]
+#[tactic(auto, unfolding(tpl_lang::specs::Tokens::is_word))]
 fn is_word(piece: &[u8]) -> bool
     requires { 0 < length piece.now }
     ensures { result ≡ is_word piece.now }
@@ -74,7 +75,7 @@ fn is_word(piece: &[u8]) -> bool
 }
 
 /// The number that a piece spells, if it spells one.
-#[tactic(auto, unfolding(tpl_ast::specs::Tokens::number_of))]
+#[tactic(auto, unfolding(tpl_lang::specs::Tokens::number_of))]
 fn number(piece: &[u8]) -> Option<Numeral>
     requires { 0 < length piece.now }
     ensures { result ≡ number_of piece.now }
@@ -108,7 +109,7 @@ fn number(piece: &[u8]) -> Option<Numeral>
     None
 }
 
-#[tactic(auto, unfolding(tpl_ast::specs::Tokens::mark_of))]
+#[tactic(auto, unfolding(tpl_lang::specs::Tokens::mark_of))]
 fn find_mark(piece: &[u8]) -> Option<Mark>
     ensures { result ≡ mark_of piece.now }
 {
@@ -143,7 +144,7 @@ fn find_mark(piece: &[u8]) -> Option<Mark>
 }
 
 /// The token that a piece is.
-#[tactic(auto, unfolding(tpl_ast::specs::Tokens::token_of))]
+#[tactic(auto, unfolding(tpl_lang::specs::Tokens::token_of))]
 fn find_token(piece: &[u8]) -> Option<Token<'_>>
     requires { 0 < length piece.now }
     ensures { option_map view result ≡ token_of piece.now }
@@ -159,7 +160,7 @@ fn find_token(piece: &[u8]) -> Option<Token<'_>>
 }
 
 /// The tokens of a line without its comment, if all of it is tokens.
-#[tactic(auto, unfolding(tpl_ast::specs::Tokens::tokens_of))]
+#[tactic(auto, unfolding(tpl_lang::specs::Tokens::tokens_of))]
 pub fn tokens(alloc: Global, line: &[u8]) -> Result<Option<Vec<Token<'_>>>, AllocError>
     ensures { IfOk result (λ found. option_map (λ v. views v.items) found ≡ tokens_of line.now) }
 {

@@ -1,9 +1,9 @@
 // Which words are reserved.
 ghost use Rattle.std.specs.Prelude.{◌≡◌};
-ghost use Rattle.tpl_ast.specs.Words.{is_register_word, is_reserved, register_of};
+ghost use Rattle.tpl_lang.specs.Words.{is_register_word, is_reserved, register_of};
 
 use crate::number::{are_digits, decimal};
-use tpl_ast::{csr_of, key_of, op_of};
+use tpl_lang::{csr_of, key_of, op_of};
 
 /// The number of a register's word, x and digits; None in Some is one that is too large.
 pub fn register_of(word: &[u8]) -> Option<Option<u32>>
@@ -19,7 +19,7 @@ pub fn register_of(word: &[u8]) -> Option<Option<u32>>
 }
 
 /// Whether a word is one of x0 to x31.
-#[tactic(auto, unfolding(tpl_ast::specs::Words::is_register_word))]
+#[tactic(auto, unfolding(tpl_lang::specs::Words::is_register_word))]
 fn is_register_word(word: &[u8]) -> bool
     ensures { result ≡ is_register_word word.now }
 {

@@ -6,9 +6,9 @@ use Rattle.std.proofs.lemmas.Bool.Decides.{nat_tests}
 use Rattle.std.specs.Fmt.{digits_onto, digit_glyph, digits, decimal, padded_integral, char_count, format_spec}
 use Rattle.replay_check.specs.declared.verdict.Verdict.{Verdict}
 use Rattle.replay_check.specs.declared.verdict.Verdict.TheVariants.{Yes, No}
-use Rattle.tpl_ast.specs.declared.fault.Fault.{Fault}
-use Rattle.tpl_ast.specs.declared.fault.Kind.{Kind}
-use Rattle.tpl_ast.specs.declared.fault.Kind.TheVariants.{BadByte, Unexpected, NumberTooLarge, UnknownName, DoubleName, NameTwiceInLeaf, EmptyDomain, TooDeep, TooLong, TooMany, BadRam, BadStart}
+use Rattle.tpl_lang.specs.declared.fault.Fault.{Fault}
+use Rattle.tpl_lang.specs.declared.fault.Kind.{Kind}
+use Rattle.tpl_lang.specs.declared.fault.Kind.TheVariants.{BadByte, Unexpected, NumberTooLarge, UnknownName, DoubleName, NameTwiceInLeaf, EmptyDomain, TooDeep, TooLong, TooMany, BadRam, BadStart}
 use Rattle.trace_text.specs.Numbers.{hex8}
 use Rattle.trace_text.specs.Faults.{fault_head, fault_line, fault_text, kind_text}
 use Rattle.trace_text.specs.Verdicts.{no_text, verdict_text, malformed_text, gave_up_text}

@@ -25,8 +25,8 @@ use Rattle.rv_hart.specs.Effects.{IsAccess}
 use Rattle.tpl_ast.specs.declared.template.HartState.{HartState}
 use Rattle.tpl_ast.specs.declared.template.NameDecl.{NameDecl}
 use Rattle.tpl_ast.specs.declared.template.Region.{Region}
-use Rattle.tpl_ast.specs.Laws.{TemplatesKeepLimits}
-use Rattle.tpl_ast.specs.States.{ArePlaces, AreStartWords, IsState, IsWord, is_in}
+use Rattle.tpl_lang.specs.Laws.{TemplatesKeepLimits}
+use Rattle.tpl_ast.specs.States.{ArePlaces, AreStartWords, IsState, IsWord, is_in_ram}
 use Rattle.tpl_ast.specs.Templates.{IsFramed, IsShortName}
 use Rattle.tpl_admit.specs.declared.certificate.Cert.{Cert}
 use Rattle.tpl_admit.specs.declared.dropped.Dropped.{Dropped}
@@ -299,9 +299,9 @@ harts_short c is = omega (arith, harts_from_short c 0 c.start (omega (arith, is.
 
 -- ---- words
 
-in_word : (ram : List Region) (a : ℕ) → AllByRecursion IsFramed ram → is_in ram a ≡ true → IsWord a
+in_word : (ram : List Region) (a : ℕ) → AllByRecursion IsFramed ram → is_in_ram ram a ≡ true → IsWord a
 in_word [] a framed found = absurd (cc found)
-in_word (r ∷ rs) a framed found = elim (or_cases (nat_le r.low a && nat_lt a r.high) (is_in rs a) found) [
+in_word (r ∷ rs) a framed found = elim (or_cases (nat_le r.low a && nat_lt a r.high) (is_in_ram rs a) found) [
   | inl here ↦ omega (arith, ltb-true a r.high (and_parts (nat_le r.low a) (nat_lt a r.high) here).1, framed.0.most)
   | inr there ↦ in_word rs a framed.1 there
 ]

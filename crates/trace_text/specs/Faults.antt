@@ -1,9 +1,9 @@
 -- What is said of a text that is no template.
 use Rattle.std.specs.Prelude.{ℕ, List, ◌++◌, codes}
 use Rattle.std.specs.Fmt.{decimal}
-use Rattle.tpl_ast.specs.declared.fault.Fault.{Fault}
-use Rattle.tpl_ast.specs.declared.fault.Kind.{Kind}
-use Rattle.tpl_ast.specs.declared.fault.Kind.TheVariants.{BadByte, Unexpected, NumberTooLarge, UnknownName, DoubleName, NameTwiceInLeaf, EmptyDomain, TooDeep, TooLong, TooMany, BadRam, BadStart}
+use Rattle.tpl_lang.specs.declared.fault.Fault.{Fault}
+use Rattle.tpl_lang.specs.declared.fault.Kind.{Kind}
+use Rattle.tpl_lang.specs.declared.fault.Kind.TheVariants.{BadByte, Unexpected, NumberTooLarge, UnknownName, DoubleName, NameTwiceInLeaf, EmptyDomain, TooDeep, TooLong, TooMany, BadRam, BadStart}
 
 abbrev pub kind_text : Kind → List ℕ
 kind_text BadByte = codes "bad byte"

@@ -5,7 +5,7 @@ ghost use Rattle.trace_text.specs.Faults.{fault_head, fault_line, fault_text, ki
 use crate::OutOfMemory;
 use std::alloc::{AllocError, Global};
 use std::fmt::Write;
-use tpl_ast::{Fault, Kind};
+use tpl_lang::{Fault, Kind};
 
 fn name_of(kind: Kind) -> &'static str
     ensures { result.now ≡ kind_text kind }

@@ -3,7 +3,7 @@ ghost use Rattle.std.specs.Prelude.{ℕ, ◌+◌, ◌<◌, ◌≤◌, List, leng
 ghost use Rattle.std.specs.List.{AllByRecursion};
 ghost use Rattle.rv_hart.specs.declared.record.Record.{Record};
 ghost use Rattle.replay_check.specs.declared.verdict.Verdict.{Verdict};
-ghost use Rattle.tpl_ast.specs.declared.fault.Fault.{Fault};
+ghost use Rattle.tpl_lang.specs.declared.fault.Fault.{Fault};
 ghost use Rattle.tpl_ast.specs.Limits.{most_records, text_room};
 ghost use Rattle.tpl_admit.specs.declared.certificate.Cert.{Cert};
 ghost use Rattle.tpl_admit.specs.WellFormed.{IsRecord, IsWellFormed};
@@ -12,7 +12,7 @@ ghost use Rattle.trace_text.specs.Faults.{fault_text};
 ghost use Rattle.trace_text.specs.Report.{report_text};
 ghost use Rattle.trace_text.specs.Verdicts.{gave_up_text, malformed_text, verdict_text};
 
-use tpl_ast::template_law;
+use tpl_lang::template_law;
 
 /// Does nothing. Its contract says that the report of a well-formed certificate fits into the room for a text, and each
 /// line of what is said of a text, a file or a search at most 256.

@@ -1,12 +1,12 @@
 // Tests of values that were read.
 ghost use Rattle.std.specs.Prelude.{◌≡◌, ◌<◌, ◌≤◌, ◌^◌, ◌&&◌, ◌==◌, IsTrue, length, nat_le, slice_get};
-ghost use Rattle.tpl_ast.specs.States.{is_in};
+ghost use Rattle.tpl_ast.specs.States.{is_in_ram};
 ghost use Rattle.tpl_admit.specs.WellFormed.{drop_place};
-ghost use Rattle.tpl_ast.specs.Parsing.{said_by};
+ghost use Rattle.tpl_lang.specs.Parsing.{said_by};
 ghost use Rattle.elf_headers.specs.Runs.{total_words};
-ghost use Rattle.elf_headers.specs.Checks.{are_runs, is_table};
-ghost use Rattle.elf_image.specs.Checks.{are_harts, are_values, is_drop, are_dropped, is_rest, are_traces, are_in, is_named, are_named, is_fit};
-ghost use Rattle.elf_image.specs.Views.{notes_view};
+ghost use Rattle.elf_headers.specs.Internal.Checks.{are_runs, is_table};
+ghost use Rattle.elf_image.specs.Internal.Checks.{are_harts, are_values, is_drop, are_dropped, is_rest, are_traces, are_in, is_named, are_named, is_fit};
+ghost use Rattle.elf_image.specs.Internal.Views.{notes_view};
 ghost use Rattle.tpl_ast.specs.Limits.{file_limits};
 
 use crate::reading::notes::NoteDescs;
@@ -20,7 +20,7 @@ use tpl_ast::{
 };
 
 /// Whether all harts together have no more records than a file.
-#[tactic(auto, unfolding(crate::specs::Checks::are_traces))]
+#[tactic(auto, unfolding(crate::specs::Internal::Checks::are_traces))]
 pub fn are_traces(traces: &[Items<Record>]) -> bool
     ensures { result ≡ are_traces traces.now }
 {
@@ -32,19 +32,19 @@ pub fn are_traces(traces: &[Items<Record>]) -> bool
 }
 
 /// Whether the address lies in one of the regions.
-fn is_in(ram: &[Region], addr: u32) -> bool
-    ensures { result ≡ is_in ram.now addr }
+fn is_in_ram(ram: &[Region], addr: u32) -> bool
+    ensures { result ≡ is_in_ram ram.now addr }
 {
     ram.iter()
         .any(|region| region.low <= addr && addr < region.high)
 }
 
 /// Whether all words lie in memory.
-#[tactic(auto, unfolding(crate::specs::Checks::are_in))]
+#[tactic(auto, unfolding(crate::specs::Internal::Checks::are_in))]
 pub fn are_in(words: &[(u32, u32)], ram: &[Region]) -> bool
     ensures { result ≡ are_in ram.now words.now }
 {
-    words.iter().all(|word| is_in(ram, word.0))
+    words.iter().all(|word| is_in_ram(ram, word.0))
 }
 
 /// Whether there are one to four harts.
@@ -70,7 +70,7 @@ fn are_values(names: &[(u32, u32)]) -> bool
 }
 
 /// Whether the bias is one of so many harts.
-#[tactic(auto, unfolding(crate::specs::Checks::is_drop))]
+#[tactic(auto, unfolding(crate::specs::Internal::Checks::is_drop))]
 fn is_drop(d: Dropped, harts: u32) -> bool
     ensures { result ≡ is_drop harts d }
 {
@@ -101,7 +101,7 @@ fn are_dropped(dropped: &[Dropped], harts: u32) -> bool
     true
 }
 
-#[tactic(auto, unfolding(crate::specs::Checks::is_rest))]
+#[tactic(auto, unfolding(crate::specs::Internal::Checks::is_rest))]
 pub fn is_rest(harts: u32, choices: &[u32], names: &[(u32, u32)], dropped: &[Dropped]) -> bool
     ensures { result ≡ is_rest harts (choices.now, (names.now, dropped.now)) }
 {
@@ -128,7 +128,7 @@ fn are_named(names: &[NameDecl], values: &[(u32, u32)]) -> bool
 }
 
 /// Whether the template has as many harts as the notes, and the names of their values.
-#[tactic(auto, unfolding(crate::specs::Checks::is_fit))]
+#[tactic(auto, unfolding(crate::specs::Internal::Checks::is_fit))]
 pub fn is_fit(notes: &NoteDescs<'_>, template: &Template) -> bool
     ensures { result ≡ is_fit (notes_view notes.now) (said_by template.now) }
 {

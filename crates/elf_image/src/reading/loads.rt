@@ -1,8 +1,8 @@
 // The words of memory.
 ghost use Rattle.std.specs.Prelude.{◌≡◌, ◌+◌, ◌*◌, ◌^◌, ◌≤◌, IsTrue, IfErr};
-ghost use Rattle.byte_format.specs.Readers.{Gives, chain_at, whole, with_front};
-ghost use Rattle.elf_headers.specs.Checks.{are_runs};
-ghost use Rattle.elf_image.specs.PartReaders.{placed_at, next_address, words_at, image_at, loaded_at};
+ghost use Rattle.byte_format.specs.Internal.Readers.{Gives, chain_at, whole, with_front};
+ghost use Rattle.elf_headers.specs.Internal.Checks.{are_runs};
+ghost use Rattle.elf_image.specs.Internal.PartReaders.{placed_at, next_address, words_at, image_at, loaded_at};
 
 use crate::reading::checks::are_in;
 use crate::writing::entry_of;
@@ -13,7 +13,7 @@ use tpl_admit::HartState;
 use tpl_ast::{Items, Region};
 
 /// A word that lies at an address.
-#[tactic(auto, unfolding(crate::specs::PartReaders::placed_at))]
+#[tactic(auto, unfolding(crate::specs::Internal::PartReaders::placed_at))]
 fn placed_of(addr: u32, bytes: &[u8]) -> Result<((u32, u32), &[u8]), PieceError>
     ensures gives { Gives (λ x. (x.0, x.1.now)) result (placed_at addr bytes.now) }
     ensures malformed { IfErr result (λ e. e ≡ PieceError.Malformed) }
@@ -59,7 +59,7 @@ fn words_of<'a>(
 }
 
 /// The words of the runs, where they lie in memory and nothing stands behind them.
-#[tactic(auto, unfolding(crate::specs::PartReaders::image_at))]
+#[tactic(auto, unfolding(crate::specs::Internal::PartReaders::image_at))]
 fn image_of(
     alloc: Global,
     ram: &[Region],
@@ -77,7 +77,7 @@ fn image_of(
 }
 
 /// The words of the runs, where the entry is the pc of hart 0.
-#[tactic(auto, unfolding(crate::specs::PartReaders::loaded_at))]
+#[tactic(auto, unfolding(crate::specs::Internal::PartReaders::loaded_at))]
 pub fn loaded_of(
     alloc: Global,
     entry: u32,

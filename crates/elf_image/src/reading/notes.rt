@@ -1,10 +1,10 @@
 // The notes and the records.
 ghost use Rattle.std.specs.Prelude.{◌≡◌, ◌≤◌, IfOk, length, IfErr};
-ghost use Rattle.byte_format.specs.Readers.{Gives, skip, whole};
+ghost use Rattle.byte_format.specs.Internal.Readers.{Gives, skip, whole};
 ghost use Rattle.elf_headers.specs.Runs.{total_words};
 ghost use Rattle.elf_image.specs.Notes.{note_name};
-ghost use Rattle.elf_image.specs.PartReaders.{note_at, start_at, final_at, rest_at, notes_at, segment_notes_at, traces_at};
-ghost use Rattle.elf_image.specs.Views.{notes_view};
+ghost use Rattle.elf_image.specs.Internal.PartReaders.{note_at, start_at, final_at, rest_at, notes_at, segment_notes_at, traces_at};
+ghost use Rattle.elf_image.specs.Internal.Views.{notes_view};
 ghost use Rattle.tpl_ast.specs.Limits.{file_limits};
 
 use crate::reading::checks::{are_harts, are_traces, is_rest};
@@ -40,7 +40,7 @@ fn after_name(bytes: &[u8]) -> Result<&[u8], PieceError>
 }
 
 /// The desc of a note of this type.
-#[tactic(auto, unfolding(crate::specs::PartReaders::note_at))]
+#[tactic(auto, unfolding(crate::specs::Internal::PartReaders::note_at))]
 fn note_of(bytes: &[u8], kind: u32) -> Result<(&[u8], &[u8]), PieceError>
     ensures gives { Gives (λ x. (x.0.now, x.1.now)) result (note_at kind bytes.now) }
     ensures malformed { IfErr result (λ e. e ≡ PieceError.Malformed) }
@@ -53,7 +53,7 @@ fn note_of(bytes: &[u8], kind: u32) -> Result<(&[u8], &[u8]), PieceError>
 }
 
 /// The states of the harts at the start.
-#[tactic(auto, unfolding(crate::specs::PartReaders::start_at))]
+#[tactic(auto, unfolding(crate::specs::Internal::PartReaders::start_at))]
 fn start_of(alloc: Global, desc: &[u8]) -> Result<Items<HartState>, PieceError>
     ensures gives { Gives (λ x. x) result (whole start_at desc.now) }
     ensures few { IfOk result (λ x. length x ≤ file_limits.harts) }
@@ -67,7 +67,7 @@ fn start_of(alloc: Global, desc: &[u8]) -> Result<Items<HartState>, PieceError>
 }
 
 /// The states of so many harts at the end, and the final values of so many words.
-#[tactic(auto, unfolding(crate::specs::PartReaders::final_at))]
+#[tactic(auto, unfolding(crate::specs::Internal::PartReaders::final_at))]
 fn final_of(
     alloc: Global,
     desc: &[u8],
@@ -92,7 +92,7 @@ struct Rest {
     dropped: Items<Dropped>,
 }
 
-#[tactic(auto, unfolding(crate::specs::PartReaders::rest_at))]
+#[tactic(auto, unfolding(crate::specs::Internal::PartReaders::rest_at))]
 fn rest_of(alloc: Global, desc: &[u8], harts: u32) -> Result<Rest, PieceError>
     ensures { Gives (λ x. (x.choices, (x.names, x.dropped))) result (whole (rest_at harts) desc.now) }
 {
@@ -115,7 +115,7 @@ fn rest_of(alloc: Global, desc: &[u8], harts: u32) -> Result<Rest, PieceError>
     })
 }
 
-#[tactic(auto, unfolding(crate::specs::PartReaders::notes_at))]
+#[tactic(auto, unfolding(crate::specs::Internal::PartReaders::notes_at))]
 fn notes_of(alloc: Global, bytes: &[u8], total: u64) -> Result<(NoteDescs<'_>, &[u8]), PieceError>
     ensures gives { Gives (λ x. (notes_view x.0, x.1.now)) result (notes_at total bytes.now) }
     ensures few { IfOk result (λ x. length x.0.start ≤ file_limits.harts) }
@@ -151,7 +151,7 @@ fn total_of(runs: &[Run]) -> u64
 }
 
 /// The notes, which fill their segment.
-#[tactic(auto, unfolding(crate::specs::PartReaders::segment_notes_at))]
+#[tactic(auto, unfolding(crate::specs::Internal::PartReaders::segment_notes_at))]
 pub fn segment_notes_of<'a>(
     alloc: Global,
     bytes: &'a [u8],
@@ -173,7 +173,7 @@ pub fn segment_notes_of<'a>(
 }
 
 /// The records of so many harts.
-#[tactic(auto, unfolding(crate::specs::PartReaders::traces_at))]
+#[tactic(auto, unfolding(crate::specs::Internal::PartReaders::traces_at))]
 pub fn traces_of(alloc: Global, desc: &[u8], harts: u32) -> Result<Items<Items<Record>>, PieceError>
     ensures { Gives (λ x. x) result (whole (traces_at harts) desc.now) }
 {

@@ -1,6 +1,6 @@
 use Rattle.std.proofs.Common.{◌≡◌, length, slice_index}
 use Rattle.fd_prob.specs.declared.problem.Assignment.{Assignment}
-use Rattle.case_search.specs.Classes.{AreClasses}
+use Rattle.case_search.specs.Internal.Classes.{AreClasses}
 use Rattle.case_search.proofs.classes.merged.Given as goal
 
 abbrev pub invariant-loop-place : goal.invariant-loop-place

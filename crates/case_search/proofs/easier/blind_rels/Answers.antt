@@ -1,6 +1,6 @@
 use Rattle.std.proofs.Common.{◌≡◌, Vec, Global, [], ◌∷◌, ◌++◌, sym, ap, ◌∙◌, subst}
 use Rattle.fd_prob.specs.declared.relation.Rel.{Rel}
-use Rattle.case_search.specs.Easier.{AreBlind}
+use Rattle.case_search.specs.Internal.Easier.{AreBlind}
 use Rattle.case_search.proofs.Leaving.{none_blind, one_blind}
 use Rattle.case_search.proofs.easier.blind_rels.Goals.{then-not-mentions+in_ok-copy+in_ok-push, else-not-mentions}
 use Rattle.case_search.proofs.easier.blind_rels.Goals as goal

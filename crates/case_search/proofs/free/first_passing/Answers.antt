@@ -2,7 +2,7 @@ use Rattle.std.proofs.Common.{◌≡◌, ◌≤◌, ℕ, false, sym, ap, ◌∙�
 use Rattle.std.proofs.lemmas.Bool.{cases_lt}
 use Rattle.fd_prob.specs.declared.problem.Assignment.{Assignment}
 use Rattle.fd_prob.specs.Order.{rank}
-use Rattle.case_search.specs.Free.{own_hold, put}
+use Rattle.case_search.specs.Internal.Free.{own_hold, put}
 use Rattle.case_search.proofs.Ranks.{member_word, rank_injective}
 use Rattle.case_search.proofs.free.first_passing.Goals as goal
 

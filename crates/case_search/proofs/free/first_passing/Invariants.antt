@@ -1,7 +1,7 @@
 use Rattle.std.proofs.Common.{◌≡◌, ℕ, ◌<◌, ◌≤◌, ◌-◌, ◌^◌, true, false}
 use Rattle.dom_set.specs.Elements.{is_in}
 use Rattle.fd_prob.specs.Order.{rank}
-use Rattle.case_search.specs.Free.{own_hold, put}
+use Rattle.case_search.specs.Internal.Free.{own_hold, put}
 use Rattle.case_search.proofs.free.first_passing.Given as goal
 
 abbrev pub invariant-loop-value : goal.invariant-loop-value

@@ -2,8 +2,8 @@ use Rattle.std.proofs.Common.{◌≡◌, true, sym, ◌∙◌, arith}
 use Rattle.std.proofs.lemmas.Bool.{false≢true}
 use Rattle.std.proofs.lemmas.List.Elements.{AllWithin-more, at_read}
 use Rattle.fd_prob.specs.declared.relation.Rel.{Rel}
-use Rattle.fd_narrow.specs.Mentions.{mentions}
-use Rattle.case_search.specs.Free.{IsSettled}
+use Rattle.fd_prob.specs.Mentions.{mentions}
+use Rattle.case_search.specs.Internal.Free.{IsSettled}
 use Rattle.case_search.proofs.free.is_free.Goals.{else-mentions-via-then-mentions+else-not-is_settled, else-mentions-via-else-mentions}
 use Rattle.case_search.proofs.free.is_free.Goals as goal
 

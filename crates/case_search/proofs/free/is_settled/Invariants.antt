@@ -2,7 +2,7 @@ use Rattle.std.proofs.Common.{◌≡◌, ◌≢◌, ◌<◌, true, length}
 use Rattle.fd_narrow.specs.Narrowing.{domain_in}
 use Rattle.fd_prob.specs.declared.slot.Slot.{Slot}
 use Rattle.fd_prob.specs.Slots.{slot_number}
-use Rattle.fd_narrow.specs.Mentions.{mentions}
+use Rattle.fd_prob.specs.Mentions.{mentions}
 use Rattle.case_search.proofs.free.is_settled.Given as goal
 
 abbrev pub invariant-loop-i : goal.invariant-loop-i

@@ -1,5 +1,5 @@
 use Rattle.std.proofs.Common.{◌≡◌, drop}
-use Rattle.case_search.specs.Free.{own_hold}
+use Rattle.case_search.specs.Internal.Free.{own_hold}
 use Rattle.case_search.proofs.free.own_hold.Given as goal
 
 abbrev pub invariant-loop-rel : goal.invariant-loop-rel

@@ -3,7 +3,7 @@ use Rattle.std.proofs.lemmas.Bool.{cases_lt}
 use Rattle.std.proofs.lemmas.List.{drop_all}
 use Rattle.fd_prob.specs.Order.{rank}
 use Rattle.fd_prob.specs.declared.relation.Rel.{Rel}
-use Rattle.case_search.specs.Skipping.{all_let, lets}
+use Rattle.case_search.specs.Internal.Skipping.{all_let, lets}
 use Rattle.case_search.proofs.Skips.{fails_at, rest_passes}
 use Rattle.case_search.proofs.skipping.let_by_all.Goals as goal
 

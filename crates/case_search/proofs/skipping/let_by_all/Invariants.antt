@@ -1,6 +1,6 @@
 use Rattle.std.proofs.Common.{◌≡◌, ℕ, ◌<◌, ◌≤◌, ◌^◌, false, drop}
 use Rattle.fd_prob.specs.Order.{rank}
-use Rattle.case_search.specs.Skipping.{all_let}
+use Rattle.case_search.specs.Internal.Skipping.{all_let}
 use Rattle.case_search.proofs.skipping.let_by_all.Given as goal
 
 abbrev pub invariant-loop-rel : goal.invariant-loop-rel

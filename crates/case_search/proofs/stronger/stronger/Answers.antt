@@ -3,7 +3,7 @@ use Rattle.std.specs.List.{list_any}
 use Rattle.fd_prob.specs.declared.relation.Rel.{Rel}
 use Rattle.fd_prob.specs.declared.relation.Rel.TheVariants.{Same}
 use Rattle.fd_prob.specs.declared.slot.Slot.TheVariants as slots
-use Rattle.case_search.specs.Stronger.{AreAlike, is_elsewhere, is_target, lacks_value}
+use Rattle.case_search.specs.Internal.Stronger.{AreAlike, is_elsewhere, is_target, lacks_value}
 use Rattle.case_search.proofs.JoinedTargets.{same_count}
 use Rattle.case_search.proofs.Strengthening.{no_more_lacks, with_values}
 use Rattle.fd_prob.specs.Relations.{is_same}

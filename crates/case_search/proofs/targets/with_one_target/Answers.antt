@@ -4,7 +4,7 @@ use Rattle.std.proofs.lemmas.List.{take_all}
 use Rattle.std.proofs.lemmas.List.Folds.{list_all_more, list_any_more}
 use Rattle.fd_prob.specs.declared.relation.Rel.{Rel}
 use Rattle.fd_prob.specs.Relations.{holds}
-use Rattle.case_search.specs.Stronger.{is_elsewhere}
+use Rattle.case_search.specs.Internal.Stronger.{is_elsewhere}
 use Rattle.case_search.proofs.JoinedTargets.{neither}
 use Rattle.case_search.proofs.targets.with_one_target.Goals as goal
 

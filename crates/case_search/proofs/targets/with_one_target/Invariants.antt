@@ -3,8 +3,8 @@ use Rattle.std.specs.List.{list_all, list_any}
 use Rattle.rv_isa.specs.declared.operation.Op.{Op}
 use Rattle.fd_prob.specs.declared.problem.Assignment.{Assignment}
 use Rattle.fd_prob.specs.Relations.{holds}
-use Rattle.case_search.specs.Stronger.{is_elsewhere}
-use Rattle.case_search.specs.Targets.{IsGathered, all_hold}
+use Rattle.case_search.specs.Internal.Stronger.{is_elsewhere}
+use Rattle.case_search.specs.Internal.Targets.{IsGathered, all_hold}
 use Rattle.case_search.proofs.targets.with_one_target.Given as goal
 
 abbrev pub invariant-loop-rel : goal.invariant-loop-rel

@@ -1,6 +1,6 @@
 use Rattle.std.proofs.Common.{List, ◌/◌, cond, length, ap, ◌∙◌}
 use Rattle.set_pieces.specs.declared.piece.Piece.{Piece}
-use Rattle.set_pieces.specs.Pieces.{holds, times}
+use Rattle.set_pieces.specs.Internal.Pieces.{holds, times}
 use Rattle.set_pieces.proofs.Times.{united_few, united_halves}
 use Rattle.dom_set.proofs.combined.+united.Goals as goal
 

@@ -1,7 +1,7 @@
 use Rattle.std.proofs.Common.{List, ℕ, ◌*◌, drop, ap, arith}
 use Rattle.set_pieces.specs.declared.piece.Piece.{Piece}
-use Rattle.set_pieces.specs.Counting.{one}
-use Rattle.set_pieces.specs.Pieces.{in_piece, times}
+use Rattle.set_pieces.specs.Internal.Counting.{one}
+use Rattle.set_pieces.specs.Internal.Pieces.{in_piece, times}
 use Rattle.set_pieces.proofs.Times.{times_rest}
 use Rattle.dom_set.proofs.Walks.{shared_alive}
 use Rattle.dom_set.proofs.combined.common.Goals as goal

@@ -1,5 +1,5 @@
 use Rattle.std.proofs.Common.{◌≡◌, ℕ, ◌+◌, ◌*◌, drop}
-use Rattle.set_pieces.specs.Pieces.{times, AreAlive}
+use Rattle.set_pieces.specs.Internal.Pieces.{times, AreAlive}
 use Rattle.dom_set.proofs.combined.common.Given as goal
 
 abbrev pub invariant-loop-p : goal.invariant-loop-p

@@ -1,6 +1,6 @@
 use Rattle.std.proofs.Common.{◌≡◌, ◌+◌, ◌*◌, ◌^◌, drop}
-use Rattle.set_pieces.specs.Counting.{one, total}
-use Rattle.set_pieces.specs.Pieces.{in_piece, times}
+use Rattle.set_pieces.specs.Internal.Counting.{one, total}
+use Rattle.set_pieces.specs.Internal.Pieces.{in_piece, times}
 use Rattle.dom_set.proofs.combined.count_shared.Given as goal
 
 abbrev pub invariant-loop-q : goal.invariant-loop-q

@@ -1,5 +1,5 @@
 use Rattle.std.proofs.Common.{◌≡◌, ℕ, ◌+◌, ◌≤◌, cond, drop, IsTrue}
-use Rattle.set_pieces.specs.Pieces.{in_piece, times}
+use Rattle.set_pieces.specs.Internal.Pieces.{in_piece, times}
 use Rattle.dom_set.proofs.combined.left_behind.Given as goal
 
 abbrev pub invariant-loop-p : goal.invariant-loop-p

@@ -1,6 +1,6 @@
 use Rattle.std.proofs.Common.{List, [], ◌∷◌, ◌++◌, cond, sym, ap, ◌∙◌}
 use Rattle.set_pieces.specs.declared.piece.Piece.{Piece}
-use Rattle.set_pieces.specs.Pieces.{in_piece, times}
+use Rattle.set_pieces.specs.Internal.Pieces.{in_piece, times}
 use Rattle.dom_set.proofs.Walks.{left_first, left_next, left_done}
 use Rattle.dom_set.proofs.combined.left_of.Goals as goal
 

@@ -1,5 +1,5 @@
 use Rattle.std.proofs.Common.{◌≡◌, ℕ, ◌+◌, cond, drop}
-use Rattle.set_pieces.specs.Pieces.{holds, times, AreAlive}
+use Rattle.set_pieces.specs.Internal.Pieces.{holds, times, AreAlive}
 use Rattle.dom_set.proofs.combined.minus.Given as goal
 
 abbrev pub invariant-loop-p : goal.invariant-loop-p

@@ -1,5 +1,5 @@
 use Rattle.std.proofs.Common.{◌-◌, length}
-use Rattle.set_pieces.specs.Pieces.{AreAlive}
+use Rattle.set_pieces.specs.Internal.Pieces.{AreAlive}
 use Rattle.dom_set.proofs.combined.next_place.Given as goal
 
 abbrev pub invariant-loop-alive : goal.invariant-loop-alive

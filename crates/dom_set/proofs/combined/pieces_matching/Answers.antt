@@ -1,7 +1,7 @@
 use Rattle.std.proofs.Common.{◌||◌, bit_and, eqb, take, sym, ◌∙◌}
 use Rattle.std.proofs.lemmas.List.Folds.{list_any_more}
 use Rattle.dom_set.specs.Elements.{is_matching}
-use Rattle.set_pieces.specs.Runs.{is_in_run}
+use Rattle.set_pieces.specs.Internal.Runs.{is_in_run}
 use Rattle.set_pieces.proofs.Times.{one_more_held}
 use Rattle.dom_set.proofs.combined.pieces_matching.Goals as goal
 

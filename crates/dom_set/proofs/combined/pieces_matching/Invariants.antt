@@ -1,6 +1,6 @@
 use Rattle.std.proofs.Common.{◌≡◌, ℕ, ◌<◌, ◌^◌, take}
 use Rattle.dom_set.specs.Elements.{is_matching}
-use Rattle.set_pieces.specs.Pieces.{holds}
+use Rattle.set_pieces.specs.Internal.Pieces.{holds}
 use Rattle.dom_set.proofs.combined.pieces_matching.Given as goal
 
 abbrev pub invariant-loop-pattern : goal.invariant-loop-pattern

@@ -1,6 +1,6 @@
 use Rattle.std.proofs.Common.{List, ap, ◌∙◌, arith}
 use Rattle.set_pieces.specs.declared.piece.Piece.{Piece}
-use Rattle.set_pieces.specs.Pieces.{times}
+use Rattle.set_pieces.specs.Internal.Pieces.{times}
 use Rattle.set_pieces.proofs.Times.{times_push}
 use Rattle.dom_set.proofs.Walks.{not_reaching}
 use Rattle.dom_set.proofs.combined.push_alive.Goals as goal

@@ -1,6 +1,6 @@
 use Rattle.std.proofs.Common.{List, ◌+◌, cond, drop, ap, ◌∙◌, arith}
 use Rattle.set_pieces.specs.declared.piece.Piece.{Piece}
-use Rattle.set_pieces.specs.Pieces.{in_piece, times}
+use Rattle.set_pieces.specs.Internal.Pieces.{in_piece, times}
 use Rattle.dom_set.proofs.Walks.{begun, left_apart, left_behind, rest_none, shared_none}
 use Rattle.dom_set.proofs.combined.push_left.Goals as goal
 

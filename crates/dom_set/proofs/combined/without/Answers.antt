@@ -1,5 +1,5 @@
 use Rattle.std.proofs.Common.{arith}
-use Rattle.set_pieces.specs.Pieces.{in_piece}
+use Rattle.set_pieces.specs.Internal.Pieces.{in_piece}
 use Rattle.set_pieces.proofs.Times.{times_done, none_less}
 use Rattle.dom_set.proofs.combined.without.Goals as goal
 

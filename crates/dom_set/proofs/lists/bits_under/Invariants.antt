@@ -1,5 +1,5 @@
 use Rattle.std.proofs.Common.{◌≡◌, ℕ, true, bit_and, take}
-use Rattle.set_pieces.specs.Pieces.{holds}
+use Rattle.set_pieces.specs.Internal.Pieces.{holds}
 use Rattle.dom_set.proofs.lists.bits_under.Given as goal
 
 abbrev pub invariant-loop-p : goal.invariant-loop-p

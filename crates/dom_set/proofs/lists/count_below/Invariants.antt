@@ -1,6 +1,6 @@
 use Rattle.std.proofs.Common.{◌≡◌, ◌+◌, drop}
-use Rattle.set_pieces.specs.Counting.{total}
-use Rattle.set_pieces.specs.Pieces.{times}
+use Rattle.set_pieces.specs.Internal.Counting.{total}
+use Rattle.set_pieces.specs.Internal.Pieces.{times}
 use Rattle.dom_set.proofs.lists.count_below.Given as goal
 
 abbrev pub invariant-loop-p : goal.invariant-loop-p

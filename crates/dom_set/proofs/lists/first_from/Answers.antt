@@ -1,7 +1,7 @@
 use Rattle.std.proofs.Common.{ℕ, ◌+◌, ◌||◌, Bool, take, sym, ap, ◌∙◌}
 use Rattle.std.proofs.lemmas.List.Folds.{list_any_more}
 use Rattle.set_pieces.specs.declared.piece.Piece.{Piece}
-use Rattle.set_pieces.specs.Pieces.{in_piece, holds}
+use Rattle.set_pieces.specs.Internal.Pieces.{in_piece, holds}
 use Rattle.set_pieces.proofs.Unmatched.{first_same}
 use Rattle.dom_set.proofs.lists.first_from.Goals as goal
 

@@ -1,5 +1,5 @@
 use Rattle.std.proofs.Common.{ℕ, Option, sym, subst}
-use Rattle.set_pieces.specs.Pieces.{holds}
+use Rattle.set_pieces.specs.Internal.Pieces.{holds}
 use Rattle.set_pieces.specs.Ends.{IsLast}
 use Rattle.std.proofs.Common.{take, ◌+◌}
 use Rattle.dom_set.proofs.Lasts.{last_more}

@@ -1,5 +1,5 @@
 use Rattle.std.proofs.Common.{take}
-use Rattle.set_pieces.specs.Pieces.{holds}
+use Rattle.set_pieces.specs.Internal.Pieces.{holds}
 use Rattle.set_pieces.specs.Ends.{IsLast}
 use Rattle.dom_set.proofs.lists.last.Given as goal
 

@@ -1,6 +1,6 @@
 use Rattle.std.proofs.Common.{ℕ, ◌≤◌, ◌||◌, Bool, Option, Some, ap, subst, arith}
 use Rattle.set_pieces.specs.declared.piece.Piece.{Piece}
-use Rattle.set_pieces.specs.Pieces.{in_piece}
+use Rattle.set_pieces.specs.Internal.Pieces.{in_piece}
 use Rattle.set_pieces.specs.Ends.{IsFirstFrom}
 use Rattle.dom_set.proofs.Merging.{below_first}
 use Rattle.dom_set.proofs.lists.nearer.Goals as goal

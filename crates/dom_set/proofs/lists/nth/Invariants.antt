@@ -1,6 +1,6 @@
 use Rattle.std.proofs.Common.{◌-◌, ◌^◌, ◌<◌, ◌≤◌}
-use Rattle.set_pieces.specs.Counting.{total}
-use Rattle.set_pieces.specs.Pieces.{times}
+use Rattle.set_pieces.specs.Internal.Counting.{total}
+use Rattle.set_pieces.specs.Internal.Pieces.{times}
 use Rattle.dom_set.proofs.lists.nth.Given as goal
 
 abbrev pub invariant-loop-end : goal.invariant-loop-end

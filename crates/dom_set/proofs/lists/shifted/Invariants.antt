@@ -1,5 +1,5 @@
 use Rattle.std.proofs.Common.{◌≡◌, ℕ, ◌+◌, ◌-◌, ◌%◌, ◌^◌, ◌<◌, drop}
-use Rattle.set_pieces.specs.Pieces.{times}
+use Rattle.set_pieces.specs.Internal.Pieces.{times}
 use Rattle.dom_set.proofs.lists.shifted.Given as goal
 
 abbrev pub invariant-loop-p : goal.invariant-loop-p

@@ -1,6 +1,6 @@
 use Rattle.std.proofs.Common.{◌≡◌, ℕ, true, All, take}
 use Rattle.dom_set.specs.Elements.{is_within}
-use Rattle.set_pieces.specs.Pieces.{holds}
+use Rattle.set_pieces.specs.Internal.Pieces.{holds}
 use Rattle.set_pieces.specs.Ends.{AreEnds}
 use Rattle.dom_set.proofs.lists.spans.Given as goal
 

@@ -1,6 +1,6 @@
 use Rattle.std.proofs.Common.{◌≡◌, ℕ, ◌^◌, ◌<◌, ◌&&◌, ◌%◌, eqb, All, take}
 use Rattle.dom_set.specs.Elements.{is_within}
-use Rattle.set_pieces.specs.Pieces.{holds, IsMultiples}
+use Rattle.set_pieces.specs.Internal.Pieces.{holds, IsMultiples}
 use Rattle.dom_set.proofs.pairs.aligned.Given as goal
 
 abbrev pub invariant-loop-pair : goal.invariant-loop-pair

@@ -1,8 +1,8 @@
 use Rattle.std.proofs.Common.{◌≡◌, ◌^◌, ◌&&◌, ◌||◌, leb, sym, ◌∙◌, arith}
 use Rattle.std.proofs.lemmas.Nat.{pow_pos}
-use Rattle.set_pieces.specs.Patterns.{matches}
-use Rattle.set_pieces.specs.Runs.{in_run}
-use Rattle.set_pieces.specs.Pieces.{in_piece}
+use Rattle.set_pieces.specs.Internal.Patterns.{matches}
+use Rattle.set_pieces.specs.Internal.Runs.{in_run}
+use Rattle.set_pieces.specs.Internal.Pieces.{in_piece}
 use Rattle.dom_set.proofs.Merging.{multiple_is, joined_is}
 use Rattle.set_pieces.proofs.Pieces.{and_all}
 use Rattle.set_pieces.proofs.Without.{whole_piece}

@@ -1,7 +1,7 @@
 use Rattle.std.proofs.Common.{◌≡◌, ℕ, ◌+◌, ◌<◌, ◌≤◌, ◌||◌, length, get_or, drop}
 use Rattle.set_pieces.specs.declared.piece.Piece.{Piece}
-use Rattle.set_pieces.specs.Counting.{one}
-use Rattle.set_pieces.specs.Pieces.{in_piece, times, holds, IsMultiples}
+use Rattle.set_pieces.specs.Internal.Counting.{one}
+use Rattle.set_pieces.specs.Internal.Pieces.{in_piece, times, holds, IsMultiples}
 use Rattle.dom_set.proofs.pairs.merged_from.Given as goal
 
 abbrev pub invariant-loop-p : goal.invariant-loop-p

@@ -1,7 +1,7 @@
 use Rattle.std.proofs.Common.{◌^◌, refl, ◌∙◌}
 use Rattle.std.proofs.lemmas.Nat.{pow_pos}
-use Rattle.set_pieces.specs.Runs.{in_run}
-use Rattle.set_pieces.specs.Pieces.{in_piece}
+use Rattle.set_pieces.specs.Internal.Runs.{in_run}
+use Rattle.set_pieces.specs.Internal.Pieces.{in_piece}
 use Rattle.set_pieces.proofs.Low.{rounded, multiples_are, no_multiples}
 use Rattle.dom_set.proofs.Merging.{multiple_is}
 use Rattle.set_pieces.proofs.Pieces.{and_all}

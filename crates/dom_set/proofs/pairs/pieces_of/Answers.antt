@@ -3,7 +3,7 @@ use Rattle.std.proofs.lemmas.List.Sorted.{All-permutation, list_any-IsPermutatio
 use Rattle.dom_set.specs.Elements.{is_within}
 use Rattle.set_pieces.specs.declared.piece.Piece.{Piece}
 use Rattle.set_pieces.proofs.Times.{holds_once}
-use Rattle.set_pieces.specs.Pieces.{in_piece, holds, IsMultiples}
+use Rattle.set_pieces.specs.Internal.Pieces.{in_piece, holds, IsMultiples}
 use Rattle.dom_set.proofs.pairs.pieces_of.Goals as goal
 
 pub merged-requires-clause-multiples : goal.merged-requires-clause-multiples

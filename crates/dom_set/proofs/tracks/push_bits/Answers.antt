@@ -1,6 +1,6 @@
 use Rattle.std.proofs.Common.{◌≡◌, ℕ, sym, ap, ◌∙◌, arith}
 use Rattle.std.proofs.lemmas.Bool.{false≢true}
-use Rattle.set_pieces.specs.Patterns.{matches_below}
+use Rattle.set_pieces.specs.Internal.Patterns.{matches_below}
 use Rattle.dom_set.proofs.Tracked.{bit_covered}
 use Rattle.dom_set.proofs.tracks.push_bits.Goals as goal
 

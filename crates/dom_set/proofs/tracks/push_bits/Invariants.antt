@@ -1,6 +1,6 @@
 use Rattle.std.proofs.Common.{◌≡◌, ℕ, true, false}
-use Rattle.set_pieces.specs.Patterns.{matches_below}
-use Rattle.set_pieces.specs.Runs.{in_run}
+use Rattle.set_pieces.specs.Internal.Patterns.{matches_below}
+use Rattle.set_pieces.specs.Internal.Runs.{in_run}
 use Rattle.dom_set.specs.Tracks.{is_on_one, AreKept}
 use Rattle.dom_set.proofs.tracks.push_bits.Given as goal
 

@@ -1,5 +1,5 @@
 use Rattle.std.proofs.Common.{◌≡◌, ℕ, ◌-◌, ◌<◌, ◌≤◌, true, false}
-use Rattle.set_pieces.specs.Patterns.{matches}
+use Rattle.set_pieces.specs.Internal.Patterns.{matches}
 use Rattle.dom_set.specs.Tracks.{is_on_one, AreKept}
 use Rattle.dom_set.proofs.tracks.push_ranges.Given as goal
 

@@ -1,7 +1,7 @@
 use Rattle.std.proofs.Common.{◌≡◌, true, List, Option, ap, subst, ◌∙◌}
 use Rattle.set_pieces.specs.declared.run.Run.{Run}
 use Rattle.dom_set.specs.declared.track.Track.{Track}
-use Rattle.set_pieces.specs.Runs.{in_run, is_in_run}
+use Rattle.set_pieces.specs.Internal.Runs.{in_run, is_in_run}
 use Rattle.dom_set.specs.Tracks.{is_on_one}
 use Rattle.dom_set.proofs.Tracked.{on_new, on_old}
 use Rattle.dom_set.proofs.tracks.push_track.Goals as goal

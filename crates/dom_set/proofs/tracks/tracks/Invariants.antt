@@ -1,5 +1,5 @@
 use Rattle.std.proofs.Common.{◌≡◌, ℕ, true, take}
-use Rattle.set_pieces.specs.Pieces.{holds}
+use Rattle.set_pieces.specs.Internal.Pieces.{holds}
 use Rattle.dom_set.specs.Tracks.{is_on_one}
 use Rattle.dom_set.proofs.tracks.tracks.Given as goal
 

@@ -1,5 +1,5 @@
 use Rattle.std.proofs.Common.{◌≡◌, drop}
-use Rattle.elf_headers.specs.Checks.{are_runs}
+use Rattle.elf_headers.specs.Internal.Checks.{are_runs}
 use Rattle.elf_headers.proofs.checks.are_runs.Given as goal
 
 abbrev pub invariant-loop-run : goal.invariant-loop-run

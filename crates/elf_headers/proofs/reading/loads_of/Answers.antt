@@ -1,8 +1,8 @@
 use Rattle.std.proofs.Common.{arith}
 use Rattle.std.proofs.lemmas.Result.{err_from_is_err_and}
-use Rattle.byte_format.specs.Readers.{chain_at}
+use Rattle.byte_format.specs.Internal.Readers.{chain_at}
 use Rattle.byte_format.proofs.Loop.{chain_goes_on, chain_ends, chain_is_done}
-use Rattle.elf_headers.specs.Readers.{next_offset, load_at}
+use Rattle.elf_headers.specs.Internal.Readers.{next_offset, load_at}
 use Rattle.elf_headers.proofs.reading.loads_of.Goals as goal
 
 pub returns-in_err-item : goal.returns-in_err-item

@@ -1,6 +1,6 @@
 use Rattle.std.proofs.Common.{◌≡◌, ◌-◌, ◌≤◌, ◌+◌, ◌*◌, ◌^◌}
-use Rattle.byte_format.specs.Readers.{chain_at, with_front}
-use Rattle.elf_headers.specs.Readers.{next_offset, load_at}
+use Rattle.byte_format.specs.Internal.Readers.{chain_at, with_front}
+use Rattle.elf_headers.specs.Internal.Readers.{next_offset, load_at}
 use Rattle.elf_headers.proofs.reading.loads_of.Given as goal
 
 abbrev pub invariant-loop : goal.invariant-loop

@@ -1,5 +1,5 @@
 use Rattle.std.proofs.Common.{arith}
-use Rattle.elf_image.specs.Views.{front_view}
+use Rattle.elf_image.specs.Internal.Views.{front_view}
 use Rattle.elf_image.proofs.Found.{early, template_wrong, loads_wrong, file_made}
 use Rattle.elf_image.proofs.reading.read_parts.Goals as goal
 

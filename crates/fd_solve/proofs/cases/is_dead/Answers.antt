@@ -1,6 +1,6 @@
 use Rattle.std.proofs.Common.{ℕ, ◌<◌, List, ap, get_or, length, subst, ◌∙◌}
 use Rattle.fd_prob.specs.declared.relation.Rel.{Rel}
-use Rattle.fd_solve.proofs.MetRows.{dead_case}
+use Rattle.fd_solve.proofs.DeadCases.{dead_case}
 use Rattle.fd_solve.proofs.cases.is_dead.Goals as goal
 
 pub returns-then-has_no_row : goal.returns-then-has_no_row

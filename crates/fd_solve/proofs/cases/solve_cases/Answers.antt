@@ -2,12 +2,12 @@ use Rattle.std.proofs.Common.{◌≡◌, ℕ, Bool, ◌+◌, ◌<◌, ◌∙◌,
 use Rattle.fd_prob.specs.declared.problem.Case.{Case}
 use Rattle.fd_prob.specs.declared.problem.Extra.{Extra}
 use Rattle.fd_prob.specs.declared.problem.Problem.{Problem}
-use Rattle.fd_solve.specs.Marks.{begun_of, marked_case, with_marked}
+use Rattle.fd_solve.specs.Internal.Marks.{begun_of, marked_case, with_marked}
 use Rattle.fd_solve.proofs.FirstMarks.{begun_whole, from_on, left_entries, left_room, left_whole}
 use Rattle.fd_prob.specs.Fitting.{IsCase}
 use Rattle.case_search.specs.Search.{IsLesser, IsMadeOf, LeastOrNone}
-use Rattle.fd_solve.specs.Operations.{IsMadeOfAny}
-use Rattle.fd_solve.specs.Equivalent.{AreTried}
+use Rattle.fd_solve.specs.Internal.Operations.{IsMadeOfAny}
+use Rattle.fd_solve.specs.Internal.Equivalent.{AreTried}
 use Rattle.fd_solve.proofs.Equivalence.{equivalent_at, equivalent_count, least_marked, tried_at, unmarked}
 use Rattle.fd_solve.proofs.Marking.{entry_at, many_marked, marked_at, marked_op}
 use Rattle.fd_solve.proofs.OneOperation.{IsMadeBefore, all_before, no_more_case, one_more_case, passed_case}

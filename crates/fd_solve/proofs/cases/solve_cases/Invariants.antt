@@ -1,5 +1,5 @@
-use Rattle.fd_solve.specs.Equivalent.{AreTried}
-use Rattle.fd_solve.specs.Marks.{begun_of, with_marked}
+use Rattle.fd_solve.specs.Internal.Equivalent.{AreTried}
+use Rattle.fd_solve.specs.Internal.Marks.{begun_of, with_marked}
 use Rattle.case_search.specs.Search.{LeastOrNone}
 use Rattle.fd_solve.proofs.FirstMarks.{from_on}
 use Rattle.fd_solve.proofs.OneOperation.{IsMadeBefore}

@@ -1,8 +1,8 @@
-use Rattle.fd_solve.specs.Marks.{marked_case}
+use Rattle.fd_solve.specs.Internal.Marks.{marked_case}
 use Rattle.fd_prob.specs.declared.problem.Case.{Case}
 use Rattle.fd_solve.proofs.Equivalence.{equivalent_after, least_of_equivalent, stands_in, tried_more}
 use Rattle.fd_solve.proofs.Marking.{marked_case_whole}
-use Rattle.fd_solve.proofs.MetRows.{dead_made}
+use Rattle.fd_solve.proofs.DeadCases.{dead_made}
 use Rattle.fd_solve.proofs.cases.try_narrow.Goals as goal
 
 pub narrow_again-requires : goal.narrow_again-requires

@@ -1,6 +1,6 @@
 use Rattle.std.proofs.Common.{◌≡◌, ℕ, All, take, option_map}
 use Rattle.fd_prob.specs.Fitting.{IsCase}
-use Rattle.fd_solve.specs.Marks.{cut_case, first_of}
+use Rattle.fd_solve.specs.Internal.Marks.{cut_case, first_of}
 use Rattle.fd_solve.proofs.firsts.cut_firsts.Given as goal
 
 abbrev pub invariant-loop-case : goal.invariant-loop-case

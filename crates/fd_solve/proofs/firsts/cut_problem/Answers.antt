@@ -1,6 +1,6 @@
 use Rattle.std.proofs.Common.{List, ap, refl, ◌∙◌, option_map}
 use Rattle.fd_prob.specs.declared.problem.Case.{Case}
-use Rattle.fd_solve.specs.Marks.{cut_case, first_of}
+use Rattle.fd_solve.specs.Internal.Marks.{cut_case, first_of}
 use Rattle.fd_solve.proofs.FirstCases.{cut_firsts_of}
 use Rattle.fd_solve.proofs.firsts.cut_problem.Goals as goal
 

@@ -3,7 +3,7 @@ use Rattle.std.proofs.lemmas.List.Elements.{All-push}
 use Rattle.fd_prob.specs.declared.problem.Case.{Case}
 use Rattle.fd_prob.specs.Fitting.{IsCase}
 use Rattle.fd_solve.proofs.FirstCases.{cut_whole, had_first, new_first, some_mapped}
-use Rattle.fd_solve.specs.Marks.{first_of}
+use Rattle.fd_solve.specs.Internal.Marks.{first_of}
 use Rattle.fd_solve.proofs.firsts.push_first.Goals as goal
 
 pub returns-then-is_some-clause-first : goal.returns-then-is_some-clause-first

@@ -1,6 +1,6 @@
 use Rattle.std.proofs.Common.{subst}
-use Rattle.fd_solve.specs.Known.{IsKnown}
-use Rattle.fd_solve.specs.Marks.{whole_of}
+use Rattle.fd_solve.specs.Internal.Known.{IsKnown}
+use Rattle.fd_solve.specs.Internal.Marks.{whole_of}
 use Rattle.fd_solve.proofs.known.answer_after.Goals as goal
 
 pub returns-in_ok-done-in-Fits : goal.returns-in_ok-done-in-Fits

@@ -1,6 +1,6 @@
 use Rattle.std.proofs.Common.{ap, ◌∙◌}
 use Rattle.std.specs.Prelude.{nat_lt}
-use Rattle.fd_solve.specs.Marks.{whole_of}
+use Rattle.fd_solve.specs.Internal.Marks.{whole_of}
 use Rattle.fd_solve.proofs.FirstCases.{same_space}
 use Rattle.fd_solve.proofs.known.is_spent.Goals as goal
 

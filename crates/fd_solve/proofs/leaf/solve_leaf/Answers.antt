@@ -1,8 +1,8 @@
 use Rattle.std.proofs.Common.{ℕ, Bool, List, [], sym, subst, arith}
 use Rattle.fd_prob.specs.declared.problem.Problem.{Problem}
 use Rattle.fd_solve.specs.Answers.{AreTaken}
-use Rattle.fd_solve.specs.Marks.{with_marked}
-use Rattle.fd_solve.specs.Taking.{IsTakenBy, kept_of}
+use Rattle.fd_solve.specs.Internal.Marks.{with_marked}
+use Rattle.fd_solve.specs.Internal.Taking.{IsTakenBy, kept_of}
 use Rattle.fd_solve.proofs.Biases.{next_bias, none_left}
 use Rattle.fd_solve.proofs.leaf.solve_leaf.Goals as goal
 

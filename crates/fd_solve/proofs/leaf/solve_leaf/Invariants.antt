@@ -1,6 +1,6 @@
 use Rattle.std.proofs.Common.{◌≡◌, [], drop, length}
 use Rattle.fd_solve.specs.Answers.{AreTaken, Kept}
-use Rattle.fd_solve.specs.Taking.{IsTold, kept_of}
+use Rattle.fd_solve.specs.Internal.Taking.{IsTold, kept_of}
 use Rattle.fd_solve.proofs.leaf.solve_leaf.Given as goal
 
 abbrev pub invariant-loop-bias : goal.invariant-loop-bias

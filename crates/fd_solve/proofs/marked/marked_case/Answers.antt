@@ -5,9 +5,9 @@ use Rattle.fd_prob.specs.declared.problem.Extra.{Extra}
 use Rattle.fd_prob.specs.Extras.{extended_case}
 use Rattle.fd_prob.specs.Fitting.{IsCase}
 use Rattle.case_search.specs.Equivalent.{IsEquivalent}
-use Rattle.fd_solve.specs.Marks.{marked_case}
+use Rattle.fd_solve.specs.Internal.Marks.{marked_case}
 use Rattle.fd_solve.proofs.Equivalence.{equivalent_after, equivalent_marked, equivalent_to_itself}
-use Rattle.fd_solve.proofs.Lists.{any_default, drop_past}
+use Rattle.case_search.proofs.Lists.{any_default, drop_past}
 use Rattle.fd_solve.proofs.Marking.{marked_case_whole, next_mark, with_bias_whole}
 use Rattle.fd_solve.proofs.marked.marked_case.Goals as goal
 

@@ -1,7 +1,7 @@
 use Rattle.std.proofs.Common.{drop}
 use Rattle.fd_prob.specs.Fitting.{IsCase}
 use Rattle.case_search.specs.Equivalent.{IsEquivalent}
-use Rattle.fd_solve.specs.Marks.{marked_case}
+use Rattle.fd_solve.specs.Internal.Marks.{marked_case}
 use Rattle.fd_solve.proofs.marked.marked_case.Given as goal
 
 abbrev pub invariant-loop-i : goal.invariant-loop-i

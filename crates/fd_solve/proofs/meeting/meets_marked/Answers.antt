@@ -1,7 +1,7 @@
 use Rattle.std.proofs.Common.{◌∙◌, arith}
 use Rattle.std.specs.Prelude.{false}
 use Rattle.fd_solve.proofs.FittingMarks.{one_met}
-use Rattle.fd_solve.proofs.Lists.{any_default}
+use Rattle.case_search.proofs.Lists.{any_default}
 use Rattle.fd_solve.proofs.meeting.meets_marked.Goals as goal
 
 pub loop-i-preserved : goal.loop-i-preserved

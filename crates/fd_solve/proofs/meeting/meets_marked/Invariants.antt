@@ -1,5 +1,5 @@
 use Rattle.std.proofs.Common.{◌≡◌, drop}
-use Rattle.fd_solve.specs.Meeting.{meets_marked}
+use Rattle.fd_solve.specs.Internal.Meeting.{meets_marked}
 use Rattle.fd_solve.proofs.meeting.meets_marked.Given as goal
 
 abbrev pub invariant-loop-i : goal.invariant-loop-i

@@ -1,6 +1,6 @@
 use Rattle.std.proofs.Common.{ℕ, ◌<◌, ◌≤◌, ◌∙◌, subst}
 use Rattle.fd_prob.specs.Spaces.{space}
-use Rattle.fd_solve.specs.Marks.{whole_of}
+use Rattle.fd_solve.specs.Internal.Marks.{whole_of}
 use Rattle.fd_solve.proofs.FirstCases.{same_space}
 use Rattle.fd_solve.proofs.operations.answer_of.Goals as goal
 

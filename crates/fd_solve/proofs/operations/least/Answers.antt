@@ -1,4 +1,4 @@
-use Rattle.fd_solve.specs.Marks.{whole_of}
+use Rattle.fd_solve.specs.Internal.Marks.{whole_of}
 use Rattle.fd_solve.proofs.Marking.{whole_marked}
 use Rattle.fd_solve.proofs.AllOperations.{least_above, rest_is_least}
 use Rattle.fd_solve.proofs.operations.least.Goals as goal

@@ -1,6 +1,6 @@
 use Rattle.std.proofs.Common.{◌∙◌}
 use Rattle.fd_prob.specs.declared.slot.Slot.TheVariants as slots
-use Rattle.fd_solve.specs.Marks.{whole_of}
+use Rattle.fd_solve.specs.Internal.Marks.{whole_of}
 use Rattle.fd_solve.proofs.FirstCases.{same_pivot}
 use Rattle.fd_solve.proofs.operations.searched.Goals as goal
 

@@ -1,7 +1,7 @@
 use Rattle.std.proofs.Common.{ℕ, Global, Vec, sym, subst, ◌∙◌}
 use Rattle.fd_prob.specs.declared.problem.Case.{Case}
-use Rattle.fd_solve.specs.Equivalent.{AreTried, StandFor}
-use Rattle.fd_solve.specs.Marks.{begun_of, whole_of}
+use Rattle.fd_solve.specs.Internal.Equivalent.{AreTried, StandFor}
+use Rattle.fd_solve.specs.Internal.Marks.{begun_of, whole_of}
 use Rattle.fd_solve.proofs.AllOperations.{first_least, no_case, no_fit}
 use Rattle.fd_solve.proofs.operations.solve_between.Goals.{in-Some+in_ok-x+in_default-2, in_default}
 use Rattle.fd_solve.proofs.operations.solve_between.Goals as goal

@@ -1,7 +1,7 @@
-use Rattle.fd_solve.specs.Equivalent.{AreTried, StandFor}
+use Rattle.fd_solve.specs.Internal.Equivalent.{AreTried, StandFor}
 use Rattle.std.proofs.Common.{◌≡◌, None}
-use Rattle.fd_solve.specs.Marks.{begun_of, whole_of}
-use Rattle.fd_solve.specs.Operations.{NoneBetween}
+use Rattle.fd_solve.specs.Internal.Marks.{begun_of, whole_of}
+use Rattle.fd_solve.specs.Internal.Operations.{NoneBetween}
 use Rattle.fd_solve.proofs.operations.solve_between.Given as goal
 
 abbrev pub invariant-loop-op : goal.invariant-loop-op

@@ -1,5 +1,5 @@
 use Rattle.std.proofs.Common.{length, length-append, ◌∷◌, [], ap, arith}
-use Rattle.fd_solve.specs.Marks.{marked_case}
+use Rattle.fd_solve.specs.Internal.Marks.{marked_case}
 use Rattle.fd_solve.proofs.Equivalence.{one_more_marked, stands_in}
 use Rattle.fd_solve.proofs.sought.marked_cases.Goals as goal
 

@@ -1,7 +1,7 @@
 use Rattle.std.proofs.Common.{◌≡◌, ◌<◌, ℕ, get_or, length}
 use Rattle.fd_prob.specs.declared.problem.Case.{Case}
-use Rattle.fd_solve.specs.Equivalent.{StandsIn}
-use Rattle.fd_solve.specs.Marks.{marked_case}
+use Rattle.fd_solve.specs.Internal.Equivalent.{StandsIn}
+use Rattle.fd_solve.specs.Internal.Marks.{marked_case}
 use Rattle.fd_solve.proofs.sought.marked_cases.Given as goal
 
 abbrev pub invariant-loop-place : goal.invariant-loop-place

@@ -1,6 +1,6 @@
 use Rattle.std.proofs.Common.{subst}
-use Rattle.fd_solve.specs.Marks.{begun_of}
-use Rattle.fd_solve.specs.Equivalent.{StandFor}
+use Rattle.fd_solve.specs.Internal.Marks.{begun_of}
+use Rattle.fd_solve.specs.Internal.Equivalent.{StandFor}
 use Rattle.fd_solve.proofs.Equivalence.{all_whole}
 use Rattle.fd_solve.proofs.sought.settle.Goals as goal
 

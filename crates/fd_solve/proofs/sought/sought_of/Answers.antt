@@ -1,6 +1,6 @@
 use Rattle.std.proofs.Common.{List, sym, subst}
 use Rattle.fd_prob.specs.declared.problem.Case.{Case}
-use Rattle.fd_solve.specs.Equivalent.{AreEquivalent, StandFor}
+use Rattle.fd_solve.specs.Internal.Equivalent.{AreEquivalent, StandFor}
 use Rattle.fd_solve.proofs.Equivalence.{all_itself}
 use Rattle.fd_solve.proofs.sought.sought_of.Goals as goal
 

@@ -1,6 +1,6 @@
 use Rattle.std.proofs.Common.{ℕ, ◌<◌, ◌^◌, List, All, ap, ◌∙◌, subst}
 use Rattle.row_parts.specs.declared.row.Row.{Row}
-use Rattle.fetch_ways.specs.Keeping.{ways_of}
+use Rattle.fetch_ways.specs.Internal.Keeping.{ways_of}
 use Rattle.fetch_ways.proofs.Collected.{collected}
 use Rattle.fetch_ways.proofs.making.fetch_ways.Goals as goal
 

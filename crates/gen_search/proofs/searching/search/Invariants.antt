@@ -1,7 +1,7 @@
 use Rattle.std.proofs.Common.{◌≡◌, ◌≤◌, ◌+◌, ◌-◌, length, Some}
 use Rattle.std.specs.List.{slice_get}
 use Rattle.gen_search.specs.Search.{SearchResult, Searches}
-use Rattle.gen_search.specs.Walks.{Ahead, IsWell, Leads}
+use Rattle.gen_search.specs.Internal.Walks.{Ahead, IsWell, Leads}
 use Rattle.gen_search.specs.Ready.{IsReady}
 use Rattle.gen_search.specs.Wholes.{wholes}
 use Rattle.gen_search.proofs.searching.search.Given as goal

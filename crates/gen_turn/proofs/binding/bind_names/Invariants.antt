@@ -1,4 +1,4 @@
-use Rattle.tpl_admit.specs.Moments.{moment}
+use Rattle.tpl_admit.specs.Internal.Moments.{moment}
 use Rattle.tpl_admit.specs.Variables.{value_of}
 use Rattle.gen_turn.proofs.Names.{IsBinding}
 use Rattle.gen_turn.proofs.binding.bind_names.Given as goal

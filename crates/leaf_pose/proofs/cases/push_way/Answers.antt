@@ -1,7 +1,7 @@
 use Rattle.std.proofs.Common.{◌≡◌, true, sym, ◌∙◌}
 use Rattle.leaf_stand.specs.Posed.{is_posed_at}
 use Rattle.leaf_stand.specs.Stands.{shape_at}
-use Rattle.leaf_stand.specs.Ways.{shape_with, way_case}
+use Rattle.leaf_stand.specs.Internal.Ways.{shape_with, way_case}
 use Rattle.leaf_stand.proofs.Rows.{listed_built}
 use Rattle.leaf_pose.proofs.Steps.{allowed_case, nothing_added, one_added, posed_fits, unposed_fits, way_shaped}
 use Rattle.leaf_pose.proofs.cases.push_way.Goals as goal

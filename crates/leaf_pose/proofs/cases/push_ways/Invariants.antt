@@ -1,7 +1,7 @@
 use Rattle.std.proofs.Common.{drop}
 use Rattle.leaf_pose.specs.declared.shaped.Shaped.{Shaped}
 use Rattle.leaf_pose.specs.Posed.{Adds}
-use Rattle.leaf_stand.specs.Ways.{way_cases}
+use Rattle.leaf_stand.specs.Internal.Ways.{way_cases}
 use Rattle.leaf_pose.proofs.cases.push_ways.Given as goal
 
 abbrev pub invariant-loop-way : goal.invariant-loop-way

@@ -3,8 +3,8 @@ use Rattle.std.proofs.lemmas.Bool.{and_parts}
 use Rattle.leaf_stand.specs.declared.shape.End.{End}
 use Rattle.leaf_stand.specs.Posed.{is_posed_at}
 use Rattle.leaf_stand.specs.Stands.{shape_at}
-use Rattle.leaf_stand.specs.Ways.{shape_with}
-use Rattle.leaf_pose.specs.Csrs.{access_case, end_of}
+use Rattle.leaf_stand.specs.Internal.Ways.{shape_with}
+use Rattle.leaf_pose.specs.Internal.Csrs.{access_case, end_of}
 use Rattle.leaf_pose.proofs.Granting.{access_posed, access_shaped_at, access_unposed}
 use Rattle.leaf_pose.proofs.Steps.{allowed_case, nothing_added, one_added}
 use Rattle.leaf_pose.proofs.csrs.push_access.Goals as goal

@@ -2,7 +2,7 @@ use Rattle.std.proofs.Common.{false, true, ◌++◌}
 use Rattle.rv_csr.specs.Table.{registers}
 use Rattle.leaf_stand.specs.Posed.{stand_cases, stand_ways}
 use Rattle.leaf_pose.specs.declared.csrs.Access.TheVariants.{Refused}
-use Rattle.leaf_pose.specs.Csrs.{access_case, csr_cases, register_cases}
+use Rattle.leaf_pose.specs.Internal.Csrs.{access_case, csr_cases, register_cases}
 use Rattle.leaf_pose.proofs.Granting.{accesses_back, accesses_there}
 use Rattle.leaf_pose.proofs.Steps.{same_adds, then_adds}
 use Rattle.leaf_pose.proofs.csrs.push_csrs.Goals as goal

@@ -1,7 +1,7 @@
 use Rattle.std.proofs.Common.{drop}
 use Rattle.rv_csr.specs.Table.{registers}
 use Rattle.leaf_pose.specs.declared.shaped.Shaped.{Shaped}
-use Rattle.leaf_pose.specs.Csrs.{register_cases}
+use Rattle.leaf_pose.specs.Internal.Csrs.{register_cases}
 use Rattle.leaf_pose.specs.Posed.{Adds}
 use Rattle.leaf_pose.proofs.csrs.push_registers.Given as goal
 

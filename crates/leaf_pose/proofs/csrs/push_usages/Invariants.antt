@@ -1,6 +1,6 @@
 use Rattle.std.proofs.Common.{drop}
 use Rattle.leaf_pose.specs.declared.shaped.Shaped.{Shaped}
-use Rattle.leaf_pose.specs.Csrs.{usage_cases}
+use Rattle.leaf_pose.specs.Internal.Csrs.{usage_cases}
 use Rattle.leaf_pose.specs.Posed.{Adds}
 use Rattle.leaf_pose.proofs.csrs.push_usages.Given as goal
 

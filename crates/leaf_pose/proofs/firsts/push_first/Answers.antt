@@ -1,6 +1,6 @@
 use Rattle.std.proofs.Common.{sym, ◌∙◌}
 use Rattle.leaf_stand.specs.declared.shape.End.TheVariants.{Retires}
-use Rattle.leaf_stand.specs.Ways.{shape_with}
+use Rattle.leaf_stand.specs.Internal.Ways.{shape_with}
 use Rattle.leaf_pose.proofs.Leading.{no_first, one_first}
 use Rattle.leaf_pose.proofs.firsts.push_first.Goals as goal
 

@@ -1,7 +1,7 @@
 use Rattle.std.proofs.Common.{drop}
 use Rattle.rv_isa.specs.declared.operation.TheConstants.{OPS}
 use Rattle.leaf_pose.specs.declared.shaped.Shaped.{Shaped}
-use Rattle.leaf_pose.specs.Firsts.{AddsFirsts}
+use Rattle.leaf_pose.specs.Internal.Firsts.{AddsFirsts}
 use Rattle.leaf_pose.proofs.firsts.push_firsts.Given as goal
 
 abbrev pub invariant-loop-op : goal.invariant-loop-op

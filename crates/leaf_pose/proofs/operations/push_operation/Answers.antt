@@ -4,7 +4,7 @@ use Rattle.leaf_stand.specs.Kinds.{kind_of}
 use Rattle.leaf_pose.specs.Posed.{Adds}
 use Rattle.leaf_stand.specs.Posed.{is_data, is_listed, stand_cases, stand_ways, ways_at}
 use Rattle.leaf_link.specs.Cases.{Way as AWay}
-use Rattle.leaf_stand.specs.Ways.{AreWaysOf, way_cases, ways_by}
+use Rattle.leaf_stand.specs.Internal.Ways.{AreWaysOf, way_cases, ways_by}
 use Rattle.leaf_stand.proofs.Branching.{are_ways, ways_back, ways_there}
 use Rattle.leaf_stand.proofs.Fits.{not_allowed}
 use Rattle.leaf_pose.proofs.Granting.{listed_where, operand_where}

@@ -1,7 +1,7 @@
 use Rattle.std.proofs.Common.{◌≡◌, ◌+◌, ◌∷◌, ◌++◌, [], List, Vec, Global, ap, drop, map, subst, sym, ◌∙◌, length}
 use Rattle.tpl_ast.specs.declared.template.Atom.{Atom}
 use Rattle.fd_prob.specs.declared.problem.Extra.{Extra}
-use Rattle.leaf_turn.specs.Asking.{AreExtrasOf, AreOfCases}
+use Rattle.leaf_turn.specs.Internal.Asking.{AreExtrasOf, AreOfCases}
 use Rattle.leaf_turn.proofs.Adding.{all_more, associate, item_at, nothing_behind, nothing_left, one_more}
 use Rattle.leaf_turn.proofs.answer.extras_of.Goals as goal
 

@@ -2,7 +2,7 @@ use Rattle.std.proofs.Common.{◌++◌, drop, map, List}
 use Rattle.fd_prob.specs.declared.problem.Extra.{Extra}
 use Rattle.tpl_ast.specs.declared.template.Atom.{Atom}
 use Rattle.leaf_pose.specs.Posed.{AreShaped}
-use Rattle.leaf_turn.specs.Asking.{AreExtrasOf, AreOfCases}
+use Rattle.leaf_turn.specs.Internal.Asking.{AreExtrasOf, AreOfCases}
 use Rattle.leaf_turn.proofs.answer.extras_of.Given as goal
 
 abbrev pub invariant-loop-bias : goal.invariant-loop-bias

@@ -1,5 +1,5 @@
 use Rattle.std.proofs.Common.{◌+◌, ◌-◌, ◌<◌, ◌≤◌}
-use Rattle.near_marks.specs.Near.{AreStillMarked}
+use Rattle.near_marks.specs.Internal.Near.{AreStillMarked}
 use Rattle.near_marks.proofs.Closing.{AreMetBelow}
 use Rattle.near_marks.proofs.close.mark_met.Given as goal
 

@@ -1,6 +1,6 @@
 use Rattle.std.proofs.Common.{Option, IfSome, subst}
 use Rattle.near_marks.specs.declared.close.Distances.{Distances}
-use Rattle.near_marks.specs.Close.{AreDistances}
+use Rattle.near_marks.specs.Internal.Close.{AreDistances}
 use Rattle.near_marks.proofs.Closing.{met_by_distances}
 use Rattle.near_marks.proofs.close.may_meet.Goals as goal
 

@@ -1,5 +1,5 @@
 use Rattle.std.proofs.Common.{take}
-use Rattle.near_marks.specs.Close.{ArePlaced}
+use Rattle.near_marks.specs.Internal.Close.{ArePlaced}
 use Rattle.near_marks.proofs.close.page_of.Given as goal
 
 abbrev pub invariant-loop-steps : goal.invariant-loop-steps

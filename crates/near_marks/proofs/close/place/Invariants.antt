@@ -1,5 +1,5 @@
 use Rattle.std.proofs.Common.{◌≡◌, ◌+◌, ◌-◌, ◌%◌, ◌^◌, ◌≤◌}
-use Rattle.near_marks.specs.Rests.{AreRestsKept}
+use Rattle.near_marks.specs.Internal.Rests.{AreRestsKept}
 use Rattle.near_marks.proofs.Closing.{ArePlacedBelow}
 use Rattle.near_marks.proofs.close.place.Given as goal
 

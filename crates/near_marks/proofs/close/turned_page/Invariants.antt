@@ -1,5 +1,5 @@
 use Rattle.std.proofs.Common.{take}
-use Rattle.near_marks.specs.Close.{AreTurnedOfAll}
+use Rattle.near_marks.specs.Internal.Close.{AreTurnedOfAll}
 use Rattle.near_marks.proofs.close.turned_page.Given as goal
 
 abbrev pub invariant-loop-steps : goal.invariant-loop-steps

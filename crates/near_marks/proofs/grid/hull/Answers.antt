@@ -1,7 +1,7 @@
 use Rattle.std.proofs.Common.{List, IsTrue, sym, subst}
 use Rattle.std.proofs.lemmas.List.{take_all}
 use Rattle.near_marks.specs.declared.steps.Steps.{Steps}
-use Rattle.near_marks.specs.Near.{is_at_one}
+use Rattle.near_marks.specs.Internal.Near.{is_at_one}
 use Rattle.near_marks.proofs.grid.hull.Goals as goal
 
 pub returns-clause-around : goal.returns-clause-around

@@ -1,5 +1,5 @@
 use Rattle.std.proofs.Common.{take, ◌+◌, ◌^◌, ◌≤◌}
-use Rattle.near_marks.specs.Near.{IsAroundSteps}
+use Rattle.near_marks.specs.Internal.Near.{IsAroundSteps}
 use Rattle.near_marks.proofs.grid.hull.Given as goal
 
 abbrev pub invariant-loop-steps : goal.invariant-loop-steps

@@ -1,5 +1,5 @@
 use Rattle.std.proofs.Common.{take}
-use Rattle.near_marks.specs.Near.{AreStillMarked, HaveNear}
+use Rattle.near_marks.specs.Internal.Near.{AreStillMarked, HaveNear}
 use Rattle.near_marks.proofs.pairs.mark_block.Given as goal
 
 abbrev pub invariant-loop-first : goal.invariant-loop-first

@@ -1,5 +1,5 @@
 use Rattle.std.proofs.Common.{take}
-use Rattle.near_marks.specs.Near.{AreStillMarked, HaveNearWith}
+use Rattle.near_marks.specs.Internal.Near.{AreStillMarked, HaveNearWith}
 use Rattle.near_marks.proofs.pairs.mark_with.Given as goal
 
 abbrev pub invariant-loop-other : goal.invariant-loop-other

@@ -1,5 +1,5 @@
 use Rattle.std.proofs.Common.{false}
-use Rattle.near_marks.specs.Rests.{HasGapLeavingFrom}
+use Rattle.near_marks.specs.Internal.Rests.{HasGapLeavingFrom}
 use Rattle.near_marks.proofs.rests.has_gap_leaving_from.Given as goal
 
 abbrev pub invariant-loop-rest : goal.invariant-loop-rest

@@ -1,4 +1,4 @@
-use Rattle.near_marks.specs.Rests.{AreRestsKept, HaveSumsWith}
+use Rattle.near_marks.specs.Internal.Rests.{AreRestsKept, HaveSumsWith}
 use Rattle.near_marks.proofs.rests.note_sums.Given as goal
 
 abbrev pub invariant-loop-other : goal.invariant-loop-other

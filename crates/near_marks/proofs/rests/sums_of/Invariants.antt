@@ -1,4 +1,4 @@
-use Rattle.near_marks.specs.Rests.{HaveSumsOf}
+use Rattle.near_marks.specs.Internal.Rests.{HaveSumsOf}
 use Rattle.near_marks.proofs.rests.sums_of.Given as goal
 
 abbrev pub invariant-loop-rest : goal.invariant-loop-rest

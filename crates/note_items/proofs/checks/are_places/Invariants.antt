@@ -1,5 +1,5 @@
 use Rattle.std.proofs.Common.{◌≡◌, drop}
-use Rattle.note_items.specs.Checks.{are_places}
+use Rattle.note_items.specs.Internal.Checks.{are_places}
 use Rattle.note_items.proofs.checks.are_places.Given as goal
 
 abbrev pub invariant-loop-place : goal.invariant-loop-place

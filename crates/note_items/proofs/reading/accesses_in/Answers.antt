@@ -1,9 +1,9 @@
 use Rattle.std.proofs.Common.{arith}
 use Rattle.std.proofs.lemmas.List.{length-append}
 use Rattle.std.proofs.lemmas.Result.{err_from_is_err_and}
-use Rattle.byte_format.specs.Readers.{times}
+use Rattle.byte_format.specs.Internal.Readers.{times}
 use Rattle.byte_format.proofs.Loop.{goes_on, ends, is_done}
-use Rattle.note_items.specs.Readers.{access_at}
+use Rattle.note_items.specs.Internal.Readers.{access_at}
 use Rattle.note_items.proofs.reading.accesses_in.Goals as goal
 
 pub returns-in_err-item-clause-gives : goal.returns-in_err-item-clause-gives

@@ -1,6 +1,6 @@
 use Rattle.std.proofs.Common.{◌≡◌, ◌-◌, ◌≤◌, length}
-use Rattle.byte_format.specs.Readers.{times, with_front}
-use Rattle.note_items.specs.Readers.{access_at}
+use Rattle.byte_format.specs.Internal.Readers.{times, with_front}
+use Rattle.note_items.specs.Internal.Readers.{access_at}
 use Rattle.note_items.proofs.reading.accesses_in.Given as goal
 
 abbrev pub invariant-loop : goal.invariant-loop

@@ -1,7 +1,6 @@
 use Rattle.std.proofs.lemmas.Result.{err_from_is_err_and}
-use Rattle.byte_format.specs.Readers.{times}
+use Rattle.byte_format.specs.Internal.Readers.{times, word_at}
 use Rattle.byte_format.proofs.Loop.{goes_on, ends, is_done}
-use Rattle.byte_format.specs.Readers.{word_at}
 use Rattle.note_items.proofs.reading.words_in.Goals as goal
 
 pub returns-in_err-item : goal.returns-in_err-item

@@ -1,6 +1,5 @@
 use Rattle.std.proofs.Common.{◌≡◌, ◌-◌}
-use Rattle.byte_format.specs.Readers.{times, with_front}
-use Rattle.byte_format.specs.Readers.{word_at}
+use Rattle.byte_format.specs.Internal.Readers.{times, with_front, word_at}
 use Rattle.note_items.proofs.reading.words_in.Given as goal
 
 abbrev pub invariant-loop : goal.invariant-loop

@@ -1,6 +1,6 @@
 use Rattle.std.proofs.Common.{take}
 use Rattle.foot_map.specs.Touches.{has}
-use Rattle.part_clash.specs.Parts.{IsLeastWith}
+use Rattle.part_clash.specs.Internal.Parts.{IsLeastWith}
 use Rattle.part_clash.proofs.Steps.{IsAmongClash}
 use Rattle.part_clash.proofs.least.least_clash.Given as goal
 

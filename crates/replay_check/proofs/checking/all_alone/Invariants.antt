@@ -1,9 +1,9 @@
 use Rattle.std.proofs.Common.{◌≡◌, ℕ, ◌<◌, length, get_or}
 use Rattle.rv_hart.specs.declared.hart.Hart.{Hart}
 use Rattle.tpl_admit.specs.Starts.{trace_of}
-use Rattle.tpl_admit.specs.Failures.{HartIsRight}
-use Rattle.replay_check.specs.Memory.{AreInWords}
-use Rattle.replay_check.specs.Replay.{EndsAs}
+use Rattle.replay_check.specs.Failures.{HartIsRight}
+use Rattle.replay_check.specs.Internal.Memory.{AreInWords}
+use Rattle.replay_check.specs.Internal.Replay.{EndsAs}
 use Rattle.replay_check.proofs.checking.all_alone.Given as goal
 
 abbrev pub invariant-loop-k : goal.invariant-loop-k

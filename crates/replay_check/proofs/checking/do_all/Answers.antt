@@ -6,7 +6,7 @@ use Rattle.rv_script.specs.Memory.{memory_after}
 use Rattle.rv_hart.specs.declared.record.Record.{Record}
 use Rattle.rv_hart.specs.Effects.{seen_after}
 use Rattle.tpl_admit.specs.Races.{footprint_of}
-use Rattle.replay_check.specs.Memory.{AreInWords, Shows}
+use Rattle.replay_check.specs.Internal.Memory.{AreInWords, Shows}
 use Rattle.replay_check.proofs.Behind.{one_record}
 use Rattle.replay_check.proofs.Shown.{after_both, shown_after, shown_same}
 use Rattle.replay_check.proofs.checking.do_all.Goals as goal

@@ -3,7 +3,7 @@ use Rattle.rv_mem.specs.Part.{part_at}
 use Rattle.rv_script.specs.Memory.{memory_after}
 use Rattle.tpl_ast.specs.declared.template.Region.{Region}
 use Rattle.tpl_admit.specs.Races.{footprint_of}
-use Rattle.replay_check.specs.Memory.{AreInWords, Shows}
+use Rattle.replay_check.specs.Internal.Memory.{AreInWords, Shows}
 use Rattle.replay_check.proofs.checking.do_all.Given as goal
 
 abbrev pub invariant-loop-record : goal.invariant-loop-record

@@ -2,7 +2,7 @@ use Rattle.rv_mem.specs.Part.{part_at}
 use Rattle.tpl_admit.specs.Starts.{trace_of, first_memory}
 use Rattle.tpl_admit.specs.Races.{footprints_of}
 use Rattle.tpl_admit.specs.Validity.{in_turn}
-use Rattle.replay_check.specs.Memory.{ShowsOf}
+use Rattle.replay_check.specs.Internal.Memory.{ShowsOf}
 use Rattle.replay_check.proofs.checking.end_memory.Given as goal
 
 abbrev pub invariant-loop-k : goal.invariant-loop-k

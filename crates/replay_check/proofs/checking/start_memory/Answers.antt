@@ -1,6 +1,6 @@
 use Rattle.std.proofs.Common.{ℕ, List, sym, subst}
 use Rattle.tpl_ast.specs.declared.template.Region.{Region}
-use Rattle.replay_check.specs.Memory.{IsStart}
+use Rattle.replay_check.specs.Internal.Memory.{IsStart}
 use Rattle.replay_check.proofs.Ends.{start_is}
 use Rattle.replay_check.proofs.checking.start_memory.Goals as goal
 

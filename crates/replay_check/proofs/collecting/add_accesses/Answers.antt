@@ -3,7 +3,7 @@ use Rattle.std.proofs.lemmas.List.{take_all}
 use Rattle.rv_script.specs.declared.access.Access.{Access}
 use Rattle.rv_script.specs.declared.access.Role.TheVariants.{Fetch}
 use Rattle.foot_map.specs.Races.{IsFootprint}
-use Rattle.replay_check.specs.Racing.{with_accesses}
+use Rattle.replay_check.specs.Internal.Racing.{with_accesses}
 use Rattle.replay_check.proofs.Behind.{one_more, in_word}
 use Rattle.replay_check.proofs.collecting.add_accesses.Goals as goal
 

@@ -3,8 +3,8 @@ use Rattle.rv_hart.specs.declared.record.Record.{Record}
 use Rattle.foot_map.specs.Races.{IsRaceFree, IsFootprint}
 use Rattle.tpl_admit.specs.Starts.{trace_of}
 use Rattle.tpl_admit.specs.Races.{footprint_of}
-use Rattle.tpl_admit.specs.Failures.{did_before}
-use Rattle.replay_check.specs.Racing.{with_accesses}
+use Rattle.replay_check.specs.Failures.{did_before}
+use Rattle.replay_check.specs.Internal.Racing.{with_accesses}
 use Rattle.replay_check.proofs.Behind.{all_before, whole_before, trace_is}
 use Rattle.replay_check.proofs.collecting.has_race.Goals as goal
 

@@ -1,5 +1,5 @@
 use Rattle.foot_map.specs.Races.{IsFootprint}
-use Rattle.tpl_admit.specs.Failures.{did_before}
+use Rattle.replay_check.specs.Failures.{did_before}
 use Rattle.replay_check.proofs.collecting.has_race.Given as goal
 
 abbrev pub invariant-loop-k : goal.invariant-loop-k

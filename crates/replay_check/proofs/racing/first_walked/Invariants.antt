@@ -1,5 +1,5 @@
 use Rattle.foot_map.specs.Races.{IsRaceFree, IsFootprint}
-use Rattle.tpl_admit.specs.Failures.{did_before}
+use Rattle.replay_check.specs.Failures.{did_before}
 use Rattle.replay_check.proofs.racing.first_walked.Given as goal
 
 abbrev pub invariant-loop-k : goal.invariant-loop-k

@@ -4,7 +4,7 @@ use Rattle.rv_script.specs.declared.access.Access.{Access}
 use Rattle.rv_hart.specs.declared.record.Record.{Record}
 use Rattle.foot_map.specs.Races.{IsRaceFree, IsFootprint}
 use Rattle.tpl_admit.specs.Races.{footprint_of}
-use Rattle.replay_check.specs.Racing.{with_accesses, RacesAt}
+use Rattle.replay_check.specs.Internal.Racing.{with_accesses, RacesAt}
 use Rattle.replay_check.proofs.Behind.{next_record}
 use Rattle.replay_check.proofs.racing.race_in.Goals as goal
 

@@ -6,7 +6,7 @@ use Rattle.rv_script.specs.declared.access.Role.TheVariants.{Fetch}
 use Rattle.rv_script.specs.Lists.{HasItem}
 use Rattle.foot_map.specs.declared.clash.Clash.{Clash}
 use Rattle.foot_map.specs.Races.{IsRaceFree, IsFootprint, IsClash, with_access}
-use Rattle.replay_check.specs.Racing.{with_accesses}
+use Rattle.replay_check.specs.Internal.Racing.{with_accesses}
 use Rattle.replay_check.proofs.Behind.{one_more, front_fewer, one_there, none_there, in_word}
 use Rattle.replay_check.proofs.racing.races.Goals as goal
 

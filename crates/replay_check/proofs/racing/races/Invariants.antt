@@ -1,7 +1,7 @@
 use Rattle.std.proofs.Common.{ℕ, List, take}
 use Rattle.rv_script.specs.declared.access.Access.{Access}
 use Rattle.foot_map.specs.Races.{IsRaceFree, IsFootprint}
-use Rattle.replay_check.specs.Racing.{with_accesses}
+use Rattle.replay_check.specs.Internal.Racing.{with_accesses}
 use Rattle.replay_check.proofs.racing.races.Given as goal
 
 abbrev pub invariant-loop-x : goal.invariant-loop-x

@@ -1,6 +1,6 @@
 use Rattle.std.proofs.Common.{ℕ, sym, ◌∙◌, true≢false}
 use Rattle.rv_mem.specs.Part.{part_at}
-use Rattle.replay_check.specs.Replay.{Strays}
+use Rattle.replay_check.specs.Internal.Replay.{Strays}
 use Rattle.replay_check.proofs.Steps.{takes, strays_other, strays_missing, strays_outside, kind_told, same_record, record_same}
 use Rattle.replay_check.proofs.stepping.take.Goals as goal
 

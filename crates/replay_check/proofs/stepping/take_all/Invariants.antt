@@ -1,7 +1,7 @@
 use Rattle.std.proofs.Common.{List, ℕ, Option}
 use Rattle.rv_mem.specs.Part.{part_at}
 use Rattle.tpl_ast.specs.declared.template.Region.{Region}
-use Rattle.replay_check.specs.Memory.{Shows}
+use Rattle.replay_check.specs.Internal.Memory.{Shows}
 use Rattle.replay_check.proofs.Traces.{IsUpTo}
 use Rattle.replay_check.proofs.stepping.take_all.Given as goal
 

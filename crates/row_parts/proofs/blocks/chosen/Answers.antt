@@ -1,6 +1,6 @@
 use Rattle.std.proofs.Common.{ℕ, List, ◌||◌, ◌&&◌, ap, ◌∙◌, arith}
 use Rattle.dom_set.specs.Elements.{is_within}
-use Rattle.row_parts.specs.Blocks.{is_in_block}
+use Rattle.row_parts.specs.Internal.Blocks.{is_in_block}
 use Rattle.row_parts.proofs.Cuts.{chosen_is}
 use Rattle.row_parts.proofs.blocks.chosen.Goals as goal
 

@@ -1,12 +1,12 @@
 use Rattle.std.proofs.Common.{◌∙◌}
-use Rattle.tpl_admit.specs.Starts.{found}
-use Rattle.given_start.specs.Knowledge.{known_of}
+use Rattle.tpl_admit.specs.Starts.{lookup}
+use Rattle.given_start.specs.Internal.Knowledge.{known_of}
 use Rattle.rv_system.proofs.Filled.{AreGiven, given_as, given_known, given_value}
 use Rattle.rv_system.proofs.filling.filled_hart.Goals as goal
 
 pub returns : goal.returns
 returns c =
-    let start = found c.args.state.now.places in
+    let start = lookup c.args.state.now.places in
     let h = c.fill_rest.new.hart in
     let given : AreGiven start (known_of h) c.args.fill =
     given_as (known_of c.hart_in-hart.result) start (known_of h) c.args.fill c.hart_in-hart.ensures.known

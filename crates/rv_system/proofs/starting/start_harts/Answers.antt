@@ -1,6 +1,6 @@
 use Rattle.std.proofs.Common.{◌≡◌, ℕ, length, subst, arith}
 use Rattle.tpl_ast.specs.declared.template.HartState.{HartState}
-use Rattle.rv_system.specs.Starting.{IsFilledHart}
+use Rattle.rv_system.specs.Internal.Starting.{IsFilledHart}
 use Rattle.rv_system.proofs.Starts.{filled_first, filled_next, filled_end}
 use Rattle.rv_system.proofs.starting.start_harts.Goals as goal
 

@@ -1,6 +1,6 @@
 use Rattle.std.proofs.Common.{◌+◌, ◌&&◌, ◌||◌, not, arith}
-use Rattle.set_pieces.specs.Patterns.{matches, matches_below}
-use Rattle.set_pieces.specs.Runs.{in_run, is_in_run}
+use Rattle.set_pieces.specs.Internal.Patterns.{matches, matches_below}
+use Rattle.set_pieces.specs.Internal.Runs.{in_run, is_in_run}
 use Rattle.set_pieces.proofs.Unmatched.{first_same, none_yet, one_bit_more, all_bits}
 use Rattle.set_pieces.proofs.holes.first_unmatched.Goals as goal
 

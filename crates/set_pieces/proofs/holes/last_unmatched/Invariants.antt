@@ -1,6 +1,6 @@
 use Rattle.std.proofs.Common.{◌&&◌, not}
-use Rattle.set_pieces.specs.Patterns.{matches_below}
-use Rattle.set_pieces.specs.Runs.{in_run}
+use Rattle.set_pieces.specs.Internal.Patterns.{matches_below}
+use Rattle.set_pieces.specs.Internal.Runs.{in_run}
 use Rattle.set_pieces.specs.Ends.{IsLast}
 use Rattle.set_pieces.proofs.holes.last_unmatched.Given as goal
 

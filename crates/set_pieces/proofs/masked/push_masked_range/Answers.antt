@@ -1,6 +1,6 @@
 use Rattle.std.proofs.Common.{ℕ, ◌+◌, ◌&&◌, not, leb, ltb, bit_and, ◌∙◌}
-use Rattle.set_pieces.specs.Counting.{one}
-use Rattle.set_pieces.specs.Pieces.{times}
+use Rattle.set_pieces.specs.Internal.Counting.{one}
+use Rattle.set_pieces.specs.Internal.Pieces.{times}
 use Rattle.set_pieces.proofs.masked.push_masked_range.Goals as goal
 
 pub returns-in_ok-push_range-in-Some : goal.returns-in_ok-push_range-in-Some

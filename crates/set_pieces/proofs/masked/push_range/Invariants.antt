@@ -1,7 +1,7 @@
 use Rattle.std.proofs.Common.{◌≡◌, ℕ, ◌+◌, ◌-◌, ◌^◌, ◌<◌, ◌≤◌, ◌&&◌, not, bit_and, nat_le, nat_lt}
-use Rattle.set_pieces.specs.Counting.{one}
-use Rattle.set_pieces.specs.Patterns.{matches, is_matched}
-use Rattle.set_pieces.specs.Pieces.{times}
+use Rattle.set_pieces.specs.Internal.Counting.{one}
+use Rattle.set_pieces.specs.Internal.Patterns.{matches, is_matched}
+use Rattle.set_pieces.specs.Internal.Pieces.{times}
 use Rattle.set_pieces.proofs.masked.push_range.Given as goal
 
 abbrev pub invariant-loop-low : goal.invariant-loop-low

@@ -1,6 +1,6 @@
 use Rattle.std.proofs.Common.{ℕ, ◌+◌, ◌&&◌, leb, ltb, ap, ◌∙◌, arith}
-use Rattle.set_pieces.specs.Patterns.{matches}
-use Rattle.set_pieces.specs.Runs.{in_run}
+use Rattle.set_pieces.specs.Internal.Patterns.{matches}
+use Rattle.set_pieces.specs.Internal.Runs.{in_run}
 use Rattle.set_pieces.proofs.Masking.{around_is}
 use Rattle.set_pieces.proofs.masked.round_ends.Goals as goal
 

@@ -1,8 +1,8 @@
 use Rattle.std.proofs.Common.{◌≡◌, Bool, ◌&&◌, ap, ◌∙◌, arith}
-use Rattle.set_pieces.specs.Counting.{one}
-use Rattle.set_pieces.specs.Patterns.{matches}
-use Rattle.set_pieces.specs.Runs.{in_span, in_run}
-use Rattle.set_pieces.specs.Pieces.{in_piece, is_held}
+use Rattle.set_pieces.specs.Internal.Counting.{one}
+use Rattle.set_pieces.specs.Internal.Patterns.{matches}
+use Rattle.set_pieces.specs.Internal.Runs.{in_span, in_run}
+use Rattle.set_pieces.specs.Internal.Pieces.{in_piece, is_held}
 use Rattle.set_pieces.proofs.Pieces.{two_parts, three_parts}
 use Rattle.set_pieces.proofs.Times.{word_held}
 use Rattle.set_pieces.proofs.Without.{span_is}

@@ -1,5 +1,5 @@
 use Rattle.std.proofs.Common.{take}
-use Rattle.set_sums.specs.Near.{AreForward}
+use Rattle.set_sums.specs.Internal.Near.{AreForward}
 use Rattle.set_sums.proofs.near.forward.Given as goal
 
 abbrev pub invariant-loop-track : goal.invariant-loop-track

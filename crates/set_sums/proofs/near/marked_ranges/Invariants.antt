@@ -1,5 +1,5 @@
 use Rattle.std.proofs.Common.{◌-◌, ◌≤◌}
-use Rattle.set_sums.specs.Near.{AreInRanges}
+use Rattle.set_sums.specs.Internal.Near.{AreInRanges}
 use Rattle.set_sums.proofs.near.marked_ranges.Given as goal
 
 abbrev pub invariant-loop-first : goal.invariant-loop-first

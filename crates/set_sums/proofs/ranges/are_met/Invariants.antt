@@ -1,5 +1,5 @@
 use Rattle.std.proofs.Common.{take, false}
-use Rattle.set_sums.specs.Spans.{IsMet}
+use Rattle.set_sums.specs.Internal.Spans.{IsMet}
 use Rattle.set_sums.proofs.ranges.are_met.Given as goal
 
 abbrev pub invariant-loop-window : goal.invariant-loop-window

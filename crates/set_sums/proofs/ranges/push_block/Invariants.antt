@@ -1,5 +1,5 @@
 use Rattle.std.proofs.Common.{take}
-use Rattle.set_sums.specs.Spans.{AreKept, HaveSums}
+use Rattle.set_sums.specs.Internal.Spans.{AreKept, HaveSums}
 use Rattle.set_sums.proofs.ranges.push_block.Given as goal
 
 abbrev pub invariant-loop-first : goal.invariant-loop-first

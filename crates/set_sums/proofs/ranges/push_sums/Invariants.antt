@@ -1,5 +1,5 @@
 use Rattle.std.proofs.Common.{take}
-use Rattle.set_sums.specs.Spans.{AreKept, HaveSumsWith}
+use Rattle.set_sums.specs.Internal.Spans.{AreKept, HaveSumsWith}
 use Rattle.set_sums.proofs.ranges.push_sums.Given as goal
 
 abbrev pub invariant-loop-other : goal.invariant-loop-other

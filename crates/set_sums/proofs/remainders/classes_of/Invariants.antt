@@ -1,5 +1,5 @@
 use Rattle.std.proofs.Common.{take}
-use Rattle.set_sums.specs.Remainders.{AreClasses}
+use Rattle.set_sums.specs.Internal.Remainders.{AreClasses}
 use Rattle.set_sums.proofs.remainders.classes_of.Given as goal
 
 abbrev pub invariant-loop-first : goal.invariant-loop-first

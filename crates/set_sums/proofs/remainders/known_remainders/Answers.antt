@@ -1,6 +1,6 @@
 use Rattle.std.proofs.Common.{ℕ, List, arith, refl, sym, subst}
 use Rattle.std.proofs.lemmas.Nat.{pow_below}
-use Rattle.set_sums.specs.Remainders.{HasRemainders}
+use Rattle.set_sums.specs.Internal.Remainders.{HasRemainders}
 use Rattle.set_sums.proofs.Quarters.{known_bits, known_but_one}
 use Rattle.set_sums.proofs.remainders.known_remainders.Goals as goal
 

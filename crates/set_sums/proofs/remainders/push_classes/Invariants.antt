@@ -1,5 +1,5 @@
 use Rattle.std.proofs.Common.{take}
-use Rattle.set_sums.specs.Remainders.{AreClassesOf, AreSameClasses}
+use Rattle.set_sums.specs.Internal.Remainders.{AreClassesOf, AreSameClasses}
 use Rattle.set_sums.proofs.remainders.push_classes.Given as goal
 
 abbrev pub invariant-loop-other : goal.invariant-loop-other

@@ -1,4 +1,4 @@
-use Rattle.set_sums.specs.Remainders.{HasRemaindersBelow}
+use Rattle.set_sums.specs.Internal.Remainders.{HasRemaindersBelow}
 use Rattle.set_sums.proofs.remainders.remainders.Given as goal
 
 abbrev pub invariant-loop-remainder : goal.invariant-loop-remainder

@@ -1,6 +1,6 @@
 use Rattle.std.proofs.Common.{subst, sym}
 use Rattle.set_sums.specs.declared.sums.Wanted.{Wanted}
-use Rattle.set_sums.specs.Wanted.{HoldsAny}
+use Rattle.set_sums.specs.Internal.Wanted.{HoldsAny}
 use Rattle.set_sums.proofs.Wanted.{wanted_class_sums}
 use Rattle.set_sums.proofs.sums.classes_of.Goals as goal
 

@@ -2,7 +2,7 @@ use Rattle.std.proofs.Common.{◌≡◌, ◌∙◌, ℕ, List, subst}
 use Rattle.cover_sweep.specs.Template.{demo_template}
 use Rattle.tool_words.specs.declared.command.Effort.{Effort}
 use Rattle.tool_texts.specs.Demo.{demo_effort}
-use Rattle.tool_texts.specs.Reasons.{TellsNone}
+use Rattle.tool_texts.specs.Internal.Reasons.{TellsNone}
 use Rattle.tool_texts.proofs.Demos.{demo_refused}
 use Rattle.tool_texts.proofs.demonstrating.demo_answer.Goals as goal
 

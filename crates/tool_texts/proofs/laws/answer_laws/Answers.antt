@@ -9,7 +9,7 @@ returns-clause-one c = one_answer (record {
   valid = c.one_verdict.ensures.valid;
   failure = c.one_verdict.ensures.one;
   decides = c.said_law.ensures;
-  layouts = c.layout_law.ensures;
+  layouts = c.expansion_law.ensures;
 }) c.texts_tell_what_is_made.ensures
 
 pub returns-clause-limits : goal.returns-clause-limits
@@ -20,7 +20,7 @@ returns-clause-limits c = limits_lose_nothing (record {
   valid = c.one_verdict.ensures.valid;
   failure = c.one_verdict.ensures.one;
   decides = c.said_law.ensures;
-  layouts = c.layout_law.ensures;
+  layouts = c.expansion_law.ensures;
 }) c.template_law.ensures c.language_laws.ensures.long_texts
 
 pub returns-clause-reported : goal.returns-clause-reported

@@ -1,8 +1,8 @@
 use Rattle.std.proofs.Common.{◌≡◌, ℕ, inl, inr, List, [], refl, Result, Ok, Err}
 use Rattle.std.specs.Prelude.{IfOk}
 use Rattle.tpl_admit.specs.declared.certificate.Cert.{Cert}
-use Rattle.tpl_admit.specs.Failures.{IsFirstFailure}
-use Rattle.tpl_admit.specs.Faithfulness.{IsFaithful}
+use Rattle.replay_check.specs.Failures.{IsFirstFailure}
+use Rattle.rv_system.specs.Faithfulness.{IsFaithful}
 use Rattle.tpl_admit.specs.Validity.{IsValid}
 use Rattle.replay_check.specs.declared.verdict.Verdict.{Verdict}
 use Rattle.replay_check.specs.declared.verdict.Verdict.TheVariants.{Yes, No}

@@ -1,5 +1,5 @@
 use Rattle.std.proofs.Common.{subst}
-use Rattle.tpl_ast.specs.Parsing.{parses}
+use Rattle.tpl_lang.specs.Parsing.{parses}
 use Rattle.tpl_parse.specs.declared.error.ParseError.{ParseError}
 use Rattle.tpl_parse.specs.Answers.{Denies}
 use Rattle.tool_texts.proofs.test.test_of.Goals as goal

@@ -1,7 +1,7 @@
 use Rattle.std.proofs.Common.{◌≡◌, sym, ◌∙◌, subst, ap, Some, None}
 use Rattle.tpl_admit.specs.Admission.{trace_in}
 use Rattle.tpl_admit.specs.Admitting.{Trace, failures_of, least_failure}
-use Rattle.tpl_admit.specs.Walks.{IsWithinLimits}
+use Rattle.tpl_admit.specs.Internal.Walks.{IsWithinLimits}
 use Rattle.tpl_admit.proofs.Failures.{none_least, least_is}
 use Rattle.tpl_admit.proofs.Limits.{within_limits}
 use Rattle.tpl_admit.proofs.admission.admits.Goals as goal

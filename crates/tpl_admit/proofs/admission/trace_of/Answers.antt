@@ -1,7 +1,7 @@
 use Rattle.std.proofs.Common.{◌≡◌, true, subst, sym}
 use Rattle.std.specs.Prelude.{List, length}
 use Rattle.tpl_admit.specs.declared.dropped.Dropped.{Dropped}
-use Rattle.tpl_admit.specs.Ordered.{is_ascending}
+use Rattle.tpl_admit.specs.Internal.Ordered.{is_ascending}
 use Rattle.tpl_admit.proofs.Drops.{ascending}
 use Rattle.tpl_admit.proofs.admission.trace_of.Goals as goal
 

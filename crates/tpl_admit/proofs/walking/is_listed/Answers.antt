@@ -3,7 +3,7 @@ use Rattle.std.specs.List.{slice_get}
 use Rattle.std.specs.List.Sorted.{IsPartitionPoint}
 use Rattle.std.proofs.lemmas.List.Sorted.{IsPartitionPoint-from_clause}
 use Rattle.std.proofs.lemmas.Option.{slice_get_past, slice_get_read}
-use Rattle.tpl_admit.specs.Ordered.{stands_before}
+use Rattle.tpl_admit.specs.Internal.Ordered.{stands_before}
 use Rattle.tpl_admit.proofs.Drops.{found, is_drop_at, parted}
 use Rattle.tpl_admit.proofs.walking.is_listed.Goals as goal
 

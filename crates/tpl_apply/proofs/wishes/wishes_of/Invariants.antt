@@ -1,9 +1,9 @@
 use Rattle.std.proofs.Common.{◌≡◌, ◌++◌, drop, false, map}
 use Rattle.std.specs.List.{list_any}
-use Rattle.tpl_ast.specs.Judging.{is_wish_above}
-use Rattle.tpl_ast.specs.Parsing.{wish_of}
-use Rattle.tpl_token.specs.Phrases.{wishes_view}
-use Rattle.tpl_state.specs.State.{known}
+use Rattle.tpl_lang.specs.Faults.{is_wish_above}
+use Rattle.tpl_lang.specs.Statements.{wish_of}
+use Rattle.tpl_token.specs.Internal.Phrases.{wishes_view}
+use Rattle.tpl_state.specs.Internal.State.{known}
 use Rattle.tpl_apply.proofs.wishes.wishes_of.Given as goal
 
 abbrev pub invariant-loop-wish : goal.invariant-loop-wish

@@ -1,5 +1,4 @@
 use Rattle.tpl_ast.proofs.Leaves.{fixed_exact, layouts_fit}
-use Rattle.tpl_ast.proofs.Sound.{lengths_are_kept}
 use Rattle.tpl_ast.proofs.laws.length_laws.Goals as goal
 
 pub returns-clause-bound : goal.returns-clause-bound
@@ -7,6 +6,3 @@ returns-clause-bound c = layouts_fit
 
 pub returns-clause-exact : goal.returns-clause-exact
 returns-clause-exact c = fixed_exact
-
-pub returns-clause-kept : goal.returns-clause-kept
-returns-clause-kept c = lengths_are_kept

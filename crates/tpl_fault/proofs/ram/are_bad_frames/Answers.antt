@@ -1,5 +1,5 @@
 use Rattle.std.proofs.Common.{◌++◌, ◌∙◌}
-use Rattle.tpl_state.specs.State.{known}
+use Rattle.tpl_state.specs.Internal.State.{known}
 use Rattle.tpl_fault.proofs.Frames.{next_frame}
 use Rattle.tpl_fault.proofs.ram.are_bad_frames.Goals as goal
 

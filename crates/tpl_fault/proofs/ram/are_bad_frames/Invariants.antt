@@ -1,7 +1,7 @@
 use Rattle.std.proofs.Common.{◌≡◌, ◌++◌, drop, take}
-use Rattle.tpl_ast.specs.Parsing.{are_bad_frames}
-use Rattle.tpl_fault.specs.Frames.{others_after}
-use Rattle.tpl_state.specs.State.{known}
+use Rattle.tpl_lang.specs.Faults.{are_bad_frames}
+use Rattle.tpl_fault.specs.Internal.Frames.{others_after}
+use Rattle.tpl_state.specs.Internal.State.{known}
 use Rattle.tpl_fault.proofs.ram.are_bad_frames.Given as goal
 
 abbrev pub invariant-loop-i : goal.invariant-loop-i

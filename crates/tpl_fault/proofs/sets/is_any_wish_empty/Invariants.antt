@@ -1,9 +1,8 @@
 use Rattle.std.proofs.Common.{◌≡◌, drop, false}
 use Rattle.std.specs.List.{list_any}
-use Rattle.tpl_ast.specs.Judging.{is_wish_above}
-use Rattle.tpl_ast.specs.Parsing.{is_atom_empty}
-use Rattle.tpl_token.specs.Phrases.{wishes_view}
-use Rattle.tpl_state.specs.State.{known}
+use Rattle.tpl_lang.specs.Faults.{is_wish_above, is_atom_empty}
+use Rattle.tpl_token.specs.Internal.Phrases.{wishes_view}
+use Rattle.tpl_state.specs.Internal.State.{known}
 use Rattle.tpl_fault.proofs.sets.is_any_wish_empty.Given as goal
 
 abbrev pub invariant-loop-wish : goal.invariant-loop-wish

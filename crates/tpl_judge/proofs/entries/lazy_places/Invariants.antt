@@ -1,5 +1,5 @@
 use Rattle.std.proofs.Common.{◌≡◌, ◌++◌, drop}
-use Rattle.tpl_ast.specs.Parsing.{lazy_places}
+use Rattle.tpl_lang.specs.Statements.{lazy_places}
 use Rattle.tpl_judge.proofs.entries.lazy_places.Given as goal
 
 abbrev pub invariant-loop-entry : goal.invariant-loop-entry

@@ -1,6 +1,6 @@
 use Rattle.std.proofs.Common.{◌≡◌, length}
-use Rattle.tpl_ast.specs.Judging.{has_twice}
-use Rattle.tpl_token.specs.Phrases.{words_view}
+use Rattle.tpl_lang.specs.Faults.{has_twice}
+use Rattle.tpl_token.specs.Internal.Phrases.{words_view}
 use Rattle.tpl_judge.proofs.judge.has_twice.Given as goal
 
 abbrev pub invariant-loop-rest : goal.invariant-loop-rest

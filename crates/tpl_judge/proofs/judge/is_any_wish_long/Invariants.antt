@@ -1,7 +1,7 @@
 use Rattle.std.proofs.Common.{◌≡◌, drop}
 use Rattle.std.specs.List.{list_any}
-use Rattle.tpl_ast.specs.Judging.{is_wish_long}
-use Rattle.tpl_token.specs.Phrases.{wishes_view}
+use Rattle.tpl_lang.specs.Faults.{is_wish_long}
+use Rattle.tpl_token.specs.Internal.Phrases.{wishes_view}
 use Rattle.tpl_judge.proofs.judge.is_any_wish_long.Given as goal
 
 abbrev pub invariant-loop-wish : goal.invariant-loop-wish

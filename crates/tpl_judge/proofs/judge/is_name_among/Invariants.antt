@@ -1,6 +1,6 @@
 use Rattle.std.proofs.Common.{◌≡◌, drop}
-use Rattle.tpl_ast.specs.Judging.{is_name_among}
-use Rattle.tpl_token.specs.Phrases.{words_view}
+use Rattle.tpl_lang.specs.Faults.{is_name_among}
+use Rattle.tpl_token.specs.Internal.Phrases.{words_view}
 use Rattle.tpl_judge.proofs.judge.is_name_among.Given as goal
 
 abbrev pub invariant-loop-other : goal.invariant-loop-other

@@ -1,6 +1,6 @@
 use Rattle.std.proofs.Common.{◌≡◌, ◌++◌, drop}
-use Rattle.tpl_ast.specs.Judging.{names_in}
-use Rattle.tpl_token.specs.Phrases.{wishes_view, words_view}
+use Rattle.tpl_lang.specs.Faults.{names_in}
+use Rattle.tpl_token.specs.Internal.Phrases.{wishes_view, words_view}
 use Rattle.tpl_judge.proofs.judge.names_in.Given as goal
 
 abbrev pub invariant-loop-wish : goal.invariant-loop-wish

@@ -1,7 +1,7 @@
 use Rattle.std.proofs.Common.{◌≡◌, drop}
 use Rattle.std.specs.List.{list_any}
-use Rattle.tpl_ast.specs.Parsing.{is_word_unknown}
-use Rattle.tpl_token.specs.Phrases.{words_view}
+use Rattle.tpl_lang.specs.Faults.{is_word_unknown}
+use Rattle.tpl_token.specs.Internal.Phrases.{words_view}
 use Rattle.tpl_judge.proofs.names.is_any_word_unknown.Given as goal
 
 abbrev pub invariant-loop-word : goal.invariant-loop-word

@@ -1,5 +1,5 @@
 use Rattle.std.proofs.Common.{◌≡◌, ◌+◌, ◌-◌, ◌^◌, ◌<◌, min, drop}
-use Rattle.tpl_ast.specs.Parsing.{size_of}
+use Rattle.tpl_ast.specs.Templates.{size_of}
 use Rattle.tpl_judge.proofs.ram.size_of.Given as goal
 
 abbrev pub invariant-loop-region : goal.invariant-loop-region

@@ -1,5 +1,5 @@
 use Rattle.std.proofs.Common.{◌≡◌, ◌++◌, drop, map}
-use Rattle.tpl_ast.specs.Sets.{points, outcome_number}
+use Rattle.tpl_lang.specs.Sets.{points, outcome_number}
 use Rattle.tpl_judge.proofs.sets.causes.Given as goal
 
 abbrev pub invariant-loop-outcome : goal.invariant-loop-outcome

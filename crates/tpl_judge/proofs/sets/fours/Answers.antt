@@ -1,7 +1,7 @@
 use Rattle.std.proofs.Common.{◌≡◌, ◌∙◌, ap, List, ℕ, filter}
 use Rattle.std.proofs.lemmas.Result.{IfOk-weaker}
 use Rattle.dom_set.specs.Elements.{is_in}
-use Rattle.tpl_ast.specs.Sets.{fours}
+use Rattle.tpl_lang.specs.Sets.{fours}
 use Rattle.tpl_judge.proofs.Multiples.{power_four, fours_are}
 use Rattle.tpl_judge.proofs.sets.fours.Goals as goal
 

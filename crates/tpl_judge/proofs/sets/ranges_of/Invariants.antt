@@ -1,5 +1,5 @@
 use Rattle.std.proofs.Common.{◌≡◌, ◌++◌, drop}
-use Rattle.tpl_ast.specs.Sets.{ranges_of}
+use Rattle.tpl_lang.specs.Sets.{ranges_of}
 use Rattle.tpl_judge.proofs.sets.ranges_of.Given as goal
 
 abbrev pub invariant-loop-element : goal.invariant-loop-element

@@ -1,7 +1,7 @@
 use Rattle.std.proofs.Common.{◌≡◌, ◌∙◌, ap, List, ℕ, sym}
 use Rattle.std.proofs.lemmas.Result.{IfOk-weaker}
-use Rattle.tpl_ast.specs.Parsing.{vectors_of}
-use Rattle.tpl_ast.specs.Sets.{listed}
+use Rattle.tpl_lang.specs.Parsing.{vectors_of}
+use Rattle.tpl_lang.specs.Sets.{listed}
 use Rattle.tpl_judge.proofs.Multiples.{power_four, vectors_are}
 use Rattle.tpl_judge.proofs.sets.vectors_of.Goals as goal
 

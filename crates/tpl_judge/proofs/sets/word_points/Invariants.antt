@@ -1,6 +1,6 @@
 use Rattle.std.proofs.Common.{◌≡◌, ◌++◌, drop, map}
-use Rattle.tpl_ast.specs.Sets.{points, word_number}
-use Rattle.tpl_token.specs.Phrases.{words_view}
+use Rattle.tpl_lang.specs.Sets.{points, word_number}
+use Rattle.tpl_token.specs.Internal.Phrases.{words_view}
 use Rattle.tpl_judge.proofs.sets.word_points.Given as goal
 
 abbrev pub invariant-loop-word : goal.invariant-loop-word

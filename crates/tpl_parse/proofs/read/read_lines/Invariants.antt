@@ -1,12 +1,13 @@
 use Rattle.std.proofs.Common.{◌≡◌, ◌≤◌, ◌+◌, length}
-use Rattle.tpl_ast.specs.Lines.{lines}
-use Rattle.tpl_ast.specs.Parsing.{nothing, run}
-use Rattle.tpl_state.specs.State.{known}
+use Rattle.tpl_lang.specs.Lines.{lines}
+use Rattle.tpl_lang.specs.Known.{nothing}
+use Rattle.tpl_lang.specs.Parsing.{lines_parsed}
+use Rattle.tpl_state.specs.Internal.State.{known}
 use Rattle.tpl_parse.proofs.read.read_lines.Given as goal
 
 abbrev pub invariant-loop-state : goal.invariant-loop-state
 invariant-loop-state l = record {
-  read : run (known l.state) l.line (lines l.rest) ≡ run nothing 1 (lines l.text);
+  read : lines_parsed (known l.state) l.line (lines l.rest) ≡ lines_parsed nothing 1 (lines l.text);
   room : l.line + length l.rest ≤ 65537;
 }
 

@@ -1,7 +1,7 @@
 use Rattle.std.proofs.Common.{◌≡◌, drop}
 use Rattle.std.specs.List.{list_any}
-use Rattle.tpl_ast.specs.Parsing.{is_repeat}
-use Rattle.tpl_state.specs.Growing.{open_of}
+use Rattle.tpl_lang.specs.Faults.{is_repeat}
+use Rattle.tpl_state.specs.Internal.Growing.{open_of}
 use Rattle.tpl_state.proofs.body.is_any_repeat.Given as goal
 
 abbrev pub invariant-loop-one : goal.invariant-loop-one

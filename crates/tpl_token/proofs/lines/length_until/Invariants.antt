@@ -1,5 +1,5 @@
 use Rattle.std.proofs.Common.{◌≡◌, ◌≤◌, ◌+◌, ◌-◌, drop, length}
-use Rattle.tpl_ast.specs.Lines.{length_until}
+use Rattle.tpl_lang.specs.Lines.{length_until}
 use Rattle.tpl_token.proofs.lines.length_until.Given as goal
 
 abbrev pub invariant-loop-n : goal.invariant-loop-n

@@ -1,5 +1,5 @@
 use Rattle.std.proofs.Common.{◌+◌, ◌*◌, ◌^◌, ◌≤◌, sym, ◌∙◌, ap, arith, drop-cons, drop, get_or, suc}
-use Rattle.tpl_ast.specs.Numbers.{digit_of, value_of}
+use Rattle.tpl_lang.specs.Numbers.{digit_of, value_of}
 use Rattle.tpl_token.proofs.Digits.{too_large, too_large_before}
 use Rattle.tpl_token.proofs.number.whole.Goals as goal
 

@@ -1,5 +1,5 @@
 use Rattle.std.proofs.Common.{◌≡◌, ◌<◌, ◌^◌, drop}
-use Rattle.tpl_ast.specs.Numbers.{value_of}
+use Rattle.tpl_lang.specs.Numbers.{value_of}
 use Rattle.tpl_token.proofs.number.whole.Given as goal
 
 abbrev pub invariant-loop-d : goal.invariant-loop-d

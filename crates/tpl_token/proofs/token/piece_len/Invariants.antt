@@ -1,5 +1,5 @@
 use Rattle.std.proofs.Common.{◌≡◌, ◌+◌, ◌-◌, ◌<◌, ◌≤◌, drop, get_or, length}
-use Rattle.tpl_token.specs.Pieces.{joined, piece_len}
+use Rattle.tpl_token.specs.Internal.Pieces.{joined, piece_len}
 use Rattle.tpl_token.proofs.token.piece_len.Given as goal
 
 abbrev pub invariant-loop-n : goal.invariant-loop-n

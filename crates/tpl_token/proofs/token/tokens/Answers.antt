@@ -1,8 +1,8 @@
 use Rattle.std.proofs.Common.{◌++◌, ◌<◌, List, sym, ◌∙◌, ap, arith, length}
 use Rattle.std.specs.Prelude.{option_map}
 use Rattle.std.proofs.lemmas.List.{map_push}
-use Rattle.tpl_ast.specs.Tokens.{Token, pieces, tokens_of}
-use Rattle.tpl_token.specs.Views.{view, views}
+use Rattle.tpl_lang.specs.Tokens.{Token, pieces, tokens_of}
+use Rattle.tpl_token.specs.Internal.Views.{view, views}
 use Rattle.tpl_token.proofs.Pieces.{among_split, behind, past_blank, past_token, at_no_token}
 use Rattle.tpl_token.proofs.token.tokens.Goals as goal
 

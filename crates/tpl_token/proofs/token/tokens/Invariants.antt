@@ -1,7 +1,7 @@
 use Rattle.std.proofs.Common.{◌≡◌, ◌++◌, List, length}
 use Rattle.std.specs.Prelude.{option_map}
-use Rattle.tpl_ast.specs.Tokens.{Token, tokens_among, pieces}
-use Rattle.tpl_token.specs.Views.{views}
+use Rattle.tpl_lang.specs.Tokens.{Token, tokens_among, pieces}
+use Rattle.tpl_token.specs.Internal.Views.{views}
 use Rattle.tpl_token.proofs.token.tokens.Given as goal
 
 abbrev pub invariant-loop-rest : goal.invariant-loop-rest

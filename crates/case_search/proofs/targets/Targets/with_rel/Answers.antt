@@ -2,7 +2,7 @@ use Rattle.std.proofs.Common.{◌≡◌, ◌++◌, ◌∷◌, [], ap, ◌∙◌}
 use Rattle.std.specs.List.{list_all}
 use Rattle.fd_prob.specs.declared.relation.Rel.{Rel}
 use Rattle.fd_prob.specs.Relations.{holds}
-use Rattle.case_search.specs.Stronger.{is_at_target}
+use Rattle.case_search.specs.Internal.Stronger.{is_at_target}
 use Rattle.case_search.proofs.JoinedTargets.{all_with, with_beside}
 use Rattle.case_search.proofs.targets.Targets.with_rel.Goals as goal
 

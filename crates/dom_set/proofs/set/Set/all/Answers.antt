@@ -1,6 +1,6 @@
 use Rattle.std.proofs.Common.{◌∙◌, true}
 use Rattle.dom_set.proofs.Sets.{elements_same, in_all}
-use Rattle.set_pieces.specs.Pieces.{holds}
+use Rattle.set_pieces.specs.Internal.Pieces.{holds}
 use Rattle.dom_set.proofs.set.Set.all.Goals as goal
 
 pub returns : goal.returns

@@ -1,4 +1,4 @@
-use Rattle.set_pieces.specs.Pieces.{holds}
+use Rattle.set_pieces.specs.Internal.Pieces.{holds}
 use Rattle.dom_set.proofs.Sets.{ascending, words}
 use Rattle.dom_set.proofs.set.Set.element_laws.Goals as goal
 

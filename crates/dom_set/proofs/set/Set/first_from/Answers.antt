@@ -1,7 +1,7 @@
 use Rattle.std.proofs.Common.{◌≡◌, List, Some, subst, sym, ap, ◌∙◌}
 use Rattle.set_pieces.specs.declared.piece.Piece.{Piece}
 use Rattle.dom_set.specs.Elements.{first_cyclic}
-use Rattle.set_pieces.specs.Pieces.{holds}
+use Rattle.set_pieces.specs.Internal.Pieces.{holds}
 use Rattle.set_pieces.specs.Ends.{IsFirstFrom}
 use Rattle.dom_set.proofs.Sets.{cyclic_here, cyclic_round, cyclic_none}
 use Rattle.dom_set.proofs.set.Set.first_from.Goals as goal

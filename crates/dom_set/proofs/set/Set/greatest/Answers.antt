@@ -1,6 +1,6 @@
 use Rattle.std.proofs.Common.{List, subst, sym}
 use Rattle.set_pieces.specs.declared.piece.Piece.{Piece}
-use Rattle.set_pieces.specs.Pieces.{holds}
+use Rattle.set_pieces.specs.Internal.Pieces.{holds}
 use Rattle.set_pieces.specs.Ends.{IsLast}
 use Rattle.dom_set.proofs.Lasts.{last_of_all, last_or_none}
 use Rattle.dom_set.proofs.set.Set.greatest.Goals as goal

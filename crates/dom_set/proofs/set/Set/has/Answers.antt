@@ -1,6 +1,6 @@
 use Rattle.std.proofs.Common.{sym}
 use Rattle.dom_set.proofs.Sets.{has_is, is_in-elements}
-use Rattle.set_pieces.specs.Pieces.{holds}
+use Rattle.set_pieces.specs.Internal.Pieces.{holds}
 use Rattle.dom_set.proofs.set.Set.has.Goals as goal
 
 pub returns-clause-element : goal.returns-clause-element

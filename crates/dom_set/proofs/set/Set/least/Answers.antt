@@ -1,6 +1,6 @@
 use Rattle.std.proofs.Common.{List, subst, sym}
 use Rattle.set_pieces.specs.declared.piece.Piece.{Piece}
-use Rattle.set_pieces.specs.Pieces.{holds}
+use Rattle.set_pieces.specs.Internal.Pieces.{holds}
 use Rattle.set_pieces.specs.Ends.{IsFirstFrom}
 use Rattle.dom_set.proofs.Sets.{first_of_all}
 use Rattle.dom_set.proofs.set.Set.least.Goals as goal

@@ -1,6 +1,6 @@
 use Rattle.std.proofs.Common.{◌≡◌, ◌≢◌, ℕ, List, [], ◌∷◌, length, Option, MatchOption, Some, sym, ap, ◌∙◌, subst}
 use Rattle.set_pieces.specs.declared.piece.Piece.{Piece}
-use Rattle.set_pieces.specs.Pieces.{holds}
+use Rattle.set_pieces.specs.Internal.Pieces.{holds}
 use Rattle.set_pieces.specs.Ends.{IsFirstFrom, IsLast}
 use Rattle.dom_set.proofs.Lasts.{none_first, not_only, only_is}
 use Rattle.dom_set.proofs.set.Set.only.Goals as goal

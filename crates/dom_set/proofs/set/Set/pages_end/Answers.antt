@@ -1,6 +1,6 @@
 use Rattle.std.proofs.Common.{List, subst}
 use Rattle.set_pieces.specs.declared.piece.Piece.{Piece}
-use Rattle.set_pieces.specs.Pieces.{holds}
+use Rattle.set_pieces.specs.Internal.Pieces.{holds}
 use Rattle.set_pieces.specs.Ends.{HasPage}
 use Rattle.dom_set.proofs.Sets.{page_in}
 use Rattle.dom_set.proofs.set.Set.pages_end.Goals as goal

@@ -1,5 +1,5 @@
 use Rattle.std.proofs.Common.{◌^◌}
-use Rattle.set_pieces.specs.Pieces.{holds}
+use Rattle.set_pieces.specs.Internal.Pieces.{holds}
 use Rattle.set_pieces.proofs.Times.{total_fits}
 use Rattle.dom_set.proofs.Sets.{size_is, ascending, words}
 use Rattle.dom_set.proofs.set.Set.size.Goals as goal

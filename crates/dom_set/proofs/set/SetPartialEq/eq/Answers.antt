@@ -2,7 +2,7 @@ use Rattle.std.proofs.Common.{◌≡◌, ◌↔◌, List, IsTrue, sym, ap, ◌�
 use Rattle.std.proofs.lemmas.Bool.Decides.{same_from_decides}
 use Rattle.std.proofs.lemmas.Slice.Eq.{bytes_eq-Decides}
 use Rattle.set_pieces.specs.declared.piece.Piece.{Piece}
-use Rattle.set_pieces.specs.Pieces.{times}
+use Rattle.set_pieces.specs.Internal.Pieces.{times}
 use Rattle.dom_set.proofs.Sameness.{same_elements, same_times}
 use Rattle.dom_set.proofs.set.SetPartialEq.eq.Goals as goal
 

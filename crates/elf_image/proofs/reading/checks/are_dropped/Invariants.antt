@@ -1,5 +1,5 @@
 use Rattle.std.proofs.Common.{◌≡◌, drop}
-use Rattle.elf_image.specs.Checks.{are_dropped}
+use Rattle.elf_image.specs.Internal.Checks.{are_dropped}
 use Rattle.elf_image.proofs.reading.checks.are_dropped.Given as goal
 
 abbrev pub invariant-loop-one : goal.invariant-loop-one

@@ -1,5 +1,5 @@
 use Rattle.std.proofs.Common.{◌≡◌, drop}
-use Rattle.elf_image.specs.Checks.{are_values}
+use Rattle.elf_image.specs.Internal.Checks.{are_values}
 use Rattle.elf_image.proofs.reading.checks.are_values.Given as goal
 
 abbrev pub invariant-loop-name : goal.invariant-loop-name

@@ -1,8 +1,8 @@
 use Rattle.std.proofs.Common.{◌≡◌, ◌+◌, ◌*◌, ◌-◌, ◌++◌, ◌∷◌, [], ℕ, ap, ◌∙◌, sym, arith}
 use Rattle.std.proofs.lemmas.Result.{err_from_is_err_and}
-use Rattle.byte_format.specs.Readers.{chain_at, with_front}
+use Rattle.byte_format.specs.Internal.Readers.{chain_at, with_front}
 use Rattle.byte_format.proofs.Loop.{chain_goes_on, chain_ends, chain_is_done}
-use Rattle.elf_image.specs.PartReaders.{next_address, placed_at}
+use Rattle.elf_image.specs.Internal.PartReaders.{next_address, placed_at}
 use Rattle.elf_image.proofs.reading.loads.run_words.Goals as goal
 
 pub returns-in_err-word : goal.returns-in_err-word

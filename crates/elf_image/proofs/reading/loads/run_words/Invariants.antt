@@ -1,6 +1,6 @@
 use Rattle.std.proofs.Common.{◌≡◌, ◌-◌, ◌+◌, ◌*◌}
-use Rattle.byte_format.specs.Readers.{chain_at, with_front}
-use Rattle.elf_image.specs.PartReaders.{next_address, placed_at}
+use Rattle.byte_format.specs.Internal.Readers.{chain_at, with_front}
+use Rattle.elf_image.specs.Internal.PartReaders.{next_address, placed_at}
 use Rattle.elf_image.proofs.reading.loads.run_words.Given as goal
 
 abbrev pub invariant-loop-i : goal.invariant-loop-i

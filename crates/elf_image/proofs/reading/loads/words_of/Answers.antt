@@ -1,5 +1,5 @@
 use Rattle.std.proofs.lemmas.Result.{err_from_is_err_and}
-use Rattle.elf_image.specs.PartReaders.{words_at}
+use Rattle.elf_image.specs.Internal.PartReaders.{words_at}
 use Rattle.elf_image.proofs.LoadLoops.{run_end, run_goes_on, run_ends, all_done}
 use Rattle.elf_image.proofs.reading.loads.words_of.Goals as goal
 

@@ -1,6 +1,6 @@
 use Rattle.std.proofs.Common.{◌≡◌, drop}
-use Rattle.byte_format.specs.Readers.{with_front}
-use Rattle.elf_image.specs.PartReaders.{words_at}
+use Rattle.byte_format.specs.Internal.Readers.{with_front}
+use Rattle.elf_image.specs.Internal.PartReaders.{words_at}
 use Rattle.elf_image.proofs.reading.loads.words_of.Given as goal
 
 abbrev pub invariant-loop-run : goal.invariant-loop-run

@@ -1,6 +1,6 @@
 use Rattle.std.proofs.Common.{ℕ, List, IsTrue, sym, subst}
 use Rattle.fd_prob.specs.Relations.{holds}
-use Rattle.fd_narrow.specs.Steps.{Leaves}
+use Rattle.fd_narrow.specs.Internal.Steps.{Leaves}
 use Rattle.fd_narrow.proofs.domains.Domains.ask.Goals as goal
 
 pub returns : goal.returns

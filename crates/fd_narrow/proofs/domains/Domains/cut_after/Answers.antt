@@ -1,8 +1,9 @@
 use Rattle.std.proofs.Common.{ℕ, ◌-◌, ◌^◌, true, Option, subst, arith}
 use Rattle.std.specs.Prelude.{IfSome}
 use Rattle.fd_narrow.specs.Narrowing.{domain_in}
-use Rattle.fd_narrow.specs.Orders.{HasEnds, IsOrdered, IsRanked}
-use Rattle.fd_narrow.specs.Steps.{Leaves}
+use Rattle.fd_narrow.specs.Internal.Orders.{IsOrdered, IsRanked}
+use Rattle.word_sets.specs.Internal.Orders.{HasEnds}
+use Rattle.fd_narrow.specs.Internal.Steps.{Leaves}
 use Rattle.fd_narrow.proofs.Ranks.{after_cut}
 use Rattle.fd_narrow.proofs.Outcomes.{on_ok}
 use Rattle.fd_narrow.proofs.domains.Domains.cut_after.Goals as goal

@@ -1,5 +1,5 @@
-use Rattle.fd_narrow.specs.Steps.{IsValueIn, Leaves}
-use Rattle.fd_narrow.specs.Writes.{IsLegalFrom}
+use Rattle.fd_narrow.specs.Internal.Steps.{IsValueIn, Leaves}
+use Rattle.fd_narrow.specs.Internal.Writes.{IsLegalFrom}
 use Rattle.fd_narrow.proofs.Operands.{sources_narrow}
 use Rattle.fd_narrow.proofs.Outcomes.{on_ok}
 use Rattle.fd_narrow.proofs.domains.Domains.cut_sources.Goals as goal

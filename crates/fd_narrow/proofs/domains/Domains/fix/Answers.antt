@@ -1,6 +1,6 @@
 use Rattle.std.proofs.Common.{◌≡◌}
 use Rattle.fd_prob.specs.Relations.{value_of}
-use Rattle.fd_narrow.specs.Steps.{IsValueIn, Leaves}
+use Rattle.fd_narrow.specs.Internal.Steps.{IsValueIn, Leaves}
 use Rattle.fd_narrow.proofs.Entries.{one_narrows}
 use Rattle.fd_narrow.proofs.Outcomes.{on_ok}
 use Rattle.fd_narrow.proofs.domains.Domains.fix.Goals as goal

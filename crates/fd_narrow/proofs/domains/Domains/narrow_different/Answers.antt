@@ -1,6 +1,6 @@
 use Rattle.std.proofs.Common.{IsTrue, not}
 use Rattle.fd_prob.specs.Relations.{is_same}
-use Rattle.fd_narrow.specs.Steps.{Leaves}
+use Rattle.fd_narrow.specs.Internal.Steps.{Leaves}
 use Rattle.fd_narrow.proofs.Compositions.{followed}
 use Rattle.fd_narrow.proofs.Sameness.{different_turned}
 use Rattle.fd_narrow.proofs.Outcomes.{on_ok}

@@ -1,6 +1,6 @@
 use Rattle.std.proofs.Common.{IsTrue}
 use Rattle.fd_prob.specs.Relations.{is_sum}
-use Rattle.fd_narrow.specs.Steps.{IsValueIn, Leaves}
+use Rattle.fd_narrow.specs.Internal.Steps.{IsValueIn, Leaves}
 use Rattle.fd_narrow.proofs.Totals.{doubled_narrows}
 use Rattle.fd_narrow.proofs.Outcomes.{on_ok}
 use Rattle.fd_narrow.proofs.domains.Domains.narrow_doubled.Goals as goal

@@ -2,7 +2,7 @@ use Rattle.std.proofs.Common.{◌+◌, ◌-◌, ◌%◌, ◌^◌, IsTrue}
 use Rattle.dom_set.specs.Elements.{is_in}
 use Rattle.fd_prob.specs.declared.slot.Slot.TheVariants as slots
 use Rattle.fd_prob.specs.Relations.{value_of}
-use Rattle.fd_narrow.specs.Steps.{Leaves}
+use Rattle.fd_narrow.specs.Internal.Steps.{Leaves}
 use Rattle.fd_narrow.proofs.Jumps.{indirect_narrows}
 use Rattle.fd_narrow.proofs.Outcomes.{on_ok}
 use Rattle.fd_narrow.proofs.domains.Domains.narrow_indirect.Goals as goal

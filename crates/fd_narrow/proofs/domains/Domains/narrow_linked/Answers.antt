@@ -1,7 +1,7 @@
 use Rattle.std.proofs.Common.{IsTrue, not, length, ap}
 use Rattle.fd_prob.specs.Relations.{is_linked, is_same}
 use Rattle.fd_prob.specs.declared.slot.Slot.TheVariants as slots
-use Rattle.fd_narrow.specs.Steps.{Leaves}
+use Rattle.fd_narrow.specs.Internal.Steps.{Leaves}
 use Rattle.fd_narrow.proofs.Sameness.{linked_apart}
 use Rattle.fd_narrow.proofs.Outcomes.{on_ok}
 use Rattle.fd_narrow.proofs.domains.Domains.narrow_linked.Goals as goal

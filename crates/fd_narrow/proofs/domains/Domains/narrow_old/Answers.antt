@@ -1,7 +1,7 @@
 use Rattle.std.proofs.Common.{false}
 use Rattle.fd_prob.specs.declared.slot.Slot.TheVariants as slots
-use Rattle.fd_narrow.specs.Steps.{Leaves}
-use Rattle.fd_narrow.specs.Writes.{IsLegalFrom, IsLegalOperand}
+use Rattle.fd_narrow.specs.Internal.Steps.{Leaves}
+use Rattle.fd_narrow.specs.Internal.Writes.{IsLegalFrom, IsLegalOperand}
 use Rattle.fd_narrow.proofs.Operands.{old_narrows}
 use Rattle.fd_narrow.proofs.Outcomes.{on_ok}
 use Rattle.fd_narrow.proofs.domains.Domains.narrow_old.Goals as goal

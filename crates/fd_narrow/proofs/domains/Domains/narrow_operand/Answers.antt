@@ -1,5 +1,5 @@
-use Rattle.fd_narrow.specs.Steps.{Leaves}
-use Rattle.fd_narrow.specs.Writes.{IsLegalOperand}
+use Rattle.fd_narrow.specs.Internal.Steps.{Leaves}
+use Rattle.fd_narrow.specs.Internal.Writes.{IsLegalOperand}
 use Rattle.fd_narrow.proofs.Compositions.{followed}
 use Rattle.fd_narrow.proofs.Operands.{operand_narrows}
 use Rattle.fd_narrow.proofs.Outcomes.{on_ok}

@@ -1,6 +1,6 @@
 use Rattle.std.proofs.Common.{IsTrue}
 use Rattle.fd_prob.specs.Relations.{is_held}
-use Rattle.fd_narrow.specs.Steps.{IsValueOutside, Leaves}
+use Rattle.fd_narrow.specs.Internal.Steps.{IsValueOutside, Leaves}
 use Rattle.fd_narrow.proofs.Entries.{own_narrows}
 use Rattle.fd_narrow.proofs.Outcomes.{on_ok}
 use Rattle.fd_narrow.proofs.domains.Domains.narrow_own.Goals as goal

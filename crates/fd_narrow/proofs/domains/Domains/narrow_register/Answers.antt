@@ -1,8 +1,8 @@
 use Rattle.std.proofs.Common.{false, IsTrue}
 use Rattle.fd_prob.specs.declared.slot.Slot.TheVariants as slots
 use Rattle.fd_prob.specs.Relations.{is_none_or_legal}
-use Rattle.fd_narrow.specs.Steps.{Leaves}
-use Rattle.fd_narrow.specs.Writes.{IsLegalOperand, by_register}
+use Rattle.fd_narrow.specs.Internal.Steps.{Leaves}
+use Rattle.fd_narrow.specs.Internal.Writes.{IsLegalOperand, by_register}
 use Rattle.fd_narrow.proofs.Operands.{register_narrows}
 use Rattle.fd_narrow.proofs.Outcomes.{on_ok}
 use Rattle.fd_narrow.proofs.domains.Domains.narrow_register.Goals as goal

@@ -1,7 +1,7 @@
 use Rattle.std.proofs.Common.{IsTrue}
 use Rattle.std.specs.List.{list_any}
 use Rattle.fd_prob.specs.Relations.{is_in_row}
-use Rattle.fd_narrow.specs.Steps.{Leaves}
+use Rattle.fd_narrow.specs.Internal.Steps.{Leaves}
 use Rattle.fd_narrow.proofs.domains.Domains.narrow_rows.Given as goal
 
 abbrev pub invariant-loop-part : goal.invariant-loop-part

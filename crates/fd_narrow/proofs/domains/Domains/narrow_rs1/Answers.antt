@@ -1,8 +1,8 @@
 use Rattle.std.proofs.Common.{◌≡◌, IsTrue, length, arith}
 use Rattle.fd_prob.specs.declared.slot.Slot.TheVariants as slots
 use Rattle.fd_prob.specs.Relations.{is_none_or_legal}
-use Rattle.fd_narrow.specs.Steps.{IsValueIn, Leaves}
-use Rattle.fd_narrow.specs.Writes.{by_register}
+use Rattle.fd_narrow.specs.Internal.Steps.{IsValueIn, Leaves}
+use Rattle.fd_narrow.specs.Internal.Writes.{by_register}
 use Rattle.fd_narrow.proofs.Operands.{rs1_narrows}
 use Rattle.fd_narrow.proofs.Outcomes.{on_ok}
 use Rattle.fd_narrow.proofs.domains.Domains.narrow_rs1.Goals as goal

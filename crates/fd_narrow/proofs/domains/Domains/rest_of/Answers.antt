@@ -1,4 +1,4 @@
-use Rattle.fd_narrow.specs.Parts.{part_of}
+use Rattle.fd_narrow.specs.Internal.Parts.{part_of}
 use Rattle.fd_narrow.proofs.RowParts.{missed_more}
 use Rattle.fd_narrow.proofs.domains.Domains.rest_of.Goals as goal
 

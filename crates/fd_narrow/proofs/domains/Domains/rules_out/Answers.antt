@@ -2,7 +2,7 @@ use Rattle.std.proofs.Common.{Bool, IsTrue, sym, ◌∙◌, subst}
 use Rattle.fd_prob.specs.declared.relation.Rel.{Rel}
 use Rattle.fd_prob.specs.Relations.{holds, is_same}
 use Rattle.fd_narrow.specs.declared.standings.Standing.{Standing}
-use Rattle.fd_narrow.specs.Standings.{Stands}
+use Rattle.fd_narrow.specs.Internal.Standings.{Stands}
 use Rattle.fd_narrow.proofs.Comparing.{differing_stand, same_stand}
 use Rattle.fd_narrow.proofs.domains.Domains.rules_out.Goals as goal
 

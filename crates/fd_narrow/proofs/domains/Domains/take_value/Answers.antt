@@ -1,4 +1,4 @@
-use Rattle.fd_narrow.specs.Steps.{IsAnother, IsValueOutside, Leaves}
+use Rattle.fd_narrow.specs.Internal.Steps.{IsAnother, IsValueOutside, Leaves}
 use Rattle.fd_narrow.proofs.Sameness.{value_taken}
 use Rattle.fd_narrow.proofs.Outcomes.{on_ok}
 use Rattle.fd_narrow.proofs.domains.Domains.take_value.Goals as goal

@@ -3,7 +3,7 @@ use Rattle.fd_prob.specs.declared.problem.Assignment.{Assignment}
 use Rattle.fd_prob.specs.declared.slot.Slot.TheVariants as slots
 use Rattle.fd_prob.specs.Relations.{value_of}
 use Rattle.fd_narrow.specs.Narrowing.{IsInside}
-use Rattle.fd_narrow.specs.Writes.{by_register, written}
+use Rattle.fd_narrow.specs.Internal.Writes.{by_register, written}
 use Rattle.fd_narrow.proofs.Outcomes.{if_some}
 use Rattle.fd_narrow.proofs.domains.Domains.word_by_register.Goals as goal
 

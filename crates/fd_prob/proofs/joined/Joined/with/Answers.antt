@@ -4,7 +4,7 @@ use Rattle.std.proofs.lemmas.List.Folds.{list_all-append}
 use Rattle.rv_isa.specs.declared.operation.Op.{Op}
 use Rattle.fd_prob.specs.declared.problem.Assignment.{Assignment}
 use Rattle.fd_prob.specs.declared.relation.Rel.{Rel}
-use Rattle.fd_prob.specs.Joined.{all_hold}
+use Rattle.fd_prob.specs.Internal.Joined.{all_hold}
 use Rattle.fd_prob.specs.Joining.{some_row_holds}
 use Rattle.fd_prob.specs.Relations.{holds}
 use Rattle.fd_prob.proofs.Joins.{and_true, none_with, with_rel}

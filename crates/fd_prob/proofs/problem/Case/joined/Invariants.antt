@@ -4,7 +4,7 @@ use Rattle.fd_prob.specs.Joining.{is_rows}
 use Rattle.std.specs.List.{list_all}
 use Rattle.rv_isa.specs.declared.operation.Op.{Op}
 use Rattle.fd_prob.specs.declared.problem.Assignment.{Assignment}
-use Rattle.fd_prob.specs.Joined.{all_hold}
+use Rattle.fd_prob.specs.Internal.Joined.{all_hold}
 use Rattle.fd_prob.specs.Relations.{holds}
 use Rattle.fd_prob.proofs.problem.Case.joined.Given as goal
 

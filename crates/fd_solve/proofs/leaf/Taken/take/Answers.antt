@@ -4,9 +4,9 @@ use Rattle.fd_prob.specs.declared.problem.Problem.{Problem}
 use Rattle.fd_solve.specs.declared.known.Known.{Known}
 use Rattle.fd_solve.specs.declared.leaf.Taken.{Taken}
 use Rattle.fd_solve.specs.declared.ready.Ready.{Ready}
-use Rattle.fd_solve.specs.Known.{IsKnown}
-use Rattle.fd_solve.specs.Marks.{with_marked}
-use Rattle.fd_solve.specs.Ready.{IsReady}
+use Rattle.fd_solve.specs.Internal.Known.{IsKnown}
+use Rattle.fd_solve.specs.Internal.Marks.{with_marked}
+use Rattle.fd_solve.specs.Internal.Ready.{IsReady}
 use Rattle.fd_solve.proofs.Asking.{none_dropped}
 use Rattle.fd_solve.proofs.Biases.{none_next, sound_next, taken_dropped, taken_kept, told_dropped, told_kept, within_next}
 use Rattle.fd_solve.proofs.FirstMarks.{ready_next, ready_wider}

@@ -2,9 +2,9 @@ use Rattle.std.proofs.Common.{◌≡◌, ℕ, ◌-◌, Bool, List, Option, None,
 use Rattle.fd_prob.specs.declared.problem.Case.{Case}
 use Rattle.fd_prob.specs.declared.problem.Extra.{Extra}
 use Rattle.fd_prob.specs.declared.problem.Problem.{Problem}
-use Rattle.fd_solve.specs.Equivalent.{StandFor}
+use Rattle.fd_solve.specs.Internal.Equivalent.{StandFor}
 use Rattle.fd_solve.specs.declared.ready.Ready.{Ready}
-use Rattle.fd_solve.specs.Marks.{with_marked}
+use Rattle.fd_solve.specs.Internal.Marks.{with_marked}
 use Rattle.fd_solve.proofs.Equivalence.{all_stand, brought_none, brought_stand, entries_stand, none_cases, some_cases}
 use Rattle.fd_solve.proofs.FirstMarks.{as_it_was, begun, begun_whole, brought, from_on, left_entries}
 use Rattle.fd_solve.proofs.ready.Ready.bring.Goals.{then-not-are_unmarked+in_ok-narrow+in-Some-1, then-not-are_unmarked+in_ok-narrow+in-None-1, else-not-are_unmarked}
@@ -23,7 +23,7 @@ brought-requires-clause-entries c =
 
 -- with the biases that were marked since
 more : (p : Problem) (es : List Extra) (marks : List Bool) (old : Ready) (to : ℕ) (made : Option (List Case)) → Rattle.fd_prob.specs.Fitting.IsProblem p → Rattle.std.proofs.Common.All (λ e. Rattle.std.proofs.Common.length e.cases ≡ Rattle.std.proofs.Common.length p.cases) es
-    → Rattle.std.proofs.Common.◌≤◌ old.from to → StandFor (with_marked (take old.from marks) es p).cases old.narrow → Rattle.fd_solve.specs.Equivalent.AreBrought (take (to - old.from) (drop old.from marks)) (from_on old.from es) old.narrow made
+    → Rattle.std.proofs.Common.◌≤◌ old.from to → StandFor (with_marked (take old.from marks) es p).cases old.narrow → Rattle.fd_solve.specs.Internal.Equivalent.AreBrought (take (to - old.from) (drop old.from marks)) (from_on old.from es) old.narrow made
     → StandFor (with_marked (take to marks) es p).cases made
 more p es marks old to made problem entries le narrow new =
     subst (λ (q : Problem). StandFor q.cases made) (brought p es marks old.from to le)

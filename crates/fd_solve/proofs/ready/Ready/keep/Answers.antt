@@ -1,6 +1,6 @@
 use Rattle.std.proofs.Common.{length, refl, subst}
 use Rattle.fd_prob.specs.declared.problem.Problem.{Problem}
-use Rattle.fd_solve.specs.Equivalent.{StandFor}
+use Rattle.fd_solve.specs.Internal.Equivalent.{StandFor}
 use Rattle.fd_solve.specs.declared.ready.Ready.{Ready}
 use Rattle.fd_solve.proofs.Equivalence.{all_brought}
 use Rattle.fd_solve.proofs.FirstMarks.{all_begun, ready_settled}

@@ -1,6 +1,6 @@
 use Rattle.std.proofs.Common.{length, refl, subst, ◌-◌}
-use Rattle.fd_solve.specs.Equivalent.{StandFor}
-use Rattle.fd_solve.specs.Marks.{begun_of}
+use Rattle.fd_solve.specs.Internal.Equivalent.{StandFor}
+use Rattle.fd_solve.specs.Internal.Marks.{begun_of}
 use Rattle.fd_solve.specs.declared.marked.Marked.{Marked}
 use Rattle.fd_solve.specs.declared.ready.Ready.{Ready}
 use Rattle.fd_solve.proofs.FirstMarks.{ready_settled}

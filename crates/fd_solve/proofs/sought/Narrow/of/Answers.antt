@@ -1,7 +1,7 @@
 use Rattle.std.proofs.Common.{◌+◌, List, ◌++◌, sym, subst, arith, drop}
 use Rattle.fd_prob.specs.declared.problem.Case.{Case}
 use Rattle.fd_prob.specs.Fitting.{IsCase}
-use Rattle.fd_solve.specs.Equivalent.{AreEquivalent}
+use Rattle.fd_solve.specs.Internal.Equivalent.{AreEquivalent}
 use Rattle.fd_solve.proofs.Equivalence.{all_made, itself, one_more}
 use Rattle.fd_solve.proofs.sought.Narrow.of.Goals as goal
 

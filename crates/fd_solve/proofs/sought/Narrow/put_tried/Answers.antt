@@ -1,7 +1,7 @@
 use Rattle.std.proofs.Common.{Some, arith, sym, subst}
 use Rattle.std.proofs.lemmas.List.Elements.{All-pop}
-use Rattle.fd_solve.specs.Marks.{whole_of}
-use Rattle.fd_solve.specs.Equivalent.{AreEquivalent, IsTried}
+use Rattle.fd_solve.specs.Internal.Marks.{whole_of}
+use Rattle.fd_solve.specs.Internal.Equivalent.{AreEquivalent, IsTried}
 use Rattle.fd_solve.proofs.Equivalence.{equivalent_count, put_at}
 use Rattle.fd_solve.proofs.sought.Narrow.put_tried.Goals as goal
 

@@ -1,6 +1,6 @@
 use Rattle.std.proofs.Common.{length}
-use Rattle.fd_solve.specs.Marks.{whole_of}
-use Rattle.fd_solve.specs.Equivalent.{AreEquivalent, AreTried}
+use Rattle.fd_solve.specs.Internal.Marks.{whole_of}
+use Rattle.fd_solve.specs.Internal.Equivalent.{AreEquivalent, AreTried}
 use Rattle.fd_solve.proofs.sought.Narrow.put_tried.Given as goal
 
 abbrev pub invariant-loop-last : goal.invariant-loop-last

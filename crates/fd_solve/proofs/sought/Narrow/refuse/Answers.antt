@@ -1,5 +1,5 @@
 use Rattle.std.proofs.Common.{arith}
-use Rattle.fd_solve.specs.Marks.{begun_of}
+use Rattle.fd_solve.specs.Internal.Marks.{begun_of}
 use Rattle.fd_solve.proofs.Equivalence.{equivalent_count}
 use Rattle.fd_solve.proofs.sought.Narrow.refuse.Goals as goal
 

@@ -1,5 +1,5 @@
-use Rattle.fd_solve.specs.Marks.{begun_of}
-use Rattle.fd_solve.specs.Equivalent.{AreEquivalent}
+use Rattle.fd_solve.specs.Internal.Marks.{begun_of}
+use Rattle.fd_solve.specs.Internal.Equivalent.{AreEquivalent}
 use Rattle.fd_solve.proofs.sought.Narrow.refuse.Given as goal
 
 abbrev pub invariant-loop-place : goal.invariant-loop-place

@@ -2,8 +2,8 @@ use Rattle.std.proofs.Common.{List, Option, ap, arith, ◌∙◌, sym, subst}
 use Rattle.std.specs.Prelude.{IfSome, slice_set}
 use Rattle.fd_prob.specs.declared.problem.Case.{Case}
 use Rattle.fd_prob.specs.Fitting.{IsCase}
-use Rattle.fd_solve.specs.Marks.{begun_of}
-use Rattle.fd_solve.specs.Equivalent.{AreEquivalent, StandsIn}
+use Rattle.fd_solve.specs.Internal.Marks.{begun_of}
+use Rattle.fd_solve.specs.Internal.Equivalent.{AreEquivalent, StandsIn}
 use Rattle.fd_solve.proofs.Asking.{none_asked}
 use Rattle.fd_solve.proofs.Equivalence.{all_whole, equivalent_count, replaced}
 use Rattle.fd_solve.proofs.sought.Narrow.refuse_at.Goals as goal

@@ -1,6 +1,6 @@
 use Rattle.std.proofs.Common.{sym, subst}
 use Rattle.fd_prob.specs.declared.problem.Case.{Case}
-use Rattle.fd_solve.specs.Equivalent.{AreEquivalent, StandsIn}
+use Rattle.fd_solve.specs.Internal.Equivalent.{AreEquivalent, StandsIn}
 use Rattle.fd_solve.proofs.Equivalence.{replaced, stands_in}
 use Rattle.fd_solve.proofs.sought.Narrow.settle_at.Goals as goal
 

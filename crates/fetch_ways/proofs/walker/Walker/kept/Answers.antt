@@ -1,4 +1,4 @@
-use Rattle.fetch_ways.specs.Keeping.{passes}
+use Rattle.fetch_ways.specs.Internal.Keeping.{passes}
 use Rattle.std.specs.Prelude.{filter}
 use Rattle.fetch_ways.proofs.Listed.{filter_more}
 use Rattle.fetch_ways.proofs.walker.Walker.kept.Goals as goal

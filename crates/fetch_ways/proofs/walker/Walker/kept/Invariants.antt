@@ -1,6 +1,6 @@
 use Rattle.std.proofs.Common.{◌≡◌, ℕ, Bool, ◌++◌, drop}
 use Rattle.std.specs.Prelude.{filter}
-use Rattle.fetch_ways.specs.Keeping.{passes}
+use Rattle.fetch_ways.specs.Internal.Keeping.{passes}
 use Rattle.fetch_ways.proofs.walker.Walker.kept.Given as goal
 
 abbrev pub invariant-loop-first : goal.invariant-loop-first

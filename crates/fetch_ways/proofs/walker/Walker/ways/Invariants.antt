@@ -1,5 +1,5 @@
 use Rattle.std.proofs.Common.{◌≡◌, ◌++◌, drop}
-use Rattle.fetch_ways.specs.Keeping.{ways_of}
+use Rattle.fetch_ways.specs.Internal.Keeping.{ways_of}
 use Rattle.fetch_ways.proofs.walker.Walker.ways.Given as goal
 
 abbrev pub invariant-loop-row : goal.invariant-loop-row

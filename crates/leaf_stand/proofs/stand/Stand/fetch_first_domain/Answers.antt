@@ -1,4 +1,4 @@
-use Rattle.leaf_stand.specs.FirstCases.{fetch_first_at}
+use Rattle.leaf_stand.specs.Internal.FirstCases.{fetch_first_at}
 use Rattle.leaf_stand.proofs.Sets.{word_domain}
 use Rattle.leaf_stand.proofs.stand.Stand.fetch_first_domain.Goals as goal
 

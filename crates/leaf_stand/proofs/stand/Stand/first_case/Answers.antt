@@ -1,5 +1,5 @@
 use Rattle.std.proofs.Common.{List, ℕ, sym, subst}
-use Rattle.leaf_stand.specs.FirstCases.{AreFirstDomains}
+use Rattle.leaf_stand.specs.Internal.FirstCases.{AreFirstDomains}
 use Rattle.leaf_stand.proofs.Lists.{no_row}
 use Rattle.leaf_stand.proofs.stand.Stand.first_case.Goals as goal
 

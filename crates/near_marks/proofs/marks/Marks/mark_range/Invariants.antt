@@ -1,5 +1,5 @@
 use Rattle.std.proofs.Common.{◌-◌, ◌<◌, ◌≤◌, ℕ, IsTrue}
-use Rattle.near_marks.specs.Near.{AreStillMarked, is_marked}
+use Rattle.near_marks.specs.Internal.Near.{AreStillMarked, is_marked}
 use Rattle.near_marks.proofs.marks.Marks.mark_range.Given as goal
 
 abbrev pub invariant-loop-number : goal.invariant-loop-number

@@ -1,6 +1,6 @@
 use Rattle.std.proofs.Common.{◌-◌, ◌≤◌}
-use Rattle.near_marks.specs.Near.{AreStillMarked}
-use Rattle.near_marks.specs.Turned.{place_of}
+use Rattle.near_marks.specs.Internal.Near.{AreStillMarked}
+use Rattle.near_marks.specs.Internal.Turned.{place_of}
 use Rattle.near_marks.proofs.Turning.{AreMarkedTo}
 use Rattle.near_marks.proofs.marks.Marks.mark_row.Given as goal
 

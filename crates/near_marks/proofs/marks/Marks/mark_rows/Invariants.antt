@@ -1,5 +1,5 @@
 use Rattle.std.proofs.Common.{◌≡◌, ◌+◌, ◌-◌, ◌%◌, ◌^◌, ◌≤◌}
-use Rattle.near_marks.specs.Near.{AreStillMarked}
+use Rattle.near_marks.specs.Internal.Near.{AreStillMarked}
 use Rattle.near_marks.proofs.Turning.{HaveRowsBelow}
 use Rattle.near_marks.proofs.marks.Marks.mark_rows.Given as goal
 

@@ -4,7 +4,7 @@ use Rattle.part_machine.specs.declared.entry.Entry.{Entry}
 use Rattle.part_machine.specs.Whole.{Whole, bare}
 use Rattle.part_machine.specs.Undo.{whole_of, before, AreWithin}
 use Rattle.part_state.specs.Beginning.{words_given, CanGive}
-use Rattle.part_state.specs.Parts.{now_of, AreTests}
+use Rattle.part_state.specs.Internal.Parts.{now_of, AreTests}
 use Rattle.part_state.proofs.Begins.{can_give, fresh_new}
 use Rattle.part_state.proofs.Kept.{now_test}
 use Rattle.part_state.proofs.logged.Logged.begun.Goals as goal

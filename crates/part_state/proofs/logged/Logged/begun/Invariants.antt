@@ -1,6 +1,6 @@
 use Rattle.std.proofs.Common.{◌≡◌, drop}
 use Rattle.part_state.specs.Beginning.{words_given, CanGive}
-use Rattle.part_state.specs.Parts.{now_of, IsKept}
+use Rattle.part_state.specs.Internal.Parts.{now_of, IsKept}
 use Rattle.part_state.proofs.logged.Logged.begun.Given as goal
 
 abbrev pub invariant-loop-word : goal.invariant-loop-word

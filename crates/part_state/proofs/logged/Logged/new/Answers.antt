@@ -7,7 +7,7 @@ use Rattle.foot_map.specs.Touches.{has}
 use Rattle.part_machine.specs.declared.entry.Entry.{Entry}
 use Rattle.part_machine.specs.Whole.{bare, Whole, IsNew}
 use Rattle.part_machine.specs.Undo.{AreWithin}
-use Rattle.part_state.specs.Parts.{AreTests}
+use Rattle.part_state.specs.Internal.Parts.{AreTests}
 use Rattle.part_state.proofs.News.{new_test}
 use Rattle.part_state.proofs.logged.Logged.new.Goals as goal
 

@@ -1,7 +1,7 @@
 use Rattle.std.proofs.Common.{arith}
 use Rattle.part_machine.specs.Undo.{whole_of}
 use Rattle.part_machine.specs.Whole.{wholes}
-use Rattle.part_state.specs.Parts.{history}
+use Rattle.part_state.specs.Internal.Parts.{history}
 use Rattle.part_state.proofs.Wholes.{start, length_earlier, undone_kept, undone_fore}
 use Rattle.part_state.proofs.Kept.{tests_popped}
 use Rattle.part_state.proofs.logged.Logged.rollback.Goals as goal

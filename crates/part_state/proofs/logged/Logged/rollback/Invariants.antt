@@ -1,6 +1,6 @@
 use Rattle.std.proofs.Common.{◌≡◌, ◌+◌, ◌≤◌, length, take}
 use Rattle.part_machine.specs.Whole.{wholes}
-use Rattle.part_state.specs.Parts.{history, IsKept}
+use Rattle.part_state.specs.Internal.Parts.{history, IsKept}
 use Rattle.part_state.proofs.logged.Logged.rollback.Given as goal
 
 -- what stands is the front of what stood

@@ -1,7 +1,7 @@
 use Rattle.std.proofs.Common.{◌≡◌, ◌/◌, ◌%◌, ◌≤◌, sym, ap, ◌∙◌, arith}
 use Rattle.std.proofs.lemmas.Bool.{ne_eqb}
-use Rattle.set_pieces.specs.Counting.{one}
-use Rattle.set_pieces.specs.Patterns.{matches}
+use Rattle.set_pieces.specs.Internal.Counting.{one}
+use Rattle.set_pieces.specs.Internal.Patterns.{matches}
 use Rattle.set_pieces.proofs.Halving.{IsHalf, byte_is, one_most, count_most, count_all, count_free, count_even, count_odd}
 use Rattle.set_pieces.proofs.pattern.Pattern.+count_below.Goals as goal
 use Rattle.set_pieces.proofs.pattern.Pattern.+count_below.Goals.{then-x-eq1, else-x-eq1}

@@ -1,4 +1,4 @@
-use Rattle.set_pieces.specs.Patterns.{matches}
+use Rattle.set_pieces.specs.Internal.Patterns.{matches}
 use Rattle.set_pieces.proofs.Masks.{both_within, both_test, none_test}
 use Rattle.set_pieces.proofs.pattern.Pattern.both.Goals as goal
 

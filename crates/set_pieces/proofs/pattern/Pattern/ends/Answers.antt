@@ -1,7 +1,7 @@
 use Rattle.std.proofs.Common.{◌≡◌, ◌%◌, ◌^◌, refl, arith}
 use Rattle.std.proofs.lemmas.Bool.{eq-eqb}
 use Rattle.std.proofs.lemmas.Nat.{and_le_r}
-use Rattle.set_pieces.specs.Patterns.{matches, matches_below}
+use Rattle.set_pieces.specs.Internal.Patterns.{matches, matches_below}
 use Rattle.set_pieces.proofs.pattern.Pattern.ends.Goals as goal
 
 pub returns-clause-all : goal.returns-clause-all

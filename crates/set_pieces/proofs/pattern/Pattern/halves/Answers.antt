@@ -1,5 +1,5 @@
 use Rattle.std.proofs.Common.{refl, sym, ◌∙◌, arith}
-use Rattle.set_pieces.specs.Patterns.{matches}
+use Rattle.set_pieces.specs.Internal.Patterns.{matches}
 use Rattle.set_pieces.proofs.Masks.{lower_within, upper_within, halves_test, more_bits, lowest, no_step, ones_below, all_ones}
 use Rattle.set_pieces.proofs.pattern.Pattern.halves.Goals as goal
 

@@ -1,4 +1,4 @@
-use Rattle.set_pieces.specs.Patterns.{matches}
+use Rattle.set_pieces.specs.Internal.Patterns.{matches}
 use Rattle.set_pieces.proofs.Masking.{masked_none, masked_within, masked_test}
 use Rattle.set_pieces.proofs.pattern.Pattern.masked.Goals as goal
 

@@ -1,5 +1,5 @@
 use Rattle.std.proofs.lemmas.Nat.{one_shl}
-use Rattle.set_pieces.specs.Patterns.{matches, matches_below}
+use Rattle.set_pieces.specs.Internal.Patterns.{matches, matches_below}
 use Rattle.set_pieces.proofs.Masks.{bit_clear, bit_set, unturned, turned_within, turned_test}
 use Rattle.set_pieces.proofs.pattern.Pattern.turned.Goals as goal
 

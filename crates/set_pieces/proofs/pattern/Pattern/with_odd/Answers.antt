@@ -1,5 +1,5 @@
 use Rattle.std.proofs.Common.{ℕ, ap, eqb}
-use Rattle.set_pieces.specs.Patterns.{matches}
+use Rattle.set_pieces.specs.Internal.Patterns.{matches}
 use Rattle.set_pieces.proofs.Halving.{even_and, even_within, odd_none}
 use Rattle.set_pieces.proofs.pattern.Pattern.with_odd.Goals as goal
 

@@ -1,7 +1,7 @@
 use Rattle.std.proofs.Common.{Bool, ◌&&◌, not, ap, ◌∙◌}
-use Rattle.set_pieces.specs.Patterns.{is_matched}
-use Rattle.set_pieces.specs.Runs.{in_run}
-use Rattle.set_pieces.specs.Pieces.{in_piece}
+use Rattle.set_pieces.specs.Internal.Patterns.{is_matched}
+use Rattle.set_pieces.specs.Internal.Runs.{in_run}
+use Rattle.set_pieces.specs.Internal.Pieces.{in_piece}
 use Rattle.set_pieces.proofs.Without.{swapped, none_swapped}
 use Rattle.set_pieces.proofs.piece.Piece.clipped.Goals as goal
 

@@ -1,6 +1,6 @@
 use Rattle.std.proofs.Common.{Bool, ◌&&◌, not, sym, ap, ◌∙◌}
-use Rattle.set_pieces.specs.Patterns.{is_matched}
-use Rattle.set_pieces.specs.Pieces.{in_piece}
+use Rattle.set_pieces.specs.Internal.Patterns.{is_matched}
+use Rattle.set_pieces.specs.Internal.Pieces.{in_piece}
 use Rattle.set_pieces.proofs.piece.Piece.has.Goals as goal
 
 pub returns-then-has : goal.returns-then-has

@@ -1,8 +1,8 @@
 use Rattle.std.proofs.Common.{◌&&◌, not, Option, sym, ap, ◌∙◌}
 use Rattle.set_pieces.specs.declared.pattern.Pattern.{Pattern}
-use Rattle.set_pieces.specs.Patterns.{matches, is_matched}
-use Rattle.set_pieces.specs.Runs.{in_run}
-use Rattle.set_pieces.specs.Pieces.{in_piece}
+use Rattle.set_pieces.specs.Internal.Patterns.{matches, is_matched}
+use Rattle.set_pieces.specs.Internal.Runs.{in_run}
+use Rattle.set_pieces.specs.Internal.Pieces.{in_piece}
 use Rattle.set_pieces.proofs.Pieces.{and_all}
 use Rattle.set_pieces.proofs.Lasts.{last_same}
 use Rattle.set_pieces.proofs.piece.Piece.last.Goals as goal

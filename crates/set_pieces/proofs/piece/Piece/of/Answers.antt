@@ -1,7 +1,7 @@
 use Rattle.std.proofs.Common.{◌&&◌, not, Option, sym, ap, ◌∙◌}
 use Rattle.set_pieces.specs.declared.pattern.Pattern.{Pattern}
-use Rattle.set_pieces.specs.Patterns.{is_matched}
-use Rattle.set_pieces.specs.Runs.{in_run}
+use Rattle.set_pieces.specs.Internal.Patterns.{is_matched}
+use Rattle.set_pieces.specs.Internal.Runs.{in_run}
 use Rattle.set_pieces.proofs.Pieces.{and_all}
 use Rattle.set_pieces.proofs.piece.Piece.of.Goals as goal
 

@@ -1,4 +1,4 @@
-use Rattle.set_pieces.specs.Pieces.{in_piece}
+use Rattle.set_pieces.specs.Internal.Pieces.{in_piece}
 use Rattle.set_pieces.proofs.Spans.{from_ends}
 use Rattle.set_pieces.proofs.piece.Piece.span.Goals as goal
 

@@ -1,5 +1,5 @@
-use Rattle.set_pieces.specs.Pieces.{in_piece}
-use Rattle.set_pieces.specs.Runs.{in_run}
+use Rattle.set_pieces.specs.Internal.Pieces.{in_piece}
+use Rattle.set_pieces.specs.Internal.Runs.{in_run}
 use Rattle.set_pieces.proofs.Pieces.{and_all}
 use Rattle.set_pieces.proofs.piece.Piece.whole.Goals as goal
 

@@ -1,6 +1,6 @@
 use Rattle.std.proofs.Common.{◌-◌, ◌%◌, Bool, ◌&&◌, not, ap, ◌∙◌}
-use Rattle.set_pieces.specs.Patterns.{is_matched}
-use Rattle.set_pieces.specs.Pieces.{in_piece}
+use Rattle.set_pieces.specs.Internal.Patterns.{is_matched}
+use Rattle.set_pieces.specs.Internal.Pieces.{in_piece}
 use Rattle.set_pieces.proofs.piece.Piece.with_odd.Goals as goal
 
 pub returns-in-Some : goal.returns-in-Some

@@ -1,6 +1,6 @@
 use Rattle.std.proofs.Common.{◌∙◌}
-use Rattle.set_pieces.specs.Patterns.{matches}
-use Rattle.set_pieces.specs.Runs.{in_span, in_run}
+use Rattle.set_pieces.specs.Internal.Patterns.{matches}
+use Rattle.set_pieces.specs.Internal.Runs.{in_span, in_run}
 use Rattle.set_pieces.proofs.Pieces.{both_are, both_none}
 use Rattle.set_pieces.proofs.Pages.{before_other, after_other}
 use Rattle.set_pieces.proofs.run.Run.common.Goals.{then-self-other-via-then-self-other, then-self-other-via-else-self-other+then-other-self}

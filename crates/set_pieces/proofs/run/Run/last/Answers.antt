@@ -1,5 +1,5 @@
 use Rattle.std.proofs.Common.{sym, subst, arith}
-use Rattle.set_pieces.specs.Runs.{in_run}
+use Rattle.set_pieces.specs.Internal.Runs.{in_run}
 use Rattle.set_pieces.specs.Ends.{IsLast}
 use Rattle.set_pieces.proofs.Lasts.{last_held, none_held}
 use Rattle.set_pieces.proofs.run.Run.last.Goals as goal

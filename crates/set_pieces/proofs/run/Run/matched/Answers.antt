@@ -1,6 +1,6 @@
 use Rattle.std.proofs.Common.{◌∙◌}
-use Rattle.set_pieces.specs.Patterns.{matches}
-use Rattle.set_pieces.specs.Runs.{in_span, in_run}
+use Rattle.set_pieces.specs.Internal.Patterns.{matches}
+use Rattle.set_pieces.specs.Internal.Runs.{in_span, in_run}
 use Rattle.set_pieces.proofs.Pieces.{both_are}
 use Rattle.set_pieces.proofs.Without.{span_twice, none_of}
 use Rattle.set_pieces.proofs.run.Run.matched.Goals as goal

@@ -1,16 +1,10 @@
-use Rattle.std.proofs.Common.{◌∙◌}
-use Rattle.set_pieces.specs.Patterns.{matches}
-use Rattle.set_pieces.specs.Runs.{in_span, in_run}
-use Rattle.set_pieces.proofs.Pieces.{missed_are}
-use Rattle.set_pieces.proofs.Without.{span_again, none_of}
+use Rattle.std.proofs.Common.{◌&&◌, Bool, sym, ap, ◌∙◌}
+use Rattle.set_pieces.specs.Internal.Runs.{in_run}
+use Rattle.set_pieces.proofs.Without.{and_no}
 use Rattle.set_pieces.proofs.run.Run.missed.Goals as goal
 
 pub returns-in-Some : goal.returns-in-Some
-unfolding in_run
-returns-in-Some c = λ x. c.clipped.ensures.held x ∙ rw (c.from.ensures, c.from-in-Some.ensures, c.with_pattern.ensures.held x, c.in-Some.ensures x)
-    (missed_are (in_span c.args.self x) (matches c.args.self.pattern x) _ c.args.self.low c.args.self.high x
-    ∙ span_again (in_span c.args.self x) (matches c.args.self.pattern x) _)
+returns-in-Some c = λ x. c.matched.ensures x ∙ ap (λ (b : Bool). in_run c.args.self x && b) (c.in-Some.ensures x)
 
 pub returns-in-None : goal.returns-in-None
-unfolding in_run
-returns-in-None c = λ x. none_of (in_span c.args.self x) (matches c.args.self.pattern x) _ (c.in-None.ensures x)
+returns-in-None c = λ x. sym (and_no (in_run c.args.self x)) ∙ ap (λ (b : Bool). in_run c.args.self x && b) (c.in-None.ensures x)

@@ -1,6 +1,6 @@
 use Rattle.std.proofs.Common.{◌+◌, ap, ◌∙◌, arith}
 use Rattle.std.proofs.lemmas.Bool.{le-leb, and_from}
-use Rattle.set_pieces.specs.Runs.{in_run}
+use Rattle.set_pieces.specs.Internal.Runs.{in_run}
 use Rattle.set_pieces.proofs.run.Run.shifted_within.Goals as goal
 
 pub returns-in-Some-clause-some : goal.returns-in-Some-clause-some

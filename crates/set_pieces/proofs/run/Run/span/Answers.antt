@@ -1,4 +1,4 @@
-use Rattle.set_pieces.specs.Runs.{in_run}
+use Rattle.set_pieces.specs.Internal.Runs.{in_run}
 use Rattle.set_pieces.proofs.Spans.{from_ends}
 use Rattle.set_pieces.proofs.run.Run.span.Goals as goal
 

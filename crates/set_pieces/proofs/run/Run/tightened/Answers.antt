@@ -1,5 +1,5 @@
-use Rattle.set_pieces.specs.Patterns.{matches}
-use Rattle.set_pieces.specs.Runs.{in_run}
+use Rattle.set_pieces.specs.Internal.Patterns.{matches}
+use Rattle.set_pieces.specs.Internal.Runs.{in_run}
 use Rattle.set_pieces.proofs.Pieces.{passes}
 use Rattle.set_pieces.proofs.Spans.{tightened}
 use Rattle.set_pieces.proofs.run.Run.tightened.Goals as goal

@@ -1,6 +1,6 @@
 use Rattle.std.proofs.Common.{◌-◌, ◌%◌, ◌∙◌}
-use Rattle.set_pieces.specs.Patterns.{matches}
-use Rattle.set_pieces.specs.Runs.{in_span, in_run}
+use Rattle.set_pieces.specs.Internal.Patterns.{matches}
+use Rattle.set_pieces.specs.Internal.Runs.{in_span, in_run}
 use Rattle.set_pieces.proofs.Pieces.{all_words, and_none, odd_crossed, odd_is}
 use Rattle.set_pieces.proofs.run.Run.with_odd.Goals as goal
 

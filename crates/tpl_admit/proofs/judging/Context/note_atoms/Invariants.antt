@@ -1,7 +1,7 @@
 use Rattle.std.proofs.Common.{◌≡◌, drop, map}
 use Rattle.tpl_admit.specs.Admitting.{false_atoms}
-use Rattle.tpl_admit.specs.Moments.{moment}
-use Rattle.tpl_admit.specs.Walks.{context, noted}
+use Rattle.tpl_admit.specs.Internal.Moments.{moment}
+use Rattle.tpl_admit.specs.Internal.Walks.{context, noted}
 use Rattle.tpl_admit.proofs.judging.Context.note_atoms.Given as goal
 
 abbrev pub invariant-loop-wish : goal.invariant-loop-wish

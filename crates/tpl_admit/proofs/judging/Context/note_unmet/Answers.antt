@@ -1,9 +1,9 @@
 use Rattle.std.proofs.Common.{Option, map, sym, ap, ◌∙◌}
 use Rattle.tpl_admit.specs.declared.admission.Unmet.{Unmet}
 use Rattle.tpl_admit.specs.Admitting.{false_atoms, unretired}
-use Rattle.tpl_admit.specs.Moments.{moment}
-use Rattle.tpl_admit.specs.Walks.{context, noted}
-use Rattle.tpl_admit.proofs.Layouts.{both_noted}
+use Rattle.tpl_admit.specs.Internal.Moments.{moment}
+use Rattle.tpl_admit.specs.Internal.Walks.{context, noted}
+use Rattle.tpl_admit.proofs.Expansions.{both_noted}
 use Rattle.tpl_admit.proofs.judging.Context.note_unmet.Goals as goal
 
 pub returns : goal.returns

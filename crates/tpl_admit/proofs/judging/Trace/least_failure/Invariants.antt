@@ -1,6 +1,6 @@
 use Rattle.std.proofs.Common.{◌≡◌, drop, option_map}
 use Rattle.tpl_admit.specs.Admitting.{failures_from, least_among, least_failure}
-use Rattle.tpl_admit.specs.Walks.{trace}
+use Rattle.tpl_admit.specs.Internal.Walks.{trace}
 use Rattle.tpl_admit.proofs.judging.Trace.least_failure.Given as goal
 
 abbrev pub invariant-loop-hart : goal.invariant-loop-hart

@@ -1,7 +1,7 @@
 use Rattle.std.proofs.Common.{◌≡◌, ◌+◌, ◌-◌, ◌*◌, ◌≤◌, drop}
 use Rattle.tpl_ast.specs.Depths.{size_of_body, size_of_item, size_of_ways}
-use Rattle.tpl_ast.specs.Expansion.{layout_of, repeated}
-use Rattle.tpl_admit.specs.Walks.{context, through, walked}
+use Rattle.tpl_ast.specs.Expansion.{expansion_of, repeated}
+use Rattle.tpl_admit.specs.Internal.Walks.{context, through, walked}
 use Rattle.tpl_admit.proofs.judging.Walk.+walk.Given as goal
 
 abbrev pub decreases-items : goal.decreases-items
@@ -17,10 +17,10 @@ abbrev pub decreases-choose : goal.decreases-choose
 decreases-choose l = 4 * size_of_ways l.ways.now + 1
 
 abbrev pub invariant-items-loop-item : goal.invariant-items-loop-item
-invariant-items-loop-item l = through (context l.by) (layout_of (drop l.item-index l.items)) (walked l.self) ≡ through (context l.by) (layout_of l.items) (walked l.initial.self)
+invariant-items-loop-item l = through (context l.by) (expansion_of (drop l.item-index l.items)) (walked l.self) ≡ through (context l.by) (expansion_of l.items) (walked l.initial.self)
 
 abbrev pub invariant-repeat-loop : goal.invariant-repeat-loop
 invariant-repeat-loop l = record {
   part : l.counter ≤ l.times;
-  walk : through (context l.by) (repeated (l.times - l.counter) (layout_of l.body)) (walked l.self) ≡ through (context l.by) (repeated l.times (layout_of l.body)) (walked l.initial.self);
+  walk : through (context l.by) (repeated (l.times - l.counter) (expansion_of l.body)) (walked l.self) ≡ through (context l.by) (repeated l.times (expansion_of l.body)) (walked l.initial.self);
 }

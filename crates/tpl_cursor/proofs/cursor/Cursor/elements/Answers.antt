@@ -1,6 +1,6 @@
 use Rattle.std.proofs.Common.{◌<◌, ◌+◌, ◌-◌, length, sym, ap, ◌∙◌, arith, Some}
 use Rattle.std.proofs.lemmas.Result.{err_from_is_err_and}
-use Rattle.tpl_ast.specs.Grammar.{element_at, elements_at}
+use Rattle.tpl_lang.specs.PartReading.{element_at, elements_at}
 use Rattle.tpl_cursor.proofs.Lists.{with_front, goes_on, closes, other, stops_at}
 use Rattle.tpl_cursor.proofs.cursor.Cursor.elements.Goals as goal
 

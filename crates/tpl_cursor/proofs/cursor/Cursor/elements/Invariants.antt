@@ -1,5 +1,5 @@
 use Rattle.std.proofs.Common.{◌≡◌, ◌-◌, length}
-use Rattle.tpl_ast.specs.Grammar.{elements_at}
+use Rattle.tpl_lang.specs.PartReading.{elements_at}
 use Rattle.tpl_cursor.proofs.Lists.{with_front}
 use Rattle.tpl_cursor.proofs.cursor.Cursor.elements.Given as goal
 

@@ -1,7 +1,7 @@
 use Rattle.std.proofs.Common.{◌<◌, List, length, ap, ◌∙◌, arith}
 use Rattle.std.proofs.lemmas.Result.{err_from_is_err_and}
-use Rattle.tpl_ast.specs.declared.phrase.Numeral.{Numeral}
-use Rattle.tpl_ast.specs.Grammar.{more_numbers}
+use Rattle.tpl_lang.specs.declared.phrase.Numeral.{Numeral}
+use Rattle.tpl_lang.specs.Reading.{more_numbers}
 use Rattle.tpl_cursor.proofs.Lists.{behind, number_goes_on, number_stops}
 use Rattle.tpl_cursor.proofs.cursor.Cursor.numbers.Goals as goal
 

@@ -1,5 +1,5 @@
 use Rattle.std.proofs.Common.{◌≡◌, ◌-◌, length}
-use Rattle.tpl_ast.specs.Grammar.{more_numbers, numbers_at}
+use Rattle.tpl_lang.specs.Reading.{more_numbers, numbers_at}
 use Rattle.tpl_cursor.proofs.Lists.{behind}
 use Rattle.tpl_cursor.proofs.cursor.Cursor.numbers.Given as goal
 

@@ -1,6 +1,6 @@
 use Rattle.std.proofs.Common.{◌<◌, ◌+◌, ◌-◌, length, sym, ap, ◌∙◌, arith, Some}
 use Rattle.std.proofs.lemmas.Result.{err_from_is_err_and}
-use Rattle.tpl_ast.specs.Grammar.{outcome_part_at, list_of}
+use Rattle.tpl_lang.specs.PartReading.{outcome_part_at, list_of}
 use Rattle.tpl_cursor.proofs.Lists.{with_front, goes_on, closes, other, stops_at}
 use Rattle.tpl_cursor.proofs.cursor.Cursor.outcomes_list.Goals as goal
 

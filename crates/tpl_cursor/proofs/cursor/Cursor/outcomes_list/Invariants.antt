@@ -1,5 +1,5 @@
 use Rattle.std.proofs.Common.{◌≡◌, ◌-◌, length}
-use Rattle.tpl_ast.specs.Grammar.{list_of, outcome_part_at}
+use Rattle.tpl_lang.specs.PartReading.{list_of, outcome_part_at}
 use Rattle.tpl_cursor.proofs.Lists.{with_front}
 use Rattle.tpl_cursor.proofs.cursor.Cursor.outcomes_list.Given as goal
 

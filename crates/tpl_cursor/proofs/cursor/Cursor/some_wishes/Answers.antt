@@ -2,8 +2,8 @@ use Rattle.std.proofs.Common.{◌<◌, ◌+◌, ◌-◌, length, sym, ap, ◌∙
 use Rattle.std.proofs.lemmas.Result.{err_from_is_err_and}
 use Rattle.std.proofs.lemmas.List.{map_push}
 use Rattle.std.specs.Bool.{IsTrue}
-use Rattle.tpl_token.specs.Phrases.{wish_view, wishes_view}
-use Rattle.tpl_ast.specs.Grammar.{some_wishes}
+use Rattle.tpl_token.specs.Internal.Phrases.{wish_view, wishes_view}
+use Rattle.tpl_lang.specs.PartReading.{some_wishes}
 use Rattle.tpl_cursor.proofs.Lists.{behind, semicolon_stops, wish_stops, wishes_end, wishes_go_on}
 use Rattle.tpl_cursor.proofs.cursor.Cursor.some_wishes.Goals as goal
 

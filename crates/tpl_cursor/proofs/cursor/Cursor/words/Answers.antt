@@ -2,8 +2,8 @@ use Rattle.std.proofs.Common.{ℕ, ◌<◌, ◌+◌, ◌-◌, List, length, sym,
 use Rattle.std.proofs.lemmas.Result.{err_from_is_err_and}
 use Rattle.std.proofs.lemmas.List.{map_push}
 use Rattle.std.specs.Borrow.{Bor}
-use Rattle.tpl_token.specs.Phrases.{words_view}
-use Rattle.tpl_ast.specs.Grammar.{word_part_at, list_of}
+use Rattle.tpl_token.specs.Internal.Phrases.{words_view}
+use Rattle.tpl_lang.specs.PartReading.{word_part_at, list_of}
 use Rattle.tpl_cursor.proofs.Lists.{with_front, goes_on, closes, other, stops_at}
 use Rattle.tpl_cursor.proofs.cursor.Cursor.words.Goals as goal
 

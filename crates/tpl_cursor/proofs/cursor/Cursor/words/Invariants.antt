@@ -1,7 +1,7 @@
 use Rattle.std.proofs.Common.{◌≡◌, ◌-◌, length}
-use Rattle.tpl_ast.specs.Grammar.{list_of, word_part_at}
+use Rattle.tpl_lang.specs.PartReading.{list_of, word_part_at}
 use Rattle.tpl_cursor.proofs.Lists.{with_front}
-use Rattle.tpl_token.specs.Phrases.{words_view}
+use Rattle.tpl_token.specs.Internal.Phrases.{words_view}
 use Rattle.tpl_cursor.proofs.cursor.Cursor.words.Given as goal
 
 abbrev pub invariant-loop : goal.invariant-loop

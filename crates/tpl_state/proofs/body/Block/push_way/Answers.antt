@@ -1,7 +1,7 @@
 use Rattle.std.proofs.Common.{List, [], ◌∷◌, ◌++◌, sym, ap, ◌∙◌}
 use Rattle.tpl_ast.specs.Bodies.{BodyLine, EnterChoose, EnterWay, Leave, lines_of_body}
 use Rattle.tpl_state.specs.declared.body.Block.{Block}
-use Rattle.tpl_state.specs.Growing.{lines_of_alternatives, lines_of_block}
+use Rattle.tpl_state.specs.Internal.Growing.{lines_of_alternatives, lines_of_block}
 use Rattle.tpl_state.proofs.Bodies.{alternatives_push}
 use Rattle.tpl_state.proofs.body.Block.push_way.Goals as goal
 

@@ -1,7 +1,7 @@
 use Rattle.std.proofs.Common.{◌++◌, ap, ◌∙◌}
 use Rattle.tpl_ast.specs.Bodies.{lines_of_item}
 use Rattle.tpl_state.proofs.Bodies.{grown}
-use Rattle.tpl_state.specs.Growing.{Grown}
+use Rattle.tpl_state.specs.Internal.Growing.{Grown}
 use Rattle.tpl_state.proofs.body.Growing.add.Goals as goal
 
 pub returns-clause-lines : goal.returns-clause-lines

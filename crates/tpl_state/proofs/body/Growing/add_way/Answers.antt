@@ -1,6 +1,6 @@
 use Rattle.std.proofs.Common.{[], ◌∷◌, ◌++◌, ap, ◌∙◌}
 use Rattle.tpl_ast.specs.Bodies.{EnterWay, Leave, lines_of_body}
-use Rattle.tpl_state.specs.Growing.{Grown}
+use Rattle.tpl_state.specs.Internal.Growing.{Grown}
 use Rattle.tpl_state.proofs.Bodies.{grown}
 use Rattle.tpl_state.proofs.body.Growing.add_way.Goals as goal
 

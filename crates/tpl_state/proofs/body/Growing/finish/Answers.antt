@@ -1,5 +1,5 @@
 use Rattle.std.proofs.Common.{ap, ◌∙◌}
-use Rattle.tpl_state.specs.Growing.{Grown}
+use Rattle.tpl_state.specs.Internal.Growing.{Grown}
 use Rattle.tpl_state.proofs.Bodies.{whole_lines}
 use Rattle.tpl_state.proofs.body.Growing.finish.Goals as goal
 

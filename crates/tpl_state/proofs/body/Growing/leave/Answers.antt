@@ -1,7 +1,7 @@
 use Rattle.std.proofs.Common.{[], ◌∷◌, ◌++◌, sym, ap, ◌∙◌}
 use Rattle.tpl_ast.specs.Bodies.{Leave}
 use Rattle.tpl_state.specs.declared.body.Block.{Block}
-use Rattle.tpl_state.specs.Growing.{Grown, lines_of_block}
+use Rattle.tpl_state.specs.Internal.Growing.{Grown, lines_of_block}
 use Rattle.tpl_state.proofs.Bodies.{choose_lines, left, repeat_lines, seq_lines}
 use Rattle.tpl_state.proofs.body.Growing.leave.Goals as goal
 

@@ -1,6 +1,6 @@
 use Rattle.std.proofs.Common.{List, ap, sym, ◌∙◌}
 use Rattle.tpl_ast.specs.declared.template.NameDecl.{NameDecl}
-use Rattle.tpl_ast.specs.Parsing.{name_among}
+use Rattle.tpl_lang.specs.Known.{name_among}
 use Rattle.tpl_state.proofs.Found.{name_found}
 use Rattle.tpl_state.proofs.names.Names.has.Goals as goal
 

@@ -1,6 +1,6 @@
 use Rattle.std.proofs.Common.{List, length, ap, sym, ◌∙◌}
 use Rattle.tpl_ast.specs.declared.template.NameDecl.{NameDecl}
-use Rattle.tpl_ast.specs.Parsing.{index_among}
+use Rattle.tpl_lang.specs.Known.{index_among}
 use Rattle.std.proofs.lemmas.List.{length-map}
 use Rattle.tpl_state.proofs.Found.{declared, index_found, index_lacking}
 use Rattle.tpl_state.proofs.names.Names.index_of.Goals as goal

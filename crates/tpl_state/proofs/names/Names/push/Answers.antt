@@ -1,6 +1,6 @@
 use Rattle.std.proofs.Common.{◌≡◌, List, false, ◌++◌, ◌∷◌, [], ap, subst, ◌∙◌, sym}
 use Rattle.tpl_ast.specs.declared.template.NameDecl.{NameDecl}
-use Rattle.tpl_ast.specs.Parsing.{name_among}
+use Rattle.tpl_lang.specs.Known.{name_among}
 use Rattle.tpl_state.proofs.Found.{put_name}
 use Rattle.tpl_state.proofs.names.Names.push.Goals as goal
 

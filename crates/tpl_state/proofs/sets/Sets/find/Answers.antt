@@ -1,6 +1,6 @@
 use Rattle.std.proofs.Common.{◌≡◌, ℕ, List, Option, Some, None, is_some, option_map, Bor, refl, ap, sym, ◌∙◌}
-use Rattle.tpl_ast.specs.Sets.{NamedSet, find_set}
-use Rattle.tpl_state.specs.Finding.{elements_of_set}
+use Rattle.tpl_lang.specs.Sets.{NamedSet, find_set}
+use Rattle.tpl_state.specs.Internal.Finding.{elements_of_set}
 use Rattle.tpl_state.proofs.Found.{set_found}
 use Rattle.tpl_state.proofs.sets.Sets.find.Goals as goal
 

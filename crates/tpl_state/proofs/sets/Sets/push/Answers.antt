@@ -1,5 +1,5 @@
 use Rattle.std.proofs.Common.{◌≡◌, ℕ, List, None, ◌++◌, ◌∷◌, [], ap, subst, ◌∙◌, sym}
-use Rattle.tpl_ast.specs.Sets.{NamedSet, find_set}
+use Rattle.tpl_lang.specs.Sets.{NamedSet, find_set}
 use Rattle.tpl_state.proofs.Found.{put_set}
 use Rattle.tpl_state.proofs.sets.Sets.push.Goals as goal
 

@@ -1,0 +1,5 @@
+-- What only contracts between parts of the code, and proofs, speak of.
+pub mod Checks
+pub mod PartReaders
+pub mod Views
+pub mod Whole

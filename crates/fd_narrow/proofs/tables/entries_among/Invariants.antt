@@ -1,5 +1,0 @@
-use Rattle.fd_narrow.specs.Tables.{AreListed}
-use Rattle.fd_narrow.proofs.tables.entries_among.Given as goal
-
-abbrev pub invariant-loop-i : goal.invariant-loop-i
-invariant-loop-i l = AreListed l.table l.entries.indices.items l.entries.values.items

@@ -1,5 +1,0 @@
-use Rattle.fd_narrow.proofs.Jumps.{odd_has}
-use Rattle.fd_narrow.proofs.targets.with_odd.Goals as goal
-
-pub returns : goal.returns
-returns c = odd_has c.set_laws.ensures.pass c.set_laws.ensures.tests c.args.set.now c.in_ok-both.both c.in_ok-both.ensures

@@ -1,0 +1,3 @@
+-- What only contracts between parts of the code, and proofs, speak of.
+pub mod Firsts
+pub mod Csrs

@@ -1,0 +1,4 @@
+-- What only contracts between parts of the code, and proofs, speak of.
+pub mod Moments
+pub mod Ordered
+pub mod Walks

@@ -1,5 +1,0 @@
-use Rattle.tpl_ast.proofs.Told.{lines_tell}
-use Rattle.tpl_ast.proofs.laws.layout_law.Goals as goal
-
-pub returns : goal.returns
-returns c = lines_tell

@@ -1,5 +1,0 @@
-use Rattle.tpl_ast.proofs.Sound.{templates_keep_limits}
-use Rattle.tpl_ast.proofs.laws.template_law.Goals as goal
-
-pub returns : goal.returns
-returns c = templates_keep_limits

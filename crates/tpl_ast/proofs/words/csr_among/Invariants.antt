@@ -1,6 +1,0 @@
-use Rattle.std.proofs.Common.{◌≡◌, drop}
-use Rattle.tpl_ast.specs.Words.{csr_among}
-use Rattle.tpl_ast.proofs.words.csr_among.Given as goal
-
-abbrev pub invariant-loop-register : goal.invariant-loop-register
-invariant-loop-register l = csr_among l.word (drop l.register-index l.registers) ≡ csr_among l.word l.registers

@@ -1,6 +1,0 @@
-use Rattle.std.proofs.Common.{◌≡◌, drop}
-use Rattle.tpl_ast.specs.Words.{op_among}
-use Rattle.tpl_ast.proofs.words.op_among.Given as goal
-
-abbrev pub invariant-loop-op : goal.invariant-loop-op
-invariant-loop-op l = op_among l.word (drop l.op-index l.ops) ≡ op_among l.word l.ops

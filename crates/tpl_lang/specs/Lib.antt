@@ -1,0 +1,15 @@
+pub mod Numbers
+pub mod Words
+pub mod Lines
+pub mod Tokens
+pub mod Phrases
+pub mod Grammar
+pub mod PartReading
+pub mod Reading
+pub mod Sets
+pub mod Kinds
+pub mod Known
+pub mod Faults
+pub mod Statements
+pub mod Parsing
+pub mod Laws
