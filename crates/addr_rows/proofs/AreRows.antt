@@ -15,7 +15,7 @@ use Rattle.row_parts.specs.declared.row.RowEnd.TheVariants.{Pa, Fault, Outside}
 use Rattle.row_parts.specs.Rows.{End, Reaches, Leaves, is_of, when, found, has, ends_in, end_at as code_end, Adds}
 use Rattle.rv_mem.specs.declared.words.Seen.TheVariants.{Known as KnownWord, Untouched, Vacant}
 use Rattle.sv_walk.specs.Entry.{is_closed, is_invalid, is_pointer, is_reserved, is_unaligned, page_number}
-use Rattle.row_parts.specs.Internal.Classes.{entry_at}
+use Rattle.row_parts.specs.Classes.{entry_at}
 use Rattle.addr_rows.specs.Combinations.{Setting, is_table, is_own_entry, root_frame, no, second_reaches, access_fault, page_fault, at_second, pointed, rooted, at_root, ways}
 use Rattle.addr_rows.specs.Walks.{LetsEntries, AreWordForms, Shows, Walks, EntryRow, RowEnd, Leads, Faults, end_at, AreRows, value_of, has_value, row_holds, entry_row, entry_rows}
 use Rattle.addr_rows.proofs.Walking.{both_true, true_both, from_script, from_ways}

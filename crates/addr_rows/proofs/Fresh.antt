@@ -2,7 +2,7 @@
 use Rattle.std.proofs.Common.{◌≡◌, ℕ, ◌/◌, ◌^◌, ◌<◌, Bool, true, false, not, ◌&&◌, List, [], ◌∷◌, Option, Some, None, refl, sym, ap, ◌∙◌, arith}
 use Rattle.rv_mem.specs.declared.words.Seen.{Seen}
 use Rattle.rv_mem.specs.declared.words.Seen.TheVariants.{Untouched}
-use Rattle.row_parts.specs.Internal.Classes.{same, entry_at, has_class, has_index, is_kind, TableOf}
+use Rattle.row_parts.specs.Classes.{same, entry_at, has_class, has_index, is_kind, TableOf}
 use Rattle.row_parts.specs.Rows.{End, when}
 use Rattle.addr_rows.specs.Combinations.{Setting, at_root, at_second, is_table, root_frame, rooted, second_reaches}
 use Rattle.row_parts.specs.Items.{by_kind, GivesEach}

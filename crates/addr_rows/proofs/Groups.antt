@@ -3,7 +3,7 @@ use Rattle.std.proofs.Common.{◌≡◌, ℕ, ◌+◌, ◌*◌, ◌/◌, ◌%◌
 use Rattle.std.proofs.lemmas.List.{append-nil}
 use Rattle.dom_set.specs.Elements.{is_in}
 use Rattle.rv_mem.specs.declared.words.Seen.{Seen}
-use Rattle.row_parts.specs.Internal.Classes.{has_class}
+use Rattle.row_parts.specs.Classes.{has_class}
 use Rattle.sv_walk.specs.declared.entry.Kind.{Kind}
 use Rattle.sv_walk.specs.Translation.{arrived}
 use Rattle.row_parts.specs.Rows.{End, Reaches, when, found}

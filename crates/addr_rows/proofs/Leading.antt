@@ -7,7 +7,7 @@ use Rattle.sv_walk.specs.Entry.{page_number, is_invalid, is_pointer, is_reserved
 use Rattle.sv_walk.specs.Translation.{Reached, Fails, arrived, second_end}
 use Rattle.row_parts.specs.declared.target.Target.{Target}
 use Rattle.row_parts.specs.declared.target.Target.TheVariants.{PageFault, Frame, Outside, Table}
-use Rattle.row_parts.specs.Internal.Classes.{entry_at}
+use Rattle.row_parts.specs.Classes.{entry_at}
 use Rattle.row_parts.specs.Rows.{End, Reaches, Leaves, found, when}
 use Rattle.addr_rows.specs.Combinations.{Setting, no, is_table, root_frame, page_fault, at_second, pointed, rooted}
 use Rattle.row_parts.specs.Gaps.{are_indices_equal}

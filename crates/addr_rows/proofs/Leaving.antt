@@ -9,11 +9,12 @@ use Rattle.rv_script.specs.Script.{Label}
 use Rattle.rv_script.specs.Folds.{Known, Answer, Answer.Does, Answer.Missing, Answer.Nowhere, prefixed, Entry}
 use Rattle.sv_walk.specs.Entry.{access_cause, is_closed, is_invalid, is_pointer, is_reserved, is_unaligned, page_cause, page_number}
 use Rattle.sv_walk.specs.Translation.{Reached, Fails, arrived, is_in_ram, is_translated, root_address, root_label, second_address, second_end}
-use Rattle.row_parts.specs.Internal.Classes.{seen_at, entry_at}
+use Rattle.row_parts.specs.Classes.{seen_at, entry_at}
 use Rattle.row_parts.specs.Rows.{End, Reaches, Leaves, when, found}
 use Rattle.addr_rows.specs.Combinations.{Setting, is_table, is_own_entry, root_frame, no, at_second, pointed, rooted, at_root, ways}
 use Rattle.rv_script.specs.Logs.{value_or, where_unknown}
-use Rattle.addr_rows.specs.Walks.{in_frames, may_be_root, LetsEntries, AreWordForms, seen_by, Shows, WalksOut, value_of, root_place}
+use Rattle.rv_mem.specs.Frames.{in_frames}
+use Rattle.addr_rows.specs.Walks.{may_be_root, LetsEntries, AreWordForms, seen_by, Shows, WalksOut, value_of, root_place}
 use Rattle.addr_rows.proofs.Playing.{entry, root_question, second_place, access_fails, second_done, pointer_played, rooted_played, root_played, all_plays, seen_is}
 use Rattle.addr_rows.proofs.Walking.{found_none, both_true, true_both, some_none, frames_are, top_small}
 

@@ -6,7 +6,7 @@ use Rattle.rv_script.specs.Script.{Label}
 use Rattle.rv_script.specs.Folds.{Known, Answer.Does, Answer.Nowhere, prefixed, Entry}
 use Rattle.sv_walk.specs.Entry.{access_cause, is_closed, is_invalid, is_pointer, is_reserved, is_unaligned, page_cause, page_number}
 use Rattle.sv_walk.specs.Translation.{Reached, Fails, arrived, is_in_ram, is_translated, root_address, root_label, second_address, second_end, second_label}
-use Rattle.row_parts.specs.Internal.Classes.{seen_at}
+use Rattle.row_parts.specs.Classes.{seen_at}
 use Rattle.row_parts.specs.Rows.{End, Reaches, Leaves, when, found}
 use Rattle.addr_rows.specs.Combinations.{Setting, is_table, is_own_entry, root_frame, no, second_reaches, at_second, pointed, rooted, at_root, ways}
 use Rattle.rv_script.specs.Logs.{labelled, value_or, where_unknown}

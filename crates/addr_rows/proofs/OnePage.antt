@@ -1,7 +1,7 @@
 -- Addresses that lie in one page.
 use Rattle.std.proofs.Common.{◌≡◌, ℕ, ◌/◌, ◌%◌, ◌^◌, ◌<◌, ◌≤◌, Bool, true, false, ◌&&◌, List, refl, sym, ap, ◌∙◌, arith}
 use Rattle.rv_mem.specs.declared.words.Seen.{Seen}
-use Rattle.row_parts.specs.Internal.Classes.{entry_at, has_index}
+use Rattle.row_parts.specs.Classes.{entry_at, has_index}
 use Rattle.row_parts.specs.Rows.{End, when}
 
 -- the entries of addresses in a page

@@ -12,7 +12,7 @@ use Rattle.sv_walk.specs.declared.entry.Kind.{Kind}
 use Rattle.sv_walk.specs.declared.entry.Kind.TheVariants.{Fetch, Load, Store}
 use Rattle.sv_walk.specs.Entry.{access_cause, is_closed, is_invalid, is_pointer, is_reserved, is_unaligned, page_cause}
 use Rattle.sv_walk.specs.Translation.{Reached, Fails, arrived, translated, from_pointer, from_root, is_in_ram, is_translated, root_address, root_label, second_address, second_end, second_label}
-use Rattle.row_parts.specs.Internal.Classes.{seen_at}
+use Rattle.row_parts.specs.Classes.{seen_at}
 use Rattle.addr_rows.specs.Combinations.{Setting}
 use Rattle.rv_script.specs.Logs.{answer_told, or_given, value_or, by_answers}
 use Rattle.addr_rows.specs.Walks.{Shows, seen_by, entry_answers, root_place}

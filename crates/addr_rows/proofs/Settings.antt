@@ -7,7 +7,7 @@ use Rattle.dom_set.specs.Counting.{one}
 use Rattle.dom_set.specs.Elements.{is_in}
 use Rattle.sv_walk.specs.declared.entry.Kind.{Kind}
 use Rattle.sv_walk.specs.declared.entry.View.{View}
-use Rattle.row_parts.specs.Internal.Times.{times_by}
+use Rattle.row_parts.specs.Times.{times_by}
 use Rattle.row_parts.specs.Forms.{IsOnce}
 use Rattle.row_parts.specs.declared.alike.Group.{Group}
 use Rattle.row_parts.specs.Alike.{times_held, is_held}

@@ -13,13 +13,14 @@ use Rattle.sv_walk.specs.declared.entry.Kind.{Kind}
 use Rattle.sv_walk.specs.declared.entry.Kind.TheVariants.{Fetch, Load, Store}
 use Rattle.sv_walk.specs.Entry.{access_cause, is_closed, is_invalid, is_pointer, is_reserved, is_unaligned, page_cause, page_number}
 use Rattle.sv_walk.specs.Translation.{Reached, Fails, arrived, is_in_ram, is_translated, translated, root_address, root_label, second_address, second_end, second_label}
-use Rattle.row_parts.specs.Internal.Classes.{seen_at}
+use Rattle.row_parts.specs.Classes.{seen_at}
 use Rattle.row_parts.specs.Rows.{End, Reaches, Leaves, when, found}
 use Rattle.addr_rows.specs.Combinations.{Setting, is_table, is_own_entry, root_frame, no, second_reaches, at_second, pointed, rooted, at_root, ways}
 use Rattle.row_parts.specs.Gaps.{are_indices_equal}
 use Rattle.rv_script.specs.Labels.{label_number}
 use Rattle.rv_script.specs.Logs.{is_word, answer_told, by_answers, entry_place, entry_label, labelled, value_or, new_value, if_new}
-use Rattle.addr_rows.specs.Walks.{in_frames, entry_answers, may_be_root, may_be_second, LetsEntries, AreWordForms, seen_by, Shows, Walks, value_of, root_place}
+use Rattle.rv_mem.specs.Frames.{in_frames}
+use Rattle.addr_rows.specs.Walks.{entry_answers, may_be_root, may_be_second, LetsEntries, AreWordForms, seen_by, Shows, Walks, value_of, root_place}
 use Rattle.addr_rows.proofs.Playing.{entry, root_question, second_question, second_place, access_fails, second_done, pointer_played, rooted_played, root_played, all_played, all_plays, seen_is}
 
 -- LABELS

@@ -7,7 +7,7 @@ use Rattle.sv_walk.specs.declared.entry.Kind.{Kind}
 use Rattle.sv_walk.specs.declared.entry.View.{View}
 use Rattle.sv_walk.specs.Entry.{page_number, is_invalid, is_pointer, is_reserved, is_unaligned, is_closed, page_cause, access_cause}
 use Rattle.sv_walk.specs.Translation.{Fails, arrived, second_end, is_translated}
-use Rattle.row_parts.specs.Internal.Classes.{entry_at}
+use Rattle.row_parts.specs.Classes.{entry_at}
 use Rattle.row_parts.specs.Gaps.{are_indices_equal}
 use Rattle.row_parts.specs.Rows.{End, Reaches, Leaves, is_of, when, found}
 

@@ -10,7 +10,7 @@ use Rattle.row_parts.specs.Alike.{is_held, by_groups, by_word}
 use Rattle.row_parts.specs.Forms.{is_first, is_second, IsOnce}
 use Rattle.rv_mem.specs.declared.words.Seen.{Seen}
 use Rattle.row_parts.specs.declared.row.Row.{Row}
-use Rattle.row_parts.specs.Internal.Classes.{entry_at}
+use Rattle.row_parts.specs.Classes.{entry_at}
 use Rattle.row_parts.specs.Rows.{Adds, is_of, when}
 use Rattle.addr_rows.specs.Combinations.{Setting, at_root, pointed, root_frame, second_reaches}
 

@@ -1,10 +1,10 @@
 -- Rows as what the translation's script does with new page table entries.
-use Rattle.std.specs.Prelude.{◌≡◌, ℕ, ◌+◌, ◌*◌, ◌/◌, ◌^◌, ◌<◌, Bool, true, false, ◌&&◌, nat_eq, nat_lt, bit_and, List, [], ◌∷◌, Option, Some, None}
-use Rattle.std.specs.List.{list_any}
+use Rattle.std.specs.Prelude.{◌≡◌, ℕ, ◌+◌, ◌*◌, ◌^◌, ◌<◌, Bool, true, false, ◌&&◌, nat_eq, nat_lt, bit_and, List, [], ◌∷◌, Option, Some, None}
 use Rattle.rv_csr.specs.declared.cause.Cause.{Cause}
 use Rattle.rv_mem.specs.declared.words.Seen.{Seen}
 use Rattle.rv_mem.specs.declared.words.Seen.TheVariants.{Vacant}
 use Rattle.rv_mem.specs.Part.{valued}
+use Rattle.rv_mem.specs.Frames.{in_frames}
 use Rattle.rv_script.specs.declared.place.Place.{Place}
 use Rattle.rv_script.specs.declared.place.Place.TheVariants.{Reg, Csr, Word}
 use Rattle.rv_script.specs.Lists.{HasItem}
@@ -25,10 +25,6 @@ abbrev pub word_address_of : Place → ℕ
 word_address_of (Word addr) = addr
 word_address_of (Reg n) = 0
 word_address_of (Csr addr) = 0
-
--- the frame of 4,096 bytes that holds an address is in the list
-abbrev pub in_frames : List ℕ → ℕ → Bool
-in_frames frames addr = list_any (λ frame. nat_eq (addr / 4096) (frame / 4096)) frames
 
 -- a new root entry, and a new second entry, with this value may stand at this place
 abbrev pub may_be_root : Setting → Place → ℕ → Bool

@@ -8,8 +8,10 @@ mod making;
 mod root_entries;
 mod scene;
 mod second_entries;
+mod values;
 
 pub use dom_set::OutOfMemory;
 pub use laws::rows_are_walks;
 pub use making::rows;
 pub use row_parts::{Forms, Row, RowEnd};
+pub use values::has_value;

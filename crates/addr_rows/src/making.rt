@@ -6,7 +6,7 @@ ghost use Rattle.rv_mem.specs.Seen.{is_there};
 ghost use Rattle.sv_walk.specs.Translation.{is_translated};
 ghost use Rattle.rv_mem.specs.declared.words.Seen.TheVariants.{Untouched};
 ghost use Rattle.row_parts.specs.Alike.{by_groups, by_word};
-ghost use Rattle.row_parts.specs.Internal.Classes.{entry_at, same, TableOf};
+ghost use Rattle.row_parts.specs.Classes.{entry_at, same, TableOf};
 ghost use Rattle.row_parts.specs.Gaps.{are_indices_equal, counts};
 ghost use Rattle.row_parts.specs.Items.{by_kind};
 ghost use Rattle.row_parts.specs.Rows.{Adds, end_at, ends_in, found, is_of, when};
@@ -23,7 +23,9 @@ use row_parts::{
 use rv_csr::Priv;
 use rv_mem::{Ram, Seen, Words};
 use std::alloc::Global;
-use sv_walk::{Kind, View, is_closed, is_invalid, is_pointer, is_reserved, is_unaligned};
+use sv_walk::{
+    Kind, View, is_closed, is_invalid, is_pointer, is_reserved, is_translated, is_unaligned,
+};
 
 impl Scene {
     /// Whether a new root entry leads to the root table itself.
@@ -560,13 +562,6 @@ impl Scene {
         push_reached(alloc, rows, &self.ram, self.kind, set, &news, 0, 32)?;
         Ok(())
     }
-}
-
-/// Whether translation holds.
-fn is_translated(v: View) -> bool
-    ensures { result ≡ is_translated v }
-{
-    !matches!(v.privilege, Priv::M) && v.satp >= 0x8000_0000
 }
 
 /// Where each address of a set leads, with what is known of memory and with each choice of page table

@@ -1,6 +1,6 @@
 // What new root entries lead to.
 ghost use Rattle.std.specs.Prelude.{◌≡◌, ℕ, ◌<◌, ◌≤◌, true, Option};
-ghost use Rattle.row_parts.specs.Internal.Classes.{entry_at, has_index};
+ghost use Rattle.row_parts.specs.Classes.{entry_at, has_index};
 ghost use Rattle.addr_rows.specs.Combinations.{pointed};
 ghost use Rattle.addr_rows.specs.Scenes.{setting_of};
 
@@ -52,7 +52,7 @@ impl<'a, M: Words> RootEntries<'a, M> {
 
 impl<'a, M: Words> Entries for RootEntries<'a, M> {
     ghost use Rattle.std.specs.Prelude.{true};
-    ghost use Rattle.row_parts.specs.Internal.Classes.{has_index};
+    ghost use Rattle.row_parts.specs.Classes.{has_index};
     ghost use Rattle.row_parts.specs.Rows.{when};
     ghost use Rattle.addr_rows.specs.Combinations.{rooted};
     ghost use Rattle.addr_rows.specs.Scenes.{setting_of};

@@ -13,11 +13,11 @@ use Rattle.fd_prob.specs.Order.{IsAssignment, rank}
 use Rattle.fd_prob.specs.Relations.{holds, value_of}
 use Rattle.rv_isa.specs.Numbers.{op_numbered}
 use Rattle.fd_prob.specs.Slots.{slot_number}
-use Rattle.fd_prob.specs.Mentions.{mentions}
 use Rattle.case_search.specs.Internal.Free.{IsFirstPassing, IsFree, IsSettled, own_hold, put}
 use Rattle.case_search.specs.Search.{FixedBelow, IsCut, IsMet, LeastOrNone}
 use Rattle.case_search.proofs.Putting.{equal_or_not, put_here, put_there, put_word, true_or_false}
-use Rattle.case_search.proofs.Mentions.{Agree, holds_same}
+use Rattle.fd_prob.specs.Mentions.{Agree, mentions}
+use Rattle.fd_prob.proofs.Mentioning.{holds_same}
 use Rattle.fd_prob.proofs.Places.{same_slot}
 use Rattle.case_search.proofs.Searching.{found, members_same}
 

@@ -12,12 +12,12 @@ use Rattle.fd_prob.specs.declared.slot.Slot.{Slot}
 use Rattle.fd_prob.specs.Relations.{holds}
 use Rattle.rv_isa.specs.Numbers.{op_numbered}
 use Rattle.case_search.specs.Internal.Easier.{AreBlind, IsEasier}
-use Rattle.fd_prob.specs.Mentions.{mentions}
 use Rattle.case_search.specs.Internal.Free.{put}
 use Rattle.case_search.specs.Search.{IsCut, IsMet}
 use Rattle.fd_prob.proofs.Places.{same_slot}
 use Rattle.case_search.proofs.Freedom.{put_inside}
-use Rattle.case_search.proofs.Mentions.{Agree, holds_same}
+use Rattle.fd_prob.specs.Mentions.{Agree, mentions}
+use Rattle.fd_prob.proofs.Mentioning.{holds_same}
 use Rattle.case_search.proofs.Putting.{put_here, put_there, put_word}
 
 pub none_blind : (s : Slot) (rels : List Rel) → AreBlind s rels []

@@ -5,7 +5,6 @@ pub mod Putting
 pub mod Inside
 mod Skips
 mod Cuts
-mod Mentions
 mod Searching
 mod Freedom
 mod Leaving

@@ -93,6 +93,23 @@ fn with_narrow_domains(
     })
 }
 
+/// A case of the same operation that the same assignments fit, with domains narrowed by those of its relations that take little
+/// time.
+pub fn narrow_soon(alloc: Global, case: Case) -> Result<Case, OutOfMemory>
+    requires { IsCase case }
+    ensures { IfOk result (IsEquivalent case) }
+{
+    let doms = Domains::of(alloc, &case)?;
+    let rels = case.rels.as_slice();
+    let narrow = doms.narrowed_soon(alloc, case.operation(), rels)?;
+    let Case { op, rels, .. } = case;
+    Ok(Case {
+        op,
+        doms: Items::from_vec(narrow.into_sets()),
+        rels,
+    })
+}
+
 /// A case of the same operation that the same assignments fit, with narrowed domains. Its only error is want of memory.
 pub fn narrow_case(alloc: Global, case: &Case) -> Result<Case, OutOfMemory>
     requires { IsCase case.now }

@@ -6,7 +6,8 @@ use Rattle.dom_set.specs.Elements.{is_within}
 use Rattle.rv_mem.specs.declared.words.Seen.{Seen}
 use Rattle.rv_mem.specs.declared.words.Seen.TheVariants.{Known, Untouched, Vacant}
 use Rattle.rv_mem.specs.Seen.{is_there, is_known, is_untouched}
-use Rattle.data_bytes.specs.Frames.{in_frames, in_frames_from}
+use Rattle.rv_mem.specs.Frames.{in_frames}
+use Rattle.data_bytes.specs.Frames.{in_frames_from}
 use Rattle.data_bytes.proofs.Framing.{runs_held}
 
 pub untouched_is : (s : Seen) (a b : Bool) → a ≡ is_there s → b ≡ is_known s → (a && not b) ≡ is_untouched s

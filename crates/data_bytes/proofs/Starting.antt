@@ -7,7 +7,8 @@ use Rattle.std.proofs.lemmas.Bool.Decides.{nat_tests}
 use Rattle.std.proofs.lemmas.Bool.{eqb-true}
 use Rattle.dom_set.specs.Elements.{elements_of, is_in, is_within}
 use Rattle.data_bytes.specs.Sets.{IsSetOf}
-use Rattle.data_bytes.specs.Starts.{IsSize, any_byte, is_open}
+use Rattle.rv_script.specs.Bytes.{any_byte}
+use Rattle.data_bytes.specs.Starts.{IsSize, is_open}
 use Rattle.data_bytes.proofs.Sets.{elements_are, filter_leaves, moved}
 
 pub size_power : (size : ℕ) → IsSize size → IsPowerOfTwo size

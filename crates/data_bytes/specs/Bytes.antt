@@ -8,7 +8,7 @@ use Rattle.rv_mem.specs.declared.words.Seen.{Seen}
 use Rattle.rv_mem.specs.Seen.{is_there, is_known, is_untouched}
 use Rattle.data_bytes.specs.declared.memory.DataBytes.{DataBytes}
 use Rattle.data_bytes.specs.Sets.{IsSetOf}
-use Rattle.data_bytes.specs.Frames.{in_frames}
+use Rattle.rv_mem.specs.Frames.{in_frames}
 
 -- of a memory by the numbers of its words, and a hart that stands at a pc: what is known, what may be started in the pool, what is
 -- no RAM, and what of the first two races with what was touched

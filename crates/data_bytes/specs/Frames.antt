@@ -1,10 +1,5 @@
 -- Frames of 4,096 bytes, each by an address in it.
-use Rattle.std.specs.Prelude.{◌≡◌, ℕ, ◌/◌, ◌%◌, Bool, ◌&&◌, nat_eq, nat_le, List, All}
-use Rattle.std.specs.List.{list_any}
-
--- the frame that holds an address is in the list
-abbrev pub in_frames : List ℕ → ℕ → Bool
-in_frames frames addr = list_any (λ frame. nat_eq (addr / 4096) (frame / 4096)) frames
+use Rattle.std.specs.Prelude.{◌≡◌, ℕ, ◌/◌, ◌%◌, Bool, ◌&&◌, nat_le, List, All}
 
 -- each is the first byte of a frame
 abbrev pub AreFrames : List ℕ → Type 0

@@ -1,6 +1,7 @@
 -- The addresses of accesses.
-use Rattle.std.specs.Prelude.{◌≡◌, ℕ, zero, suc, ◌+◌, ◌%◌, ◌⊎◌, Bool, false, not, ◌&&◌, ◌||◌, nat_eq, List}
+use Rattle.std.specs.Prelude.{◌≡◌, ℕ, ◌%◌, ◌⊎◌, Bool, not, ◌&&◌, nat_eq, List}
 use Rattle.dom_set.specs.Elements.{is_in}
+use Rattle.rv_script.specs.Bytes.{any_byte}
 use Rattle.data_bytes.specs.declared.memory.DataBytes.{DataBytes}
 use Rattle.data_bytes.specs.declared.starts.DataAccess.{DataAccess}
 use Rattle.data_bytes.specs.declared.starts.DataAccess.TheVariants.{Load, Store}
@@ -8,11 +9,6 @@ use Rattle.data_bytes.specs.declared.starts.DataAccess.TheVariants.{Load, Store}
 -- an access is of 1, 2 or 4 bytes
 abbrev pub IsSize : ℕ → Type 0
 IsSize size = (size ≡ 1) ⊎ ((size ≡ 2) ⊎ (size ≡ 4))
-
--- one of so many bytes from an address on passes
-abbrev pub any_byte : ℕ → ℕ → (ℕ → Bool) → Bool
-any_byte zero addr test = false
-any_byte (suc n) addr test = test addr || any_byte n (addr + 1) test
 
 -- a multiple of the size from which on no byte of an access is barred
 abbrev pub is_open : List ℕ → ℕ → ℕ → Bool

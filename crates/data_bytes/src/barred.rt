@@ -3,7 +3,8 @@ ghost use Rattle.std.specs.Prelude.{◌≡◌, ℕ, ◌/◌, ◌%◌, ◌^◌, �
 ghost use Rattle.dom_set.specs.Elements.{is_in};
 ghost use Rattle.foot_map.specs.Races.{is_blocked};
 ghost use Rattle.data_bytes.specs.Sets.{IsSetOf};
-ghost use Rattle.data_bytes.specs.Frames.{in_frames, AreFrames};
+ghost use Rattle.rv_mem.specs.Frames.{in_frames};
+ghost use Rattle.data_bytes.specs.Frames.{AreFrames};
 
 use crate::error::OutOfMemory;
 use dom_set::Set;

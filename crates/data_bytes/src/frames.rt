@@ -2,7 +2,8 @@
 ghost use Rattle.std.specs.Prelude.{◌≡◌, ℕ, ◌/◌, ◌%◌, ◌||◌, nat_eq, IfOk, OnOk};
 ghost use Rattle.std.specs.List.{list_any};
 ghost use Rattle.data_bytes.specs.Sets.{IsSetOf};
-ghost use Rattle.data_bytes.specs.Frames.{in_frames, in_frames_from, AreFrames};
+ghost use Rattle.rv_mem.specs.Frames.{in_frames};
+ghost use Rattle.data_bytes.specs.Frames.{in_frames_from, AreFrames};
 
 use crate::error::OutOfMemory;
 use dom_set::Set;

@@ -6,7 +6,8 @@ ghost use Rattle.foot_map.specs.Races.{is_blocked};
 ghost use Rattle.rv_mem.specs.Part.{part_at};
 ghost use Rattle.rv_mem.specs.Seen.{is_known, is_there, is_untouched};
 ghost use Rattle.data_bytes.specs.Sets.{IsSetOf};
-ghost use Rattle.data_bytes.specs.Frames.{in_frames, AreFrames};
+ghost use Rattle.rv_mem.specs.Frames.{in_frames};
+ghost use Rattle.data_bytes.specs.Frames.{AreFrames};
 ghost use Rattle.data_bytes.specs.Bytes.{AreDataBytes};
 
 use crate::barred::barred;

@@ -2,7 +2,8 @@
 ghost use Rattle.std.specs.Prelude.{◌≡◌, ℕ, ◌+◌, ◌%◌, ◌^◌, ◌≤◌, not, ◌&&◌, nat_eq, IfOk};
 ghost use Rattle.dom_set.specs.Elements.{is_in};
 ghost use Rattle.data_bytes.specs.Sets.{IsSetOf};
-ghost use Rattle.data_bytes.specs.Starts.{IsSize, any_byte, is_open, barred_of};
+ghost use Rattle.rv_script.specs.Bytes.{any_byte};
+ghost use Rattle.data_bytes.specs.Starts.{IsSize, is_open, barred_of};
 
 use crate::error::OutOfMemory;
 use crate::memory::DataBytes;

@@ -3,10 +3,10 @@ use Rattle.std.proofs.Common.{◌≡◌, ℕ, zero, suc, ◌+◌, ◌/◌, ◌%�
 use Rattle.std.proofs.lemmas.Bool.Decides.{nat_tests}
 use Rattle.std.specs.List.{list_any}
 use Rattle.rv_script.specs.declared.access.Access.{Access}
-use Rattle.rv_script.specs.Bytes.{covers}
+use Rattle.rv_script.specs.Bytes.{covers, any_byte}
 use Rattle.foot_map.specs.declared.touch.Touch.{Touch}
 use Rattle.foot_map.specs.Races.{breaks, is_blocked}
-use Rattle.data_bytes.specs.Starts.{IsSize, any_byte}
+use Rattle.data_bytes.specs.Starts.{IsSize}
 
 -- TESTS OF BYTES
 any_none : (n p : ℕ) → any_byte n p (λ b. false) ≡ false

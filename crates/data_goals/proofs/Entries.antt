@@ -9,7 +9,7 @@ use Rattle.rv_csr.specs.Causes.{number_of}
 use Rattle.rv_script.specs.declared.access.Access.{Access}
 use Rattle.rv_script.specs.declared.access.Role.{Role}
 use Rattle.rv_script.specs.declared.place.Place.TheVariants.{Word}
-use Rattle.rv_script.specs.Bytes.{covers, part_of, word_address}
+use Rattle.rv_script.specs.Bytes.{covers, part_of, word_address, any_byte}
 use Rattle.rv_script.specs.Labels.{Asks, label_of}
 use Rattle.rv_script.specs.Lists.{HasItem}
 use Rattle.rv_script.specs.Logs.{answer_told, same_place}
@@ -21,8 +21,10 @@ use Rattle.sv_walk.specs.declared.entry.Kind.TheVariants.{Fetch as ForFetch, Loa
 use Rattle.sv_walk.specs.declared.entry.View.{View}
 use Rattle.sv_walk.specs.Entry.{access_cause, is_closed, is_invalid, is_pointer, is_reserved, is_unaligned, page_cause, page_number}
 use Rattle.sv_walk.specs.Translation.{Reached, At, Fails, arrived, from_pointer, from_root, is_in_ram, is_translated, root_address, root_label, second_address, second_end, second_label, translated}
-use Rattle.data_bytes.specs.Starts.{IsSize, any_byte}
-use Rattle.leaf_link.specs.Turns.{Turn, in_frames, may_be_for, may_start, word_address_of}
+use Rattle.fetch_ways.proofs.Walked.{IsInside, arrived_inside, second_inside}
+use Rattle.data_bytes.specs.Starts.{IsSize}
+use Rattle.rv_mem.specs.Frames.{in_frames}
+use Rattle.leaf_link.specs.Turns.{Turn, may_be_for, may_start, word_address_of}
 use Rattle.leaf_link.specs.Candidates.{accesses_in}
 use Rattle.leaf_link.proofs.Placing.{asked_by}
 use Rattle.data_goals.specs.Grounds.{is_walked}
@@ -86,28 +88,9 @@ pub walk_entries : (ram : ℕ → Bool) (v : View) (kind : Kind) (va : ℕ) (tel
 walk_entries ram v kind va tell log end h e i = asked_by IsEntry (translated ram v kind va) tell log end (translated_asks ram v kind va) h e i
 
 -- WHERE IT LEADS IS IN RAM
-abbrev IsInside : (ℕ → Bool) → Reached → Type 0
-IsInside ram (At p) = is_in_ram ram p ≡ true
-IsInside ram (Fails cause) = Unit {0}
-
 if_inside : (ram : ℕ → Bool) (b : Bool) (s t : Script Reached) → Ends (IsInside ram) s → Ends (IsInside ram) t → Ends (IsInside ram) (if b then s else t)
 if_inside ram true s t h k = h
 if_inside ram false s t h k = k
-
-arrived_inside : (ram : ℕ → Bool) (kind : Kind) (addr : ℕ) → IsInside ram (arrived ram kind addr)
-arrived_inside ram kind addr = go (is_in_ram ram addr) refl
-  where
-    go : (b : Bool) → is_in_ram ram addr ≡ b → IsInside ram (if b then At addr else Fails (access_cause kind))
-    go true h = h
-    go false h = tt
-
-second_inside : (ram : ℕ → Bool) (v : View) (kind : Kind) (va entry : ℕ) → IsInside ram (second_end ram v kind va entry)
-unfolding second_end
-second_inside ram v kind va entry = go (is_invalid entry || (is_pointer entry || is_closed v kind entry))
-  where
-    go : (b : Bool) → IsInside ram (if b then Fails (page_cause kind) else arrived ram kind (page_number entry * 2 ^ 12 + va % 2 ^ 12))
-    go true = tt
-    go false = arrived_inside ram kind (page_number entry * 2 ^ 12 + va % 2 ^ 12)
 
 pointer_inside : (ram : ℕ → Bool) (v : View) (kind : Kind) (va entry : ℕ) → Ends (IsInside ram) (from_pointer ram v kind va entry)
 unfolding from_pointer

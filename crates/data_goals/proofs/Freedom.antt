@@ -11,7 +11,7 @@ use Rattle.rv_isa.specs.Table.{row_of}
 use Rattle.rv_csr.specs.declared.cause.Cause.{Cause}
 use Rattle.rv_csr.specs.declared.cause.Cause.TheVariants.{LoadMisaligned, StoreMisaligned}
 use Rattle.rv_script.specs.declared.access.Role.TheVariants.{Fetch, Load as Loads, Store as Stores}
-use Rattle.rv_script.specs.Bytes.{covers, part_of}
+use Rattle.rv_script.specs.Bytes.{covers, part_of, any_byte}
 use Rattle.rv_script.specs.declared.access.Access.{Access}
 use Rattle.rv_script.specs.Folds.{Entry, by_known}
 use Rattle.rv_script.specs.Script.{Question}
@@ -22,12 +22,12 @@ use Rattle.sv_walk.specs.Translation.{At}
 use Rattle.rv_hart.specs.Machine.{fetch_view, size_of}
 use Rattle.fd_prob.specs.declared.slot.Slot.TheVariants as slots
 use Rattle.data_bytes.specs.declared.starts.DataAccess.TheVariants.{Load, Store}
-use Rattle.data_bytes.specs.Starts.{IsSize, any_byte, barred_of, is_open}
+use Rattle.data_bytes.specs.Starts.{IsSize, barred_of, is_open}
 use Rattle.leaf_link.specs.Turns.{Turn, is_free_entry}
 use Rattle.leaf_link.specs.Values.{Values, instr_in}
 use Rattle.leaf_link.specs.Candidates.{accesses_in}
 use Rattle.leaf_link.specs.Cases.{fetch_entry}
-use Rattle.leaf_link.specs.Reaching.{any_byte as any_byte_of, data_walk, load_question, store_apart, store_question}
+use Rattle.leaf_link.specs.Reaching.{data_walk, load_question, store_apart, store_question}
 use Rattle.leaf_link.proofs.Front.{accesses_then}
 use Rattle.leaf_link.specs.Ways.{IsFetched}
 use Rattle.data_goals.specs.Goals.{access_of, is_aligned_to}
@@ -73,14 +73,6 @@ load_access t walk pa a has op load is = record {
 }
 
 -- STORES
-alike : (n p : ℕ) (test : ℕ → Bool) → any_byte_of n p test ≡ any_byte n p test
-alike zero p test = refl
-alike (suc n) p test = ap (λ (b : Bool). test p || b) (alike n (p + 1) test)
-
-all_alike : (size p : ℕ) (ys : List Access) → list_all (λ y. not (any_byte_of size p (covers y))) ys ≡ list_all (λ y. not (any_byte size p (covers y))) ys
-all_alike size p [] = refl
-all_alike size p (y ∷ ys) = ap (λ (b : Bool). not b && list_all (λ y. not (any_byte_of size p (covers y))) ys) (alike size p (covers y)) ∙ ap (λ (b : Bool). not (any_byte size p (covers y)) && b) (all_alike size p ys)
-
 fetched : (t : Turn) (pa w b : ℕ) → pa % 4 ≡ 0 → covers (record { role = Fetch; addr = pa; size = 4; value = part_of pa 4 w }) b ≡ nat_eq (b / 4) (pa / 4)
 fetched t pa w b aligned = grind (arith, nat_tests)
 
@@ -91,8 +83,7 @@ apart_is t walk pa op x p log first last same is m aligned =
     let w : ℕ = word_of (instr_in x) in
     let size : ℕ = size_of op in
     let test : Access → Bool = λ y. not (any_byte size p (covers y)) in
-    ap (λ (l : List Entry). list_all (λ y. not (any_byte_of size p (covers y))) (accesses_in (walk ++ fetch_entry t pa w ∷ l))) same
-    ∙ all_alike size p (accesses_in (walk ++ fetch_entry t pa w ∷ log))
+    ap (λ (l : List Entry). list_all (λ y. not (any_byte size p (covers y))) (accesses_in (walk ++ fetch_entry t pa w ∷ l))) same
     ∙ ap (list_all test) (accesses_then walk (fetch_entry t pa w ∷ log))
     ∙ all_then test (accesses_in walk) (accesses_in (fetch_entry t pa w ∷ log))
     ∙ ap (λ (b : Bool). b && (not (any_byte size p (covers (record { role = Fetch; addr = pa; size = 4; value = part_of pa 4 w }))) && list_all test (accesses_in log))) (apart_entries walk first size p is m)

@@ -6,7 +6,7 @@ use Rattle.std.specs.List.{list_any}
 use Rattle.dom_set.specs.Elements.{is_in}
 use Rattle.rv_script.specs.declared.access.Role.TheVariants.{Load, Store}
 use Rattle.rv_script.specs.declared.place.Place.TheVariants.{Word}
-use Rattle.rv_script.specs.Bytes.{word_address}
+use Rattle.rv_script.specs.Bytes.{word_address, any_byte}
 use Rattle.rv_script.specs.Folds.{Entry}
 use Rattle.foot_map.specs.Races.{is_blocked}
 use Rattle.rv_mem.specs.declared.words.Seen.{Seen}
@@ -14,9 +14,9 @@ use Rattle.rv_mem.specs.declared.words.Seen.TheVariants.{Known, Untouched, Vacan
 use Rattle.rv_mem.specs.Seen.{is_there, is_known, is_untouched}
 use Rattle.sv_walk.specs.Translation.{is_in_ram}
 use Rattle.data_bytes.specs.declared.memory.DataBytes.{DataBytes}
-use Rattle.data_bytes.specs.Frames.{in_frames as in_frames_of}
-use Rattle.data_bytes.specs.Starts.{IsSize, any_byte}
-use Rattle.leaf_link.specs.Turns.{Turn, in_frames}
+use Rattle.data_bytes.specs.Starts.{IsSize}
+use Rattle.rv_mem.specs.Frames.{in_frames}
+use Rattle.leaf_link.specs.Turns.{Turn}
 use Rattle.leaf_link.specs.Cases.{is_some_word}
 use Rattle.leaf_link.specs.Reaching.{not_code}
 use Rattle.data_goals.specs.declared.accesses.Accesses.{Accesses}
@@ -44,7 +44,7 @@ code_test t pa a value false h e = ap (λ (b : Bool). is_some_word (t.known (Wor
 pub value_code : (t : Turn) (pa v : ℕ) → has_value t v ≡ true → not_code t pa (Word (word_address v)) ≡ true
 value_code t pa v h = code_test t pa (word_address v) true _ h refl
 
-begin_is : (t : Turn) (pa : ℕ) → pa % 4 ≡ 0 → (v : ℕ) → has_value t v ≡ false → (in_frames_of t.pool v && not (nat_eq (v / 4) (pa / 4))) ≡ may_begin t pa v
+begin_is : (t : Turn) (pa : ℕ) → pa % 4 ≡ 0 → (v : ℕ) → has_value t v ≡ false → (in_frames t.pool v && not (nat_eq (v / 4) (pa / 4))) ≡ may_begin t pa v
 begin_is t pa aligned v h =
     let frame : v / 4096 ≡ word_address v / 4096 = omega arith in
     let word : nat_eq (v / 4) (pa / 4) ≡ nat_eq pa (word_address v) = grind (arith, nat_tests) in
@@ -96,7 +96,7 @@ module _ (t : Turn) (walk : List Entry) (pa : ℕ) (a : Accesses) (has : HasAcce
       let known : is_in a.bytes.known b ≡ is_in a.bytes.known v = has.are.known b below ∙ ap (λ (n : ℕ). is_known (has.mem n)) word ∙ sym (has.are.known v small) in
       let fresh : is_in a.bytes.fresh b ≡ is_in a.bytes.fresh v =
       has.are.fresh b below
-      ∙ ap (λ (n : ℕ). is_untouched (has.mem n) && (in_frames_of t.pool b && not (nat_eq n (pa / 4)))) word
+      ∙ ap (λ (n : ℕ). is_untouched (has.mem n) && (in_frames t.pool b && not (nat_eq n (pa / 4)))) word
       ∙ ap (λ (n : ℕ). is_untouched (has.mem (v / 4)) && (list_any (λ frame. nat_eq n (frame / 4096)) t.pool && not (nat_eq (v / 4) (pa / 4)))) frame
       ∙ sym (has.are.fresh v small) in
       (below, ap (λ (k : Bool). k || is_in a.bytes.fresh b) known ∙ ap (λ (k : Bool). is_in a.bytes.known v || k) fresh ∙ may)

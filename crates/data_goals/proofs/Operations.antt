@@ -7,7 +7,8 @@ use Rattle.rv_script.specs.Folds.{Entry}
 use Rattle.addr_rows.specs.Walks.{EntryRow}
 use Rattle.tpl_ast.specs.declared.template.Atom.{Atom}
 use Rattle.leaf_link.specs.Turns.{Turn}
-use Rattle.leaf_link.specs.Values.{Values, has_address}
+use Rattle.rv_isa.specs.Fields.{has_address}
+use Rattle.leaf_link.specs.Values.{Values}
 use Rattle.leaf_link.specs.AllWays.{ways_of}
 use Rattle.leaf_link.specs.Ways.{HasWay}
 use Rattle.data_goals.specs.declared.accesses.Accesses.{Accesses}

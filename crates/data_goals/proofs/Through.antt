@@ -2,11 +2,11 @@
 use Rattle.std.proofs.Common.{◌≡◌, List, [], ◌∷◌, refl, sym, ap, subst, inl, inr}
 use Rattle.rv_isa.specs.declared.operation.Op.{Op}
 use Rattle.rv_script.specs.Lists.{HasItem}
+use Rattle.rv_script.proofs.Items.{has_either, has_first, has_second}
 use Rattle.tpl_ast.specs.declared.template.Atom.{Atom}
 use Rattle.data_ways.specs.declared.way.DataWay.{DataWay}
 use Rattle.leaf_link.specs.Turns.{Turn}
 use Rattle.leaf_link.specs.Cases.{Way}
-use Rattle.leaf_link.proofs.Front.{has_either, has_first, has_second}
 use Rattle.data_goals.specs.declared.accesses.Accesses.{Accesses}
 use Rattle.data_goals.specs.declared.goal.Goal.{Goal}
 use Rattle.data_goals.specs.Goals.{goal_way, goals_by, ways_by, ways_through}

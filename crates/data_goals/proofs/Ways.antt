@@ -32,7 +32,8 @@ use Rattle.data_ways.specs.declared.way.DataEnd.{DataEnd}
 use Rattle.data_ways.specs.declared.way.DataEnd.TheVariants as ends
 use Rattle.data_ways.specs.declared.way.DataWay.{DataWay}
 use Rattle.data_ways.specs.Ways.{AreDataWays, is_off, keeps, kind_of, reached_by}
-use Rattle.leaf_link.specs.Turns.{Turn, in_frames, is_free_entry, word_address_of}
+use Rattle.rv_mem.specs.Frames.{in_frames}
+use Rattle.leaf_link.specs.Turns.{Turn, is_free_entry, word_address_of}
 use Rattle.leaf_link.specs.Values.{Values}
 use Rattle.leaf_link.specs.Cases.{Way, all_tests, is_some_word}
 use Rattle.leaf_link.specs.Kinds.{traps_when, vector_alone}

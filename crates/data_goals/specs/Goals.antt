@@ -24,7 +24,7 @@ use Rattle.leaf_link.specs.Turns.{Turn}
 use Rattle.leaf_link.specs.Cases.{Way, all_tests}
 use Rattle.leaf_link.specs.Kinds.{always, is_vector}
 use Rattle.data_goals.specs.declared.accesses.Accesses.{Accesses}
-use Rattle.data_goals.specs.declared.cuts.Place.{Place}
+use Rattle.data_goals.specs.declared.cuts.AddressCuts.{AddressCuts}
 use Rattle.data_goals.specs.declared.goal.Goal.{Goal}
 use Rattle.data_goals.specs.declared.goal.Goal.TheVariants.{Misaligned, Fails, Known, Fresh}
 use Rattle.data_goals.specs.declared.targets.Targets.{Targets}
@@ -113,7 +113,7 @@ there_test a op way wanted Known v = leads_to way.end (target_test a op (is_in a
 there_test a op way wanted Fresh v = leads_to way.end (target_test a op (is_in a.bytes.fresh) wanted) v
 
 -- what it says of the indices and of where the address leads, as sets of addresses
-pub record IsPlace (a : Accesses) (op : Op) (way : DataWay) (wanted : ℕ → Bool) (goal : Goal) (place : Place) : Type 0 where
+pub record AreAddressCuts (a : Accesses) (op : Op) (way : DataWay) (wanted : ℕ → Bool) (goal : Goal) (place : AddressCuts) : Type 0 where
   pub apart : IsCut (apart_test way goal) place.apart
   pub leads : IsCut (there_test a op way wanted goal) place.leads
 

@@ -14,7 +14,8 @@ use Rattle.data_bytes.specs.Bytes.{AreDataBytes}
 use Rattle.data_bytes.specs.declared.starts.DataAccess.TheVariants.{Load, Store}
 use Rattle.data_bytes.specs.Sets.{IsSetOf}
 use Rattle.data_ways.specs.Ways.{AreDataWays}
-use Rattle.leaf_link.specs.Turns.{Turn, in_frames, is_first_form, is_second_form}
+use Rattle.rv_mem.specs.Frames.{in_frames}
+use Rattle.leaf_link.specs.Turns.{Turn, is_first_form, is_second_form}
 use Rattle.leaf_link.specs.Cases.{is_some_word, or_no}
 use Rattle.data_goals.specs.declared.accesses.Accesses.{Accesses}
 

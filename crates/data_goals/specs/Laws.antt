@@ -9,8 +9,10 @@ use Rattle.addr_rows.specs.Walks.{EntryRow}
 use Rattle.tpl_ast.specs.declared.template.Atom.{Atom}
 use Rattle.fd_prob.specs.declared.slot.Slot.{Slot}
 use Rattle.fd_prob.specs.declared.slot.Slot.TheVariants as slots
-use Rattle.leaf_link.specs.Turns.{Turn, in_frames}
-use Rattle.leaf_link.specs.Values.{Values, has_address}
+use Rattle.rv_mem.specs.Frames.{in_frames}
+use Rattle.leaf_link.specs.Turns.{Turn}
+use Rattle.rv_isa.specs.Fields.{has_address}
+use Rattle.leaf_link.specs.Values.{Values}
 use Rattle.leaf_link.specs.AllWays.{ways_of}
 use Rattle.leaf_link.specs.Cases.{code_at, is_some_word}
 use Rattle.leaf_link.specs.Reaching.{AreRows}

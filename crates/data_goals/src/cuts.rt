@@ -63,7 +63,7 @@ fn leading(alloc: Global, way: &DataWay, targets: &Set) -> Result<Set, OutOfMemo
 
 /// What a goal says of an address beside its domain. Each set can have a thousand pieces, and their meet far more.
 #[derive(Drop)]
-pub struct Place {
+pub struct AddressCuts {
     /// The addresses whose two indices, bits 31:22 and 21:12, differ, where only such count.
     pub apart: Option<Set>,
     /// The addresses that lead to where the access may go; `None` where each address passes.

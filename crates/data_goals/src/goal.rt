@@ -48,11 +48,7 @@ impl Goal {
 pub fn size_of(op: Op) -> u32
     ensures { result ≡ size_of op }
 {
-    match op {
-        Op::Lb | Op::Lbu | Op::Sb => 1,
-        Op::Lh | Op::Lhu | Op::Sh => 2,
-        _ => 4,
-    }
+    u32::from(rv_hart::size_of(op))
 }
 
 /// The access of an operation: a load's, and else a store's.

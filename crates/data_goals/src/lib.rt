@@ -12,7 +12,7 @@ mod laws;
 mod targets;
 
 pub use accesses::Accesses;
-pub use cuts::{Place, goal_apart, goal_cut, goal_leads};
+pub use cuts::{AddressCuts, goal_apart, goal_cut, goal_leads};
 pub use data_ways::{DataEnd, DataWay};
 pub use goal::{Goal, misses};
 pub use laws::accesses_are_goals;

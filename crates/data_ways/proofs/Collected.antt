@@ -39,8 +39,8 @@ use Rattle.data_bytes.specs.declared.starts.DataAccess.TheVariants.{Load, Store}
 use Rattle.data_ways.specs.declared.way.DataEnd.{DataEnd}
 use Rattle.data_ways.specs.declared.way.DataEnd.TheVariants as ends
 use Rattle.data_ways.specs.declared.way.DataWay.{DataWay}
-use Rattle.data_ways.specs.Barring.{is_barred}
-use Rattle.data_ways.specs.Making.{end_for, in_ways, row_has, row_has_to, rows_have, way_has}
+use Rattle.data_ways.specs.Internal.Barring.{is_barred}
+use Rattle.data_ways.specs.Internal.Making.{end_for, in_ways, row_has, row_has_to, rows_have, way_has}
 use Rattle.data_ways.specs.Ways.{AreDataWays, IsDataGround, keeps, kind_of, reached_by}
 use Rattle.data_ways.proofs.Walked.{Ground, IsSmall, data_setting, keeps_is, leads_small, root_is}
 

@@ -9,7 +9,7 @@ use Rattle.dom_set.specs.Elements.{elements_of, is_in, is_matching}
 use Rattle.row_parts.specs.Internal.Blocks.{is_in_block}
 use Rattle.row_parts.specs.declared.classes.Level.{Level}
 use Rattle.row_parts.specs.declared.classes.Level.TheVariants.{Root, Second}
-use Rattle.row_parts.specs.Internal.Classes.{TableOf, any_seen, entry_at, has_class, same as seen_alike, seen_at}
+use Rattle.row_parts.specs.Classes.{TableOf, any_seen, entry_at, has_class, same as seen_alike, seen_at}
 use Rattle.row_parts.specs.Items.{GivesEach, by_kind}
 use Rattle.row_parts.specs.Rows.{End, Leaves, when}
 use Rattle.row_parts.proofs.SeenOnce.{same_is}
@@ -34,10 +34,10 @@ use Rattle.data_bytes.proofs.Sets.{elements_are, filter_leaves}
 use Rattle.data_bytes.proofs.Framing.{word_test}
 use Rattle.data_ways.specs.declared.way.DataEnd.{DataEnd}
 use Rattle.data_ways.specs.declared.way.DataEnd.TheVariants as ends
-use Rattle.data_ways.specs.Barring.{bars, bars_behind, bars_by_root, is_barred, is_stored, races}
+use Rattle.data_ways.specs.Internal.Barring.{bars, bars_behind, bars_by_root, is_barred, is_stored, races}
 use Rattle.data_ways.specs.declared.barring.NewRoot.{NewRoot}
 use Rattle.data_ways.specs.declared.barring.RootTable.{RootTable}
-use Rattle.data_ways.specs.Tables.{IsPatternOf, IsRootTable, any_pointer, entry_of, index_at, is_always_barred, is_newly_barred, leads_on, meets, meets_behind}
+use Rattle.data_ways.specs.Internal.Tables.{IsPatternOf, IsRootTable, any_pointer, entry_of, index_at, is_always_barred, is_newly_barred, leads_on, meets, meets_behind}
 
 -- INDICES
 root_block : (ea index : ℕ) → ea < 2 ^ 32 → is_in_block (index * 4194304) 22 (ea % 2 ^ 32) ≡ (ea / 4194304 == index)

@@ -15,8 +15,8 @@ use Rattle.data_bytes.specs.declared.starts.DataAccess.{DataAccess}
 use Rattle.data_bytes.proofs.Sets.{filter_leaves}
 use Rattle.data_ways.specs.declared.barring.NewRoot.{NewRoot}
 use Rattle.data_ways.specs.declared.way.DataEnd.{DataEnd}
-use Rattle.data_ways.specs.Barring.{is_barred}
-use Rattle.data_ways.specs.Tables.{is_always_barred, is_newly_barred}
+use Rattle.data_ways.specs.Internal.Barring.{is_barred}
+use Rattle.data_ways.specs.Internal.Tables.{is_always_barred, is_newly_barred}
 use Rattle.data_ways.proofs.Parted.{barred_parts}
 
 -- ONE ROOT ENTRY

@@ -17,7 +17,7 @@ use Rattle.sv_walk.specs.declared.entry.Kind.{Kind}
 use Rattle.sv_walk.specs.Entry.{access_cause, is_closed, is_invalid, is_pointer, is_reserved, is_unaligned, page_cause}
 use Rattle.sv_walk.specs.declared.entry.View.{View}
 use Rattle.sv_walk.specs.Translation.{At, Fails, Reached, arrived, is_in_ram, is_translated, root_address, root_label, second_address, second_end, second_label}
-use Rattle.row_parts.specs.Internal.Classes.{entry_at, seen_at}
+use Rattle.row_parts.specs.Classes.{entry_at, seen_at}
 use Rattle.row_parts.specs.Rows.{End, Reaches, found, when}
 use Rattle.addr_rows.specs.Combinations.{Setting, at_root, is_table, no, root_frame, rooted, ways}
 use Rattle.addr_rows.specs.Laws.{Always, WalksAreWays}
@@ -35,7 +35,7 @@ use Rattle.data_bytes.specs.declared.starts.DataAccess.{DataAccess}
 use Rattle.data_bytes.specs.declared.starts.DataAccess.TheVariants.{Load, Store}
 use Rattle.data_ways.specs.declared.way.DataEnd.{DataEnd}
 use Rattle.data_ways.specs.declared.way.DataEnd.TheVariants as ends
-use Rattle.data_ways.specs.Barring.{bars, bars_behind, bars_by_root, is_barred}
+use Rattle.data_ways.specs.Internal.Barring.{bars, bars_behind, bars_by_root, is_barred}
 use Rattle.data_ways.specs.Ways.{is_off, keeps, kind_of, reached_by}
 
 -- what translations of loads, or of stores, depend on at a turn

@@ -1,4 +1,2 @@
 pub mod Ways
-pub mod Barring
-pub mod Tables
-pub mod Making
+pub mod Internal

@@ -3,8 +3,8 @@ ghost use Rattle.std.specs.Prelude.{◌≡◌, ℕ, ◌<◌, ◌%◌, ◌^◌, �
 ghost use Rattle.sv_walk.specs.Translation.{is_translated};
 ghost use Rattle.row_parts.specs.declared.classes.Level.TheVariants.{Second};
 ghost use Rattle.data_bytes.specs.Sets.{IsSetOf};
-ghost use Rattle.data_ways.specs.Barring.{bars, is_stored, races};
-ghost use Rattle.data_ways.specs.Tables.{any_pointer, entry_of, is_always_barred, is_newly_barred, meets, meets_behind, IsNewRoot, IsRootTable, IsTable};
+ghost use Rattle.data_ways.specs.Internal.Barring.{bars, is_stored, races};
+ghost use Rattle.data_ways.specs.Internal.Tables.{any_pointer, entry_of, is_always_barred, is_newly_barred, meets, meets_behind, IsNewRoot, IsRootTable, IsTable};
 
 use crate::pointers::{Pointer, pointers, untouched};
 use crate::walker::{Walker, joined};
@@ -14,7 +14,7 @@ use row_parts::Level;
 use rv_csr::Priv;
 use rv_mem::Words;
 use std::alloc::Global;
-use sv_walk::{View, is_invalid, is_pointer};
+use sv_walk::{View, is_invalid, is_pointer, is_translated};
 
 /// What is kept of the root table.
 #[derive(Drop)]
@@ -35,13 +35,6 @@ pub struct NewRoot {
     pub value: u32,
     /// The addresses whose walks race at the second entry where their root entry is new and has this value.
     pub racing: Set,
-}
-
-/// Whether addresses are translated.
-fn is_translated(view: View) -> bool
-    ensures { result ≡ is_translated view }
-{
-    !matches!(view.privilege, Priv::M) && view.satp >= 0x8000_0000
 }
 
 impl<'a, M: Words> Walker<'a, M> {

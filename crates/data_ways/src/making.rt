@@ -1,62 +1,30 @@
 // The ways of loads and stores.
-ghost use Rattle.std.specs.Prelude.{◌≡◌, ◌%◌, ◌<◌, ◌^◌, ◌&&◌, ◌||◌, ◌==◌, not, Bool, ℕ, List, All, map, IfOk, OnOk};
+ghost use Rattle.std.specs.Prelude.{◌≡◌, ◌%◌, ◌<◌, ◌^◌, ◌&&◌, ◌||◌, not, Bool, ℕ, List, All, map, IfOk, OnOk};
 ghost use Rattle.std.specs.List.{list_any};
-ghost use Rattle.dom_set.specs.Elements.{is_in, is_within};
+ghost use Rattle.dom_set.specs.Elements.{is_in};
 ghost use Rattle.rv_mem.specs.Ram.{in_ram};
 ghost use Rattle.rv_mem.specs.Seen.{is_there};
 ghost use Rattle.row_parts.specs.Gaps.{counts};
 ghost use Rattle.addr_rows.specs.Walks.{EntryRow, has_value};
 ghost use Rattle.leaf_link.specs.Reaching.{AreRows};
 ghost use Rattle.leaf_link.specs.Turns.{Turn};
-ghost use Rattle.data_ways.specs.Making.{end_for, in_ways, part_has, part_in, row_has, rows_have, takes};
-ghost use Rattle.data_ways.specs.Tables.{IsNewRoot, IsTable};
+ghost use Rattle.data_ways.specs.Internal.Making.{end_for, in_ways, part_has, part_in, row_has, rows_have, takes};
+ghost use Rattle.data_ways.specs.Internal.Tables.{IsNewRoot, IsTable};
 ghost use Rattle.data_ways.specs.Ways.{AreDataWays, IsDataGround, kind_of};
 
 use crate::barring::{NewRoot, RootTable};
 use crate::walker::Walker;
 use crate::way::{DataEnd, DataWay};
-use addr_rows::{rows, rows_are_walks};
+use addr_rows::{has_value, rows, rows_are_walks};
 use data_bytes::DataAccess;
 use dom_set::{OutOfMemory, Set, set_laws};
 use foot_map::FootMap;
 use leaf_link::rows_serve_leaves;
-use row_parts::{Forms, Row, RowEnd};
+use row_parts::{Forms, Row, RowEnd, form_law, set_of};
 use rv_isa::Instr;
 use rv_mem::{Ram, Words};
 use std::alloc::Global;
 use sv_walk::{Kind, View};
-
-/// Each number of a list, as a range.
-#[tactic(auto, using(row_parts::proofs::Sharing::single_pushed, row_parts::proofs::Lists::any_rest, row_parts::proofs::Lists::any_done, row_parts::proofs::Lists::or_false))]
-fn singles(alloc: Global, values: &[u32]) -> Result<Vec<(u32, u32)>, OutOfMemory>
-    ensures { IfOk result (λ rs. (w : ℕ) → is_within rs.items w ≡ is_in values.now w) }
-{
-    let mut ranges = Vec::new(alloc);
-    for value in values {
-        ranges.push((*value, *value))?;
-    }
-    Ok(ranges)
-}
-
-/// The numbers of a list.
-fn set_of(alloc: Global, values: &[u32]) -> Result<Set, OutOfMemory>
-    ensures { IfOk result (λ s. (w : ℕ) → is_in s w ≡ is_in values.now w) }
-{
-    set_laws();
-    let ranges = singles(alloc, values)?;
-    let set = Set::from_ranges(alloc, &ranges, 1)?;
-    Ok(set)
-}
-
-/// Whether a value is one of these new entries, or 0 where there are none.
-fn has_value(entries: &Option<Set>, value: u32) -> bool
-    ensures { result ≡ has_value entries.now value }
-{
-    match entries {
-        Some(set) => set.has(value),
-        None => value == 0,
-    }
-}
 
 /// The second entries of a row, or 0 where they are not new.
 fn seconds_of(alloc: Global, leaf: &Option<Set>) -> Result<Set, OutOfMemory>
@@ -220,7 +188,8 @@ impl<'a, M: Words> Walker<'a, M> {
             return Ok(());
         };
         let barred = self.barred(alloc, root, end)?;
-        let ea = row.ea.minus(alloc, &barred)?;
+        let left = row.ea.minus(alloc, &barred)?;
+        let ea = left.tightened(alloc)?;
         let part = Part {
             ea,
             root: &row.root,
@@ -254,13 +223,6 @@ impl<'a, M: Words> Walker<'a, M> {
     }
 }
 
-/// Does nothing. Its contract says that frames and flag bytes are what their types can hold.
-fn words(tables: &[u32], pool: &[u32], flags: &[u8])
-    ensures tables { All (λ t. t < 2 ^ 32) tables.now }
-    ensures pool { All (λ p. p < 2 ^ 32) pool.now }
-    ensures flags { All (λ b. b < 256) flags.now }
-{}
-
 /// The ways of loads, or of stores, of a hart that sees addresses as `view` says: each choice of an address of some pages
 /// and of new page table entries of the forms, by where it leads, whose walk races with nothing. No store goes to a known
 /// entry that its own walk reads.
@@ -282,7 +244,7 @@ pub fn data_ways<M: Words>(
     set_laws();
     rows_are_walks::<Instr>();
     rows_serve_leaves();
-    words(&forms.tables, &forms.pool, &forms.flags);
+    form_law(&forms.tables, &forms.pool, &forms.flags);
     let found = rows(alloc, m, ram, view, kind_of(access), pages, forms)?;
     // A root entry that is not new stands as 0.
     let mut firsts = forms.firsts(alloc)?;

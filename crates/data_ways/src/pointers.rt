@@ -2,9 +2,9 @@
 ghost use Rattle.std.specs.Prelude.{◌≡◌, ℕ, ◌+◌, ◌*◌, ◌/◌, ◌%◌, ◌^◌, ◌<◌, ◌==◌, ◌&&◌, ◌||◌, Bool, IfOk, OnOk};
 ghost use Rattle.std.specs.List.{list_any};
 ghost use Rattle.rv_mem.specs.Seen.{is_untouched};
-ghost use Rattle.row_parts.specs.Internal.Classes.{entry_at, has_class};
+ghost use Rattle.row_parts.specs.Classes.{entry_at, has_class};
 ghost use Rattle.data_bytes.specs.Sets.{IsSetOf};
-ghost use Rattle.data_ways.specs.Tables.{any_pointer, leads_on};
+ghost use Rattle.data_ways.specs.Internal.Tables.{any_pointer, leads_on};
 
 use dom_set::{OutOfMemory, Set};
 use row_parts::{ClassPart, Level, chosen, kinds_of, table_in};

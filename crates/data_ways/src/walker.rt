@@ -3,8 +3,8 @@ ghost use Rattle.std.specs.Prelude.{◌≡◌, ℕ, ◌+◌, ◌*◌, ◌/◌, �
 ghost use Rattle.fetch_ways.specs.Ways.{is_free_walk};
 ghost use Rattle.dom_set.specs.Elements.{is_in, is_matching};
 ghost use Rattle.data_bytes.specs.Sets.{IsSetOf};
-ghost use Rattle.data_ways.specs.Barring.{is_stored, races};
-ghost use Rattle.data_ways.specs.Tables.{entry_of, index_at, IsPatternOf};
+ghost use Rattle.data_ways.specs.Internal.Barring.{is_stored, races};
+ghost use Rattle.data_ways.specs.Internal.Tables.{entry_of, index_at, IsPatternOf};
 
 use crate::leading::reaching;
 use crate::way::DataEnd;

@@ -7,7 +7,7 @@ use Rattle.std.proofs.lemmas.Option.{same_Some}
 use Rattle.std.proofs.lemmas.List.Folds.{list_any_more}
 use Rattle.set_pieces.specs.declared.piece.Piece.{Piece}
 use Rattle.dom_set.specs.Elements.{elements_of}
-use Rattle.set_pieces.specs.Internal.Counting.{one, total}
+use Rattle.set_pieces.specs.Counting.{one, total}
 use Rattle.set_pieces.specs.Internal.Pieces.{in_piece, holds}
 use Rattle.set_pieces.specs.Ends.{greater, IsFirstFrom, IsLast}
 use Rattle.dom_set.proofs.Members.{length-members, slice_get-members}

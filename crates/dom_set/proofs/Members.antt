@@ -10,7 +10,7 @@ use Rattle.std.proofs.lemmas.List.Elements.{filter-append, All-filter}
 use Rattle.std.proofs.lemmas.List.Folds.{list_any-append, find-append, Any-from_list_any, list_any_at}
 use Rattle.std.proofs.lemmas.List.Kept.{IsStrictlyIncreasing-filter}
 use Rattle.dom_set.specs.Elements.{numbers_below, is_in}
-use Rattle.set_pieces.specs.Internal.Counting.{one, total}
+use Rattle.set_pieces.specs.Counting.{one, total}
 
 abbrev pub members : (ℕ → Bool) → ℕ → List ℕ
 members t n = filter t (numbers_below n)

@@ -6,7 +6,7 @@ use Rattle.std.specs.Cmp.Lexicographic.{pointwise}
 use Rattle.std.proofs.lemmas.Bool.{cases_lt, and_parts, false≢true}
 use Rattle.set_pieces.specs.declared.piece.Piece.{Piece}
 use Rattle.dom_set.specs.Elements.{elements_of, is_in}
-use Rattle.set_pieces.specs.Internal.Counting.{one, total}
+use Rattle.set_pieces.specs.Counting.{one, total}
 use Rattle.set_pieces.specs.Internal.Patterns.{matches, is_matched}
 use Rattle.set_pieces.specs.Internal.Runs.{in_run}
 use Rattle.set_pieces.specs.Internal.Pieces.{in_piece, holds, times, IsApart}

@@ -6,7 +6,7 @@ use Rattle.set_pieces.specs.declared.pattern.Pattern.{Pattern}
 use Rattle.set_pieces.specs.declared.run.Run.{Run}
 use Rattle.set_pieces.specs.declared.piece.Piece.{Piece}
 use Rattle.dom_set.specs.declared.track.Track.{Track}
-use Rattle.set_pieces.specs.Internal.Counting.{one}
+use Rattle.set_pieces.specs.Counting.{one}
 use Rattle.set_pieces.specs.Internal.Patterns.{matches, matches_below, is_matched}
 use Rattle.set_pieces.specs.Internal.Runs.{in_run, is_in_run}
 use Rattle.set_pieces.specs.Internal.Pieces.{in_piece, holds}

@@ -1,6 +1,6 @@
 // Two lists of pieces at once: what they have in common, what one leaves of the other, and the numbers of either.
 ghost use Rattle.std.specs.Prelude.{◌≡◌, ℕ, ◌+◌, ◌*◌, ◌^◌, ◌<◌, ◌≤◌, ◌↔◌, ◌&&◌, not, List, length, drop, IsTrue, if◌then◌else◌, IfOk, OnOk};
-ghost use Rattle.set_pieces.specs.Internal.Counting.{one, total};
+ghost use Rattle.set_pieces.specs.Counting.{one, total};
 ghost use Rattle.dom_set.specs.Elements.{is_matching};
 ghost use Rattle.set_pieces.specs.Internal.Pieces.{in_piece, times, holds, Ascends, IsApart, AreAlive};
 

@@ -1,8 +1,8 @@
 // Lists of pieces.
 ghost use Rattle.std.specs.Prelude.{◌≡◌, ℕ, ◌+◌, ◌-◌, ◌%◌, ◌^◌, ◌<◌, ◌≤◌, ◌&&◌, ◌||◌, Bool, true, bit_and, All, IfSome, IsTrue, nat_lt, nat_le, if◌then◌else◌, IfOk, OnOk};
-ghost use Rattle.set_pieces.specs.Internal.Counting.{total};
+ghost use Rattle.set_pieces.specs.Counting.{total};
 ghost use Rattle.dom_set.specs.Elements.{is_within};
-ghost use Rattle.set_pieces.specs.Internal.Pieces.{in_piece, times, holds, Ascends, IsApart};
+ghost use Rattle.set_pieces.specs.Internal.Pieces.{in_piece, is_held, times, holds, Ascends, IsApart};
 ghost use Rattle.set_pieces.specs.Ends.{HasPage, IsFirstFrom, IsLast, AreEnds};
 
 use set_pieces::{
@@ -211,6 +211,31 @@ pub fn masked(alloc: Global, pieces: &[Piece], mask: u32) -> Result<Vec<Piece>, 
     let mut out = Vec::new(alloc);
     for p in pieces {
         push_masked_piece(&mut out, *p, mask)?;
+    }
+    put_in_order(&mut out);
+    Ok(out)
+}
+
+/// The same numbers, from the first of them to the last one where the piece has no hole. None where it has no number.
+fn tight(p: Piece) -> Option<Piece>
+    ensures { (x : ℕ) → is_held result x ≡ in_piece p x }
+{
+    match p.hole {
+        Some(_) => Some(p),
+        None => {
+            let run = p.run.tightened()?;
+            Some(Piece::whole(run))
+        }
+    }
+}
+
+/// The same numbers by tight pieces.
+pub fn tightened(alloc: Global, pieces: &[Piece]) -> Result<Vec<Piece>, OutOfMemory>
+    ensures { IfOk result (λ v. (x : ℕ) → times v.items x ≡ times pieces.now x) }
+{
+    let mut out = Vec::new(alloc);
+    for p in pieces {
+        push_piece(&mut out, tight(*p))?;
     }
     put_in_order(&mut out);
     Ok(out)

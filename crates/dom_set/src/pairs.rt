@@ -3,7 +3,7 @@ ghost use Rattle.std.specs.Prelude.{◌≡◌, ℕ, ◌+◌, ◌^◌, ◌<◌, �
 ghost use Rattle.std.specs.List.Sorted.{IsNonDecreasingBy};
 ghost use Rattle.std.specs.Int.{IsPowerOfTwo};
 ghost use Rattle.dom_set.specs.Elements.{is_within};
-ghost use Rattle.set_pieces.specs.Internal.Counting.{one};
+ghost use Rattle.set_pieces.specs.Counting.{one};
 ghost use Rattle.set_pieces.specs.Internal.Pieces.{in_piece, is_held, times, holds, IsApart, IsMultiples};
 
 use set_pieces::{OutOfMemory, Pattern, Piece, Run, low_bits, step};

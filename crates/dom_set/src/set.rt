@@ -190,8 +190,8 @@ impl Set {
         Ok(tracks)
     }
 
-    /// A page of 4,096 numbers from the given one on, so that each page before it, from the given one on, has an
-    /// element.
+    /// The number of a page of 4,096 numbers from the given one on, so that each page before it, from the given one on, has an
+    /// element; 2^20 where all have. There may be pages with elements behind it: it is as far as the pieces tell soon.
     pub fn pages_end(&self, page: u32) -> u32
         requires { page ≤ 2 ^ 20 }
         ensures reached { page ≤ result }
@@ -256,6 +256,14 @@ impl Set {
         ensures { IfOk result (λ s. s ≡ elements_of (λ x. is_in self.now (bit_and x mask))) }
     {
         let pieces = lists::masked(alloc, &self.pieces, mask)?;
+        Ok(Set { pieces })
+    }
+
+    /// The same set. Each piece without a hole begins and ends at an element, so that later calls tell more by its ends.
+    pub fn tightened(&self, alloc: Global) -> Result<Set, OutOfMemory>
+        ensures { IfOk result (λ s. s ≡ self.now) }
+    {
+        let pieces = lists::tightened(alloc, &self.pieces)?;
         Ok(Set { pieces })
     }
 

@@ -183,6 +183,19 @@ impl Domains {
         Ok(left)
     }
 
+    /// The domains without what those relations rule out that tell it soon: no sum is asked, nor many rows.
+    pub fn narrowed_soon(self, alloc: Global, op: Op, rels: &[Rel]) -> Result<Domains, OutOfMemory>
+        ensures { IfOk result (Narrows op rels.now self) }
+    {
+        let mut left = self;
+        if left.has_empty() {
+            return Ok(left);
+        }
+        let mut times = Times::of(alloc, rels.len(), 0, &[true; 14])?;
+        left.ask_firsts(alloc, op, rels, &mut times)?;
+        Ok(left)
+    }
+
     /// Takes from the domains what the relations rule out. After an error nothing is said of what is left.
     pub(crate) fn narrow(
         &mut self,

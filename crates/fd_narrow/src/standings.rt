@@ -1,6 +1,7 @@
 // What the relations of a case leave of how the values of rs1 and rs2 stand to each other.
 ghost use Rattle.std.specs.Prelude.{◌≡◌, ◌↔◌, ℕ, ◌^◌, ◌<◌, IsTrue};
-ghost use Rattle.fd_prob.specs.Relations.{goes_to_target, holds, is_same, value_of};
+ghost use Rattle.rv_isa.specs.Arithmetic.{is_taken};
+ghost use Rattle.fd_prob.specs.Relations.{holds, is_same, value_of};
 ghost use Rattle.fd_prob.specs.declared.problem.Assignment.{Assignment};
 ghost use Rattle.fd_prob.specs.declared.slot.Slot.TheVariants as slots;
 ghost use Rattle.fd_narrow.specs.Narrowing.{IsInside, Narrows};
@@ -28,7 +29,7 @@ fn is_equal(how: Standing) -> bool
 
 /// Whether a branch goes to its target where the values stand so.
 fn is_met(op: Op, how: Standing) -> bool
-    ensures { (a b : ℕ) → a < 2 ^ 32 → b < 2 ^ 32 → standing (order_of op) a b ≡ how → goes_to_target op a b ≡ result }
+    ensures { (a b : ℕ) → a < 2 ^ 32 → b < 2 ^ 32 → standing (order_of op) a b ≡ how → is_taken op a b ≡ result }
 {
     match op {
         Op::Beq => how == Standing::Equal,

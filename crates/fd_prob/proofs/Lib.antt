@@ -1,5 +1,4 @@
 pub mod Addresses
-pub mod Branches
 pub mod Firsts
 pub mod Joins
 pub mod Fitted
@@ -8,4 +7,4 @@ pub mod Operations
 pub mod PageCounts
 pub mod Places
 pub mod Products
-pub mod Bools
+pub mod Mentioning

@@ -17,7 +17,7 @@ abbrev pub cut_by_all : List (Slot × List ℕ) → List (List ℕ) → List (Li
 cut_by_all [] doms = doms
 cut_by_all (cut ∷ cuts) doms = cut_by_all cuts (cut_by cut doms)
 
--- a case that does not stay has no row, so that nothing fits it, and its domains count as before
+-- a case that does not stay has no row, so that nothing fits it; its cut domains still count for the space and the pivots
 abbrev pub closed_by : Bool → List Rel
 closed_by true = []
 closed_by false = Rows [] ∷ []
@@ -25,7 +25,7 @@ closed_by false = Rows [] ∷ []
 abbrev pub extended_case : Extra → Bool → Case → Case
 extended_case e stays c = record { op = c.op; doms = cut_by_all e.cuts c.doms; rels = c.rels ++ e.rels ++ closed_by stays }
 
--- each case with its entry
+-- each case with its entry; there is one for each case
 abbrev pub extended_cases : Extra → List Bool → List Case → List Case
 extended_cases e (stays ∷ more) (c ∷ cs) = extended_case e stays c ∷ extended_cases e more cs
 extended_cases e stays cs = []

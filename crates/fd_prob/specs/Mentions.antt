@@ -1,16 +1,18 @@
 -- At which variables relations look.
-use Rattle.std.specs.Prelude.{Bool, ◌||◌, ◌==◌}
+use Rattle.std.specs.Prelude.{◌≡◌, Bool, true, ◌||◌, ◌==◌}
+use Rattle.fd_prob.specs.declared.problem.Assignment.{Assignment}
 use Rattle.fd_prob.specs.declared.relation.Rel.{Rel}
 use Rattle.fd_prob.specs.declared.relation.Rel.TheVariants.{Same, Differ, Sum, Taken, Holds, Linked, Target, Writes, In, Rows}
 use Rattle.fd_prob.specs.declared.slot.Slot.{Slot}
 use Rattle.fd_prob.specs.declared.slot.Slot.TheVariants as slots
+use Rattle.fd_prob.specs.Relations.{value_of}
 use Rattle.fd_prob.specs.Slots.{slot_number}
 
 -- both are one variable
 abbrev pub is_slot : Slot → Slot → Bool
 is_slot s t = slot_number s == slot_number t
 
--- the relation may look at the value of the variable, by what the operation is
+-- for some operation the relation looks at the value of the variable
 abbrev pub mentions : Rel → Slot → Bool
 mentions (Same s t) v = is_slot s v || is_slot t v
 mentions (Differ s t) v = is_slot s v || is_slot t v
@@ -22,3 +24,7 @@ mentions (Target pc set) v = is_slot slots.A v || is_slot slots.Imm v
 mentions Writes v = is_slot slots.Rs1 v || is_slot slots.A v || is_slot slots.Imm v || is_slot slots.Csr v || is_slot slots.OldCsr v
 mentions (In s set) v = is_slot s v
 mentions (Rows rows) v = is_slot slots.Ea v || is_slot slots.FirstPte v || is_slot slots.SecondPte v || is_slot slots.DataWord v
+
+-- both have the same values for all variables that the relation mentions
+abbrev pub Agree : Rel → Assignment → Assignment → Type 0
+Agree r x y = (t : Slot) → mentions r t ≡ true → value_of x t ≡ value_of y t

@@ -28,6 +28,7 @@ draw_of p s = slice_index p.pivots (slot_number s)
 abbrev pub allowed_ops : Problem → List ℕ
 allowed_ops p = map (λ c. c.op) (allowed_cases p)
 
+-- the domain of a variable in a case, if there is one
 abbrev pub domain_in : Option Case → Slot → List ℕ
 domain_in None s = []
 domain_in (Some c) s = domain_of c s

@@ -1,11 +1,11 @@
 -- What relations say of the values of a step's variables. The operation is that of the case in which the relation stands.
-use Rattle.std.specs.Prelude.{ℕ, ◌+◌, ◌-◌, ◌%◌, ◌^◌, Bool, true, false, not, ◌&&◌, ◌||◌, ◌==◌, nat_eq, nat_le, nat_lt, int_lt, bit_and, bit_or, if◌then◌else◌, List, Option, Some, None, slice_get, slice_index}
+use Rattle.std.specs.Prelude.{ℕ, ◌+◌, ◌-◌, ◌%◌, ◌^◌, Bool, true, false, not, ◌&&◌, ◌||◌, ◌==◌, nat_eq, bit_and, bit_or, if◌then◌else◌, List, Option, Some, None, slice_get, slice_index}
 use Rattle.std.specs.List.{list_any}
 use Rattle.dom_set.specs.Elements.{is_in}
 use Rattle.rv_csr.specs.Table.{is_legal_at}
 use Rattle.rv_isa.specs.declared.operation.Op.{Op}
-use Rattle.rv_isa.specs.declared.operation.Op.TheVariants.{Jal, Jalr, Beq, Bne, Blt, Bge, Bltu, Bgeu, Csrrw, Csrrs, Csrrc, Csrrwi, Csrrsi, Csrrci}
-use Rattle.rv_isa.specs.Arithmetic.{is_branch, signed}
+use Rattle.rv_isa.specs.declared.operation.Op.TheVariants.{Jal, Jalr, Csrrw, Csrrs, Csrrc, Csrrwi, Csrrsi, Csrrci}
+use Rattle.rv_isa.specs.Arithmetic.{is_branch, is_taken}
 use Rattle.fd_prob.specs.declared.problem.Assignment.{Assignment}
 use Rattle.fd_prob.specs.declared.relation.Quad.{Quad}
 use Rattle.fd_prob.specs.declared.relation.Rel.{Rel}
@@ -26,20 +26,10 @@ is_same x s t = value_of x s == value_of x t
 abbrev pub is_sum : Assignment → Slot → Slot → Slot → Bool
 is_sum x s t u = (value_of x s + value_of x t) % 2 ^ 32 == value_of x u
 
--- whether a branch goes to its target (Unprivileged, 2.5.2)
-abbrev pub goes_to_target : Op → ℕ → ℕ → Bool
-goes_to_target Beq a b = nat_eq a b
-goes_to_target Bne a b = not (nat_eq a b)
-goes_to_target Blt a b = int_lt (signed a) (signed b)
-goes_to_target Bge a b = not (int_lt (signed a) (signed b))
-goes_to_target Bltu a b = nat_lt a b
-goes_to_target Bgeu a b = nat_le b a
-goes_to_target _ a b = false
-
 -- the operation is a branch, and its condition on the values of rs1 and rs2 is true or, at false, false
 abbrev pub has_condition : Op → Assignment → Bool → Bool
-has_condition op x true = is_branch op && goes_to_target op (value_of x slots.A) (value_of x slots.B)
-has_condition op x false = is_branch op && not (goes_to_target op (value_of x slots.A) (value_of x slots.B))
+has_condition op x true = is_branch op && is_taken op (value_of x slots.A) (value_of x slots.B)
+has_condition op x false = is_branch op && not (is_taken op (value_of x slots.A) (value_of x slots.B))
 
 -- where a table has a value, it is this one
 abbrev pub agrees : Option (Option ℕ) → ℕ → Bool

@@ -1,10 +1,11 @@
--- The space of a problem: how many combinations a search may have to look at.
+-- The space of a problem: the number that is compared with a budget.
 use Rattle.std.specs.Prelude.{ℕ, zero, suc, ◌+◌, ◌-◌, ◌*◌, ◌/◌, ◌^◌, Bool, true, false, ◌&&◌, ◌==◌, nat_le, min, if◌then◌else◌, List, [], ◌∷◌, length, map, filter, find, filter_map, Option, Some, None}
 use Rattle.std.specs.List.{list_any}
 use Rattle.dom_set.specs.Elements.{is_in, numbers_below}
 use Rattle.rv_isa.specs.declared.operation.Op.{Op}
 use Rattle.rv_isa.specs.declared.table.Row.{Row}
 use Rattle.rv_isa.specs.declared.table.Row.TheVariants.{R, I, Shift, S, B, U, J, Csr, CsrImmediate, FenceSets, AddressFence, Fixed, DefinedIllegal}
+use Rattle.rv_isa.specs.Fields.{has_address}
 use Rattle.rv_isa.specs.Table.{row_of}
 use Rattle.fd_prob.specs.declared.problem.Case.{Case}
 use Rattle.fd_prob.specs.declared.problem.Problem.{Problem}
@@ -61,7 +62,7 @@ has_csr_source (AddressFence opcode funct3 funct7) = false
 has_csr_source (Fixed word) = false
 has_csr_source DefinedIllegal = false
 
--- the values of rs1, where they are what an instruction writes to a control and status register and are 4,096 at most
+-- how many values rs1 has, where they are what an instruction writes to a control and status register and are 4,096 at most, and else 1
 abbrev pub source_of : Op → ℕ → ℕ
 source_of op values = if has_csr_source (row_of op) && nat_le values 4096 then values else 1
 
@@ -87,25 +88,9 @@ allowed_case cases op = if_allowed (find (λ c. c.op == op) cases)
 abbrev pub allowed_cases : Problem → List Case
 allowed_cases p = filter_map (allowed_case p.cases) (numbers_from 0 58)
 
--- the opcodes LOAD and STORE (Unprivileged, 2.6)
-abbrev pub has_data_access : Row → Bool
-has_data_access (R opcode funct3 funct7) = false
-has_data_access (I opcode funct3) = opcode == 0x03
-has_data_access (Shift opcode funct3 funct7) = false
-has_data_access (S opcode funct3) = opcode == 0x23
-has_data_access (B opcode funct3) = false
-has_data_access (U opcode) = false
-has_data_access (J opcode) = false
-has_data_access (Csr opcode funct3) = false
-has_data_access (CsrImmediate opcode funct3) = false
-has_data_access (FenceSets opcode funct3) = false
-has_data_access (AddressFence opcode funct3 funct7) = false
-has_data_access (Fixed word) = false
-has_data_access DefinedIllegal = false
-
 -- the case of a load or store
 abbrev pub is_access : Case → Bool
-is_access c = has_data_access (row_of (op_numbered c.op))
+is_access c = has_address (row_of (op_numbered c.op))
 
 -- an address of the list lies in the page of 4,096 bytes with this number
 abbrev pub has_page : List ℕ → ℕ → Bool
@@ -119,6 +104,7 @@ pages_below n addresses = length (filter (has_page addresses) (numbers_below n))
 abbrev pub pages_of : List ℕ → ℕ
 pages_of addresses = pages_below (2 ^ 20) addresses
 
+-- how many pages have an address of a case
 abbrev pub pages_in : Option Case → ℕ
 pages_in None = 0
 pages_in (Some c) = pages_of (domain_of c slots.Ea)

@@ -1,6 +1,6 @@
 //! Problems: what a step may be, as domains of its variables and relations between them. An
-//! assignment gives each variable a value; it fits a problem where it is in the domains of one of the
-//! problem's cases and meets that case's relations. A problem's space is what a budget is compared with.
+//! assignment gives each variable a value; it fits a problem where it has the operation of one of the problem's
+//! cases, is in its domains and meets its relations. A problem's space is what a budget is compared with.
 #![tactic(auto)]
 
 mod copies;

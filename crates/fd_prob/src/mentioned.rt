@@ -11,7 +11,7 @@ fn is_slot(s: Slot, t: Slot) -> bool
     s.number() == t.number()
 }
 
-/// Whether the relation may look at the value of the variable, by what the operation is.
+/// Whether for some operation the relation looks at the value of the variable.
 pub fn mentions(rel: &Rel, v: Slot) -> bool
     ensures { result ≡ mentions rel.now v }
 {

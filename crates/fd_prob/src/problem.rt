@@ -32,7 +32,7 @@ pub struct Problem {
     pub cases: Items<Case>,
     /// The draws for the variables, in their order.
     pub pivots: [u32; 14],
-    /// How many pairs of page table entries a translation may start; 1 where there is none.
+    /// The choices of a new root entry times those of a new second one, each at least 1; 1 where nothing is translated.
     pub pairs: u64,
     /// The problem is that of a fetch.
     pub fetch: bool,
@@ -41,7 +41,7 @@ pub struct Problem {
 /// What a bias adds to a problem.
 #[derive(Drop)]
 pub struct Extra {
-    /// For each case, whether it stays; one that does not fits nothing.
+    /// For each case, whether it stays; nothing fits one that does not, and it still counts for the space and the pivots.
     pub cases: Items<bool>,
     /// Variables, and what their domains are cut to in each case.
     pub cuts: Items<(Slot, Set)>,

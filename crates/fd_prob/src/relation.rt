@@ -1,9 +1,9 @@
 // Relations between the variables of a step.
-ghost use Rattle.std.specs.Prelude.{◌≡◌, IsTrue, Some, None, nat_eq, if◌then◌else◌};
+ghost use Rattle.std.specs.Prelude.{◌≡◌, Some, None, nat_eq, if◌then◌else◌};
 ghost use Rattle.std.specs.List.{list_any};
 ghost use Rattle.rv_csr.specs.Table.{is_legal_at};
 ghost use Rattle.rv_isa.specs.Arithmetic.{is_branch};
-ghost use Rattle.fd_prob.specs.Relations.{goes_to_target, has_condition, has_target, holds, is_held, is_in_row, is_linked, is_same, is_sum, target_of, writes_legal, written_by};
+ghost use Rattle.fd_prob.specs.Relations.{has_condition, has_target, holds, is_held, is_in_row, is_linked, is_same, is_sum, target_of, writes_legal, written_by};
 
 use crate::Items;
 use crate::problem::Assignment;
@@ -28,14 +28,14 @@ pub struct Quad {
 pub enum Rel {
     /// Both variables have one value.
     Same(Slot, Slot),
-    /// They have two.
+    /// Their values differ.
     Differ(Slot, Slot),
     /// The first plus the second is the third, modulo 2^32.
     Sum(Slot, Slot, Slot),
     /// The case's operation is a branch, and on the values of rs1 and rs2 its condition is this one
     /// (Unprivileged, 2.5.2).
     Taken(bool),
-    /// Where the table has a value at the index, the value is that one.
+    /// Where the table has a value at the index variable's value, it is that of the other variable.
     Holds {
         index: Slot,
         value: Slot,
@@ -49,7 +49,7 @@ pub enum Rel {
     /// What the case's operation writes to the control and status register is legal; it holds where
     /// nothing is written (Unprivileged, Zicsr).
     Writes,
-    /// The variable's value is in the set, beside its domain where what both have in common would be in far more pieces.
+    /// The variable's value is in the set, which stands beside the domain since both together may be in far more pieces.
     In(Slot, Set),
     /// One of the rows has the address of the load or store, the page table entries and the data word.
     Rows(Items<Quad>),
@@ -67,15 +67,6 @@ fn is_sum(x: &Assignment, s: Slot, t: Slot, u: Slot) -> bool
     x.value(s).wrapping_add(x.value(t)) == x.value(u)
 }
 
-/// Whether a branch goes to its target where `a` is the value of rs1 and `b` that of rs2.
-#[tactic(auto, using(crate::proofs::Branches::decided))]
-fn goes_to_target(op: Op, a: u32, b: u32) -> bool
-    requires { IsTrue (is_branch op) }
-    ensures { result ≡ goes_to_target op a b }
-{
-    taken(op, a, b)
-}
-
 fn is_branch(op: Op) -> bool
     ensures { result ≡ is_branch op }
 {
@@ -89,7 +80,7 @@ fn has_condition(op: Op, x: &Assignment, condition: bool) -> bool
     ensures { result ≡ has_condition op x.now condition }
 {
     if is_branch(op) {
-        goes_to_target(op, x.value(Slot::A), x.value(Slot::B)) == condition
+        taken(op, x.value(Slot::A), x.value(Slot::B)) == condition
     } else {
         false
     }

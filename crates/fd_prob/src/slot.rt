@@ -10,7 +10,7 @@ pub enum Slot {
     /// The numbers of registers, 0 to 31.
     Rs1,
     Rs2,
-    /// The immediate as a word, by its sign where it has one.
+    /// The immediate as a word, sign-extended where its format is signed.
     Imm,
     Rd,
     /// The address of a control and status register.
@@ -24,7 +24,7 @@ pub enum Slot {
     /// The values of the page table entries that are started, the root's first (Privileged, 4.3.1).
     FirstPte,
     SecondPte,
-    /// The aligned word of a load or store.
+    /// The value of the aligned word of a load or store.
     DataWord,
     /// The value of a control and status register before it is read or written.
     OldCsr,

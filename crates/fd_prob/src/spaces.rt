@@ -1,8 +1,9 @@
 // The space of a problem.
 ghost use Rattle.std.specs.Prelude.{◌≡◌, ◌==◌, All, IfSome, filter_map, find, map, option_map};
+ghost use Rattle.rv_isa.specs.Fields.{has_address};
 ghost use Rattle.rv_isa.specs.Table.{row_of};
 ghost use Rattle.fd_prob.specs.Fitting.{IsCase, IsProblem};
-ghost use Rattle.fd_prob.specs.Spaces.{access_space, allowed_case, counted_fields, has_data_access, is_access, numbers_from, operation_space, product_of, saturated, size_in, source_of, space, sum_of};
+ghost use Rattle.fd_prob.specs.Spaces.{access_space, allowed_case, counted_fields, is_access, numbers_from, operation_space, product_of, saturated, size_in, source_of, space, sum_of};
 
 use crate::pages::pages_of;
 use crate::problem::{Case, Problem};
@@ -116,7 +117,7 @@ fn operations_space(cases: &[Case]) -> u64
 
 /// Whether the operation is a load or store.
 fn has_data_access(op: Op) -> bool
-    ensures { result ≡ has_data_access (row_of op) }
+    ensures { result ≡ has_address (row_of op) }
 {
     matches!(
         op,

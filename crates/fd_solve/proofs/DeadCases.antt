@@ -1,6 +1,5 @@
 -- Cases that nothing fits, by one relation.
-use Rattle.std.proofs.Common.{◌≡◌, ℕ, zero, suc, ◌<◌, ◌==◌, Bool, true, false, ◌&&◌, List, [], ◌∷◌, length, get_or, refl, sym, ap, ◌∙◌, arith}
-use Rattle.std.specs.List.{list_all}
+use Rattle.std.proofs.Common.{◌≡◌, ℕ, ◌<◌, ◌==◌, Bool, true, false, ◌&&◌, length, get_or, refl, sym, ap, ◌∙◌}
 use Rattle.rv_isa.specs.declared.operation.Op.{Op}
 use Rattle.rv_isa.specs.Numbers.{op_numbered}
 use Rattle.fd_prob.specs.declared.problem.Assignment.{Assignment}
@@ -12,21 +11,17 @@ use Rattle.fd_prob.specs.Relations.{holds, value_of}
 use Rattle.fd_prob.proofs.Fitted.{fits_its_case}
 use Rattle.case_search.specs.Equivalent.{IsEquivalent}
 use Rattle.case_search.specs.Search.{IsMadeOf}
+use Rattle.fd_solve.proofs.Barring.{not_all}
 
 and_false : (b : Bool) → (b && false) ≡ false
 and_false true = refl
 and_false false = refl
 
 -- a case with a relation that never holds
-all_false : (f : Rel → Bool) (rels : List Rel) (i : ℕ) (rel : Rel) → i < length rels → rel ≡ get_or rels i rel → f rel ≡ false → list_all f rels ≡ false
-all_false f [] i rel less here never = absurd (omega (arith, less))
-all_false f (r ∷ rels) zero rel less here never = ap (λ (b : Bool). b && list_all f rels) (ap f (sym here) ∙ never)
-all_false f (r ∷ rels) (suc i) rel less here never = ap (λ (b : Bool). f r && b) (all_false f rels i rel (omega (arith, less)) here never) ∙ and_false (f r)
-
 pub dead_case : (c : Case) (i : ℕ) (rel : Rel) → i < length c.rels → rel ≡ get_or c.rels i rel → ((op : Op) (x : Assignment) → holds op x rel ≡ false) → (x : Assignment) → fits_case x c ≡ false
 unfolding fits_case
 dead_case c i rel less here never x =
-    ap (λ (b : Bool). ((c.op == value_of x slots.Op) && is_within c x) && b) (all_false (holds (op_numbered c.op) x) c.rels i rel less here (never (op_numbered c.op) x))
+    ap (λ (b : Bool). ((c.op == value_of x slots.Op) && is_within c x) && b) (not_all (holds (op_numbered c.op) x) c.rels i rel less here (never (op_numbered c.op) x))
     ∙ and_false ((c.op == value_of x slots.Op) && is_within c x)
 
 -- what stands for it is of no assignment

@@ -8,7 +8,7 @@ use Rattle.fd_prob.specs.declared.problem.Problem.{Problem}
 use Rattle.fd_solve.specs.declared.answers.Solved.{Solved}
 use Rattle.fd_solve.specs.declared.answers.Solved.TheVariants as answers
 use Rattle.fd_solve.specs.Answers.{AreTaken, IsAnswer, Kept, kept_by}
-use Rattle.fd_solve.specs.Dropping.{LeafAnswersAreOfKept, extended_by, is_listed, kept_from}
+use Rattle.fd_solve.specs.Dropping.{KeptAreExtended, LeafAnswersAreOfKept, extended_by, is_listed, kept_from}
 
 other_number : (m n : ℕ) → m ≢ n → (m == n) ≡ false
 other_number m n ne = grind (arith, nat_tests)
@@ -57,8 +57,11 @@ kept nodes n (e ∷ es) before after free (answer, answered, rest) =
     kept nodes (n + 1) es (kept_by answer n e before) after (λ k le. step_other answer n e before k (λ same. absurd (omega (arith, same, le))) ∙ free k (omega (arith, le))) rest
     ∙ one_kept answer n e before (kept_from (n + 1) es after.dropped) (is_listed after.dropped n) (free n (omega arith)) (earlier nodes (n + 1) es (kept_by answer n e before) after rest n (omega arith))
 
+pub kept_extended : KeptAreExtended
+kept_extended p biases nodes after taken = kept nodes 0 biases (record { problem = p; dropped = [] }) after (λ k le. refl) taken
+
 pub leaf_answers : LeafAnswersAreOfKept
 leaf_answers p biases nodes answer (whole, taken, answered) =
     subst (λ (q : Problem). IsAnswer q nodes answer.solved)
-    (kept nodes 0 biases (record { problem = p; dropped = [] }) (record { problem = whole; dropped = answer.dropped }) (λ k le. refl) taken)
+    (kept_extended p biases nodes (record { problem = whole; dropped = answer.dropped }) taken)
     answered

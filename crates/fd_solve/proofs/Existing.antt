@@ -1,7 +1,8 @@
 -- Where something fits, there is a least assignment that does.
-use Rattle.std.proofs.Common.{◌≡◌, ℕ, zero, suc, ◌+◌, ◌^◌, ◌<◌, List, get_or, slice_index, ◌⊎◌, inl, inr, refl, sym, ap, ◌∙◌, subst, arith}
+use Rattle.std.proofs.Common.{◌≡◌, ℕ, zero, suc, ◌+◌, ◌^◌, ◌<◌, List, [], ◌∷◌, get_or, slice_index, ◌⊎◌, inl, inr, refl, sym, ap, ◌∙◌, subst, arith}
 use Rattle.std.proofs.lemmas.Bool.{cases_lt, false≢true}
 use Rattle.std.proofs.lemmas.List.{ext_get_or}
+use Rattle.std.proofs.lemmas.List.Elements.{All-from_recursion}
 use Rattle.fd_prob.specs.declared.problem.Assignment.{Assignment}
 use Rattle.fd_prob.specs.declared.problem.Problem.{Problem}
 use Rattle.fd_prob.specs.declared.slot.Slot.{Slot}
@@ -12,7 +13,7 @@ use Rattle.fd_prob.specs.Order.{ComesBefore, IsAssignment, pivot_of, rank}
 use Rattle.fd_prob.specs.Relations.{value_of}
 use Rattle.fd_prob.specs.Slots.{slot_number}
 use Rattle.fd_prob.proofs.Places.{in_place, place_below, same_slot}
-use Rattle.fd_solve.specs.Answers.{IsLeast}
+use Rattle.fd_solve.specs.Answers.{IsLeast, NothingFits}
 use Rattle.case_search.specs.Internal.Free.{put}
 use Rattle.fd_solve.specs.Internal.Operations.{IsFitting}
 use Rattle.case_search.proofs.Putting.{put_here, put_there, put_word, true_or_false, value_word}
@@ -76,6 +77,13 @@ all_agree y x of_y of_x agree =
     let e : slot_number (get_or SLOTS n slots.Op) ≡ n = in_place n slots.Op lt in
     subst (λ (k : ℕ). slice_index y.values k ≡ slice_index x.values k) e (agree (get_or SLOTS n slots.Op) (omega (arith, e, lt))) in
     ap (λ (vs : List ℕ). record { values = vs }) (ext_get_or 0 y.values x.values (of_y.length ∙ sym of_x.length) (λ n lt. each n (omega (arith, lt, of_y.length))))
+
+-- some assignment
+abbrev start : Assignment
+start = record { values = 0 ∷ 0 ∷ 0 ∷ 0 ∷ 0 ∷ 0 ∷ 0 ∷ 0 ∷ 0 ∷ 0 ∷ 0 ∷ 0 ∷ 0 ∷ 0 ∷ [] }
+
+starts : IsAssignment start
+starts = record { length = refl; words = let z : 0 < 2 ^ 32 = omega arith in All-from_recursion (λ v. v < 2 ^ 32) start.values (z, (z, (z, (z, (z, (z, (z, (z, (z, (z, (z, (z, (z, (z, tt)))))))))))))) }
 
 module _ (p : Problem) where
   -- of what fits and begins as x, one before which no other comes
@@ -146,6 +154,12 @@ module _ (p : Problem) where
   found_from (suc n) m all x is =
       let s : Slot = get_or SLOTS m slots.Op in
       one_more m x is s (in_place m slots.Op (omega (arith, all))) (λ v word. found_from n (suc m) (omega (arith, all)) (put x s v) (put_word x s v word is))
+
+  pub least_or_none : ((y : Assignment) × IsLeast p y) ⊎ NothingFits p
+  least_or_none = elim (found_from 14 0 (omega arith) start starts) [
+    | inl l ↦ inl (l.found, record { words = l.fitting.0; fitting = l.fitting.1; least = λ y words fits_y before. l.least y (words, fits_y) (λ r less. absurd (omega (arith, less))) before })
+    | inr none ↦ inr (λ y words fits_y. none y (words, fits_y) (λ r less. absurd (omega (arith, less))))
+  ]
 
   pub some_least : (x : Assignment) → IsFitting p x → (y : Assignment) × IsLeast p y
   some_least x fitting = elim (found_from 14 0 (omega arith) x fitting.0) [

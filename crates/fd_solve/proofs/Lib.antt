@@ -11,9 +11,10 @@ pub mod FirstMarks
 pub mod FirstCases
 pub mod Shrinking
 pub mod Existing
+pub mod Answered
 pub mod FittingMarks
 pub mod Biases
 pub mod Dropping
 pub mod Equivalence
 pub mod Asking
-pub mod Barred
+pub mod Barring

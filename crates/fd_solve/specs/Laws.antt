@@ -26,6 +26,10 @@ pub record OrderIsStrictAndTotal : Type 0 where
   pub chain : (p : Problem) (x y z : Assignment) → ComesBefore p x y → ComesBefore p y z → ComesBefore p x z
   pub total : (p : Problem) (x y : Assignment) → ArePivotsWords p → IsAssignment x → IsAssignment y → ComesBefore p x y ⊎ ((x ≡ y) ⊎ ComesBefore p y x)
 
+-- each problem has an answer under each budget
+abbrev pub AnswersExist : Type 0
+AnswersExist = (p : Problem) (nodes : ℕ) → (answer : Solved) × IsAnswer p nodes answer
+
 -- two answers of a problem under one budget are the same
 abbrev pub HasOneAnswer : Problem → ℕ → Type 0
 HasOneAnswer p nodes = (a b : Solved) → IsAnswer p nodes a → IsAnswer p nodes b → a ≡ b

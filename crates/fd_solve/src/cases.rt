@@ -1,19 +1,17 @@
 // The cases of one operation.
 ghost use Rattle.std.specs.Prelude.{◌≡◌, ◌<◌, ◌≤◌, All, IfOk, List, MatchOption, OnOk, false, length, true};
-ghost use Rattle.std.specs.List.{list_all};
 ghost use Rattle.rv_isa.specs.declared.operation.Op.{Op};
 ghost use Rattle.fd_prob.specs.declared.problem.Assignment.{Assignment};
 ghost use Rattle.fd_prob.specs.declared.problem.Case.{Case};
-ghost use Rattle.fd_prob.specs.Fitting.{IsCase, fits_case, is_within};
+ghost use Rattle.fd_prob.specs.Fitting.{IsCase, fits_case};
 ghost use Rattle.fd_prob.specs.Relations.{holds};
 ghost use Rattle.fd_solve.specs.Internal.Equivalent.{AreEquivalent, AreTried, IsTried};
 ghost use Rattle.fd_solve.specs.Internal.Marks.{IsSound, begun_of, marked_case, whole_of};
 ghost use Rattle.case_search.specs.Search.{Before, IsMadeOf, LeastOrNone};
-ghost use Rattle.fd_solve.specs.Internal.Meeting.{is_in_cut, meets_bias};
 ghost use Rattle.fd_solve.specs.Internal.Operations.{IsMadeOfAny};
 
+use crate::barred::is_barred;
 use crate::marked::{Marked, marked_case};
-use crate::refused::stays;
 use crate::sought::{Narrowing, Sought, Tried, losses_by};
 use case_search::{lesser, may_precede, narrow_again, solve_again, solve_case};
 use dom_set::OutOfMemory;
@@ -82,51 +80,6 @@ fn try_narrow(
     let least = solve_narrow(alloc, &narrow, pivots)?;
     tried.push((place, narrow))?;
     Ok(least)
-}
-
-/// Whether a variable's domain is seen to have nothing of what a bias cuts it to.
-fn is_cut_off(alloc: Global, case: &Case, bias: &Extra) -> Result<bool, OutOfMemory>
-    requires { IsCase case.now }
-    ensures { IfOk result (λ off. off ≡ true → (x : Assignment) → is_within case.now x ≡ true → list_all (is_in_cut x) bias.now.cuts ≡ false) }
-{
-    for (slot, set) in bias.cuts.as_slice() {
-        let both = case.domain(*slot).and(alloc, set)?;
-        if both.is_empty() {
-            return Ok(true);
-        }
-    }
-    Ok(false)
-}
-
-/// Whether nothing of the case at a place is seen to meet a bias.
-fn is_barred_by(alloc: Global, case: &Case, place: usize, bias: &Extra) -> Result<bool, OutOfMemory>
-    requires { IsCase case.now }
-    ensures { IfOk result (λ barred. barred ≡ true → (op : Op) (x : Assignment) → is_within case.now x ≡ true → meets_bias op x place bias.now ≡ false) }
-{
-    if !stays(bias, place) {
-        return Ok(true);
-    }
-    is_cut_off(alloc, case, bias)
-}
-
-/// Whether nothing of the case at a place is seen to meet one of the marked biases.
-fn is_barred(
-    alloc: Global,
-    biases: &[Extra],
-    marks: &[bool],
-    case: &Case,
-    place: usize,
-) -> Result<bool, OutOfMemory>
-    requires case { IsCase case.now }
-    requires marks { length marks.now ≤ length biases.now }
-    ensures { IfOk result (λ barred. barred ≡ true → (x : Assignment) → fits_case x (marked_case marks.now biases.now place case.now) ≡ false) }
-{
-    for (i, mark) in marks.iter().enumerate() {
-        if *mark && is_barred_by(alloc, case, place, &biases[i])? {
-            return Ok(true);
-        }
-    }
-    Ok(false)
 }
 
 /// The least assignment that is of the case at a place, with what the marked biases add to it.

@@ -1,7 +1,8 @@
 // Laws of answers.
+ghost use Rattle.std.specs.Prelude.{ℕ};
 ghost use Rattle.fd_prob.specs.Fitting.{IsProblem};
-ghost use Rattle.fd_solve.specs.Dropping.{LeafAnswersAreOfKept};
-ghost use Rattle.fd_solve.specs.Laws.{ArePivotsWords, HasOneAnswer, OperationsAreInOrder, OrderIsStrictAndTotal};
+ghost use Rattle.fd_solve.specs.Dropping.{KeptAreExtended, LeafAnswersAreOfKept, LeafAnswersExist};
+ghost use Rattle.fd_solve.specs.Laws.{AnswersExist, ArePivotsWords, HasOneAnswer, OperationsAreInOrder, OrderIsStrictAndTotal};
 
 use crate::pivots::pivots_are_words;
 use fd_prob::Problem;
@@ -13,15 +14,20 @@ pub fn order_law()
 {}
 
 /// Changes nothing. Its contract says that the pivots of a problem are words, so that the order of its
-/// assignments is total, and that it has one answer under a budget of so many nodes.
-pub fn answer_law(p: &Problem, nodes: u64)
+/// assignments is total, and that it has one answer under a budget.
+pub fn answer_law(p: &Problem)
     requires { IsProblem p.now }
     ensures pivots { ArePivotsWords p.now }
-    ensures one { HasOneAnswer p.now nodes }
+    ensures one { (nodes : ℕ) → HasOneAnswer p.now nodes }
 {
     pivots_are_words(p);
-    let _ = nodes;
 }
+
+/// Does nothing. Its contract says that each problem, and each leaf, has an answer under each budget.
+pub fn existence_law()
+    ensures answers { AnswersExist }
+    ensures leaves { LeafAnswersExist }
+{}
 
 /// Does nothing. Its contract says that the numbers of operations, by which a search goes from one to the next,
 /// are in the order of the table of instructions.
@@ -29,8 +35,9 @@ pub fn operation_law()
     ensures { OperationsAreInOrder }
 {}
 
-/// Does nothing. Its contract says that the answer of a leaf is that of the problem with the biases that it does not
-/// list as dropped, in their order.
+/// Does nothing. Its contract says that biases are taken by extending the problem by those that are not listed as dropped, in
+/// their order, and that the answer of a leaf is that of this problem.
 pub fn leaf_law()
-    ensures { LeafAnswersAreOfKept }
+    ensures kept { KeptAreExtended }
+    ensures answer { LeafAnswersAreOfKept }
 {}

@@ -5,6 +5,7 @@
 #![tactic(auto)]
 
 mod answers;
+mod barred;
 mod cases;
 mod firsts;
 mod known;
@@ -20,6 +21,6 @@ mod sought;
 
 pub use answers::{LeafAnswer, Solved};
 pub use dom_set::OutOfMemory;
-pub use laws::{answer_law, leaf_law, operation_law, order_law};
+pub use laws::{answer_law, existence_law, leaf_law, operation_law, order_law};
 pub use leaf::solve_leaf;
 pub use operations::solve;

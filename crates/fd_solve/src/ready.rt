@@ -11,7 +11,7 @@ ghost use Rattle.fd_solve.specs.Internal.Ready.{IsReady};
 use crate::answers::Solved;
 use crate::marked::Marked;
 use crate::operations::searched;
-use crate::sought::{Narrow, Tried, put_tried, refuse};
+use crate::sought::{Narrow, Tried, note_tried, put_tried, refuse};
 use dom_set::OutOfMemory;
 use fd_prob::Extra;
 use std::alloc::Global;
@@ -134,6 +134,7 @@ impl Ready {
         let rest = self.begun(marked);
         let mut tried = Vec::new(alloc);
         let solved = searched(alloc, &rest, &mut self.narrow, &mut tried)?;
+        note_tried(&mut self.narrow);
         Ok((solved, tried))
     }
 

@@ -8,9 +8,10 @@ ghost use Rattle.fd_solve.specs.Internal.Asking.{AsksFor};
 ghost use Rattle.fd_solve.specs.Internal.Equivalent.{AreEquivalent, AreMarked, AreTried, StandFor};
 ghost use Rattle.fd_solve.specs.Internal.Marks.{IsSound, begun_of, whole_of};
 
+use crate::barred::is_barred;
 use crate::marked::{Marked, marked_case};
 use crate::refused::{asked_by, less, stays};
-use case_search::narrow_again;
+use case_search::{narrow_again, narrow_soon};
 use dom_set::{OutOfMemory, Set};
 use fd_narrow::Losses;
 use fd_prob::{Case, Extra, Problem, Slot};
@@ -35,6 +36,8 @@ pub struct Narrowing {
     /// Whether a search tried the case with further biases since it was narrowed or lost values; where it was never narrowed,
     /// whether any did.
     was_tried: bool,
+    /// Whether it was narrowed by what takes little time, before it is tried.
+    was_cut: bool,
 }
 
 /// Narrow cases that a search made, each with the place of the case that it stands for.
@@ -99,6 +102,7 @@ impl Narrowing {
             known: 0,
             losses: [true; 14],
             was_tried: false,
+            was_cut: false,
         }
     }
 
@@ -108,6 +112,7 @@ impl Narrowing {
             known: case.rels.as_slice().len(),
             losses: [false; 14],
             was_tried: false,
+            was_cut: false,
         }
     }
 
@@ -117,6 +122,7 @@ impl Narrowing {
             known: self.known,
             losses: either(&self.losses, more),
             was_tried: self.was_tried && self.known == 0,
+            was_cut: false,
         }
     }
 
@@ -126,6 +132,17 @@ impl Narrowing {
             known: self.known,
             losses: self.losses,
             was_tried: true,
+            was_cut: self.was_cut,
+        }
+    }
+
+    /// The same, where the case was narrowed by what takes little time.
+    fn cut(&self) -> Narrowing {
+        Narrowing {
+            known: self.known,
+            losses: self.losses,
+            was_tried: self.was_tried,
+            was_cut: true,
         }
     }
 
@@ -302,11 +319,46 @@ impl Narrow {
         Ok(())
     }
 
-    /// Narrows the case at a place, if it may lose values by that. Where the search tries it with further biases, it is left as
-    /// it is the first time: what is made of it is narrowed by all at once.
-    fn settle_at(&mut self, alloc: Global, place: usize, tries: bool) -> Result<(), OutOfMemory>
+    /// Notes that a search tried its cases with further biases.
+    fn note_tried(&mut self)
+        ensures { self.new ≡ self.old }
+    {
+        for place in 0..self.narrowings.len() {
+            let narrowing = self.narrowing(place);
+            self.note(place, narrowing.tried());
+        }
+    }
+
+    /// Narrows the case at a place by what takes little time, if it was not since it lost values.
+    fn cut_at(&mut self, alloc: Global, place: usize) -> Result<(), OutOfMemory>
         requires cases { All IsCase self.old }
         requires place { place < length self.old }
+        ensures { OnOk result ((cases : List Case) → AreEquivalent cases self.old → AreEquivalent cases self.new) }
+    {
+        let narrowing = self.narrowing(place);
+        if narrowing.was_cut {
+            return Ok(());
+        }
+        let same = self.case_at(place).copy(alloc)?;
+        let made = narrow_soon(alloc, same)?;
+        self.note(place, narrowing.cut());
+        self.put(place, made);
+        Ok(())
+    }
+
+    /// Narrows the case at a place, if it may lose values by that. It is left as it is where nothing of it is seen to meet the
+    /// further biases, the marked ones, with which the search tries it. The first time that it is tried it is narrowed only by
+    /// what takes little time: what is made of it then is narrowed by all at once.
+    fn settle_at(
+        &mut self,
+        alloc: Global,
+        biases: &[Extra],
+        marks: &[bool],
+        place: usize,
+    ) -> Result<(), OutOfMemory>
+        requires cases { All IsCase self.old }
+        requires place { place < length self.old }
+        requires marks { length marks.now ≤ length biases.now }
         ensures { OnOk result ((cases : List Case) → AreEquivalent cases self.old → AreEquivalent cases self.new) }
     {
         let narrowing = self.narrowing(place);
@@ -314,8 +366,10 @@ impl Narrow {
         if !narrowing.is_pending(case) {
             return Ok(());
         }
-        if tries && !narrowing.was_tried {
-            self.note(place, narrowing.tried());
+        if !marks.is_empty() && !narrowing.was_tried {
+            return self.cut_at(alloc, place);
+        }
+        if is_barred(alloc, biases, marks, case, place)? {
             return Ok(());
         }
         let same = case.copy(alloc)?;
@@ -324,14 +378,21 @@ impl Narrow {
         Ok(())
     }
 
-    /// Narrows the cases of an operation.
-    pub fn settle(&mut self, alloc: Global, op: u8, tries: bool) -> Result<(), OutOfMemory>
-        requires { All IsCase self.old }
+    /// Narrows the cases of an operation, which the search tries with further biases, the marked ones.
+    pub fn settle(
+        &mut self,
+        alloc: Global,
+        biases: &[Extra],
+        marks: &[bool],
+        op: u8,
+    ) -> Result<(), OutOfMemory>
+        requires cases { All IsCase self.old }
+        requires marks { length marks.now ≤ length biases.now }
         ensures { OnOk result ((cases : List Case) → AreEquivalent cases self.old → AreEquivalent cases self.new) }
     {
         for place in 0..self.count() {
             if self.case_at(place).op == op {
-                self.settle_at(alloc, place, tries)?;
+                self.settle_at(alloc, biases, marks, place)?;
             }
         }
         Ok(())
@@ -377,6 +438,16 @@ pub fn put_tried(narrow: &mut Option<Narrow>, marked: &Marked, tried: Tried)
     }
 }
 
+/// Notes that a search tried the cases with further biases, where there are some.
+pub fn note_tried(narrow: &mut Option<Narrow>)
+    ensures { narrow.new ≡ narrow.old }
+{
+    match narrow {
+        Some(cases) => cases.note_tried(),
+        None => {}
+    }
+}
+
 /// Cases that stand for these with what marked biases add to them.
 fn marked_cases(
     alloc: Global,
@@ -396,20 +467,24 @@ fn marked_cases(
     Ok(made)
 }
 
-/// Narrows the cases of an operation that stand for those of the problem with the first marks, where there are some. Where marks
-/// are left, the search tries them with further biases.
+/// Narrows the cases of an operation that stand for those of the problem with the first marks, where there are some. The search
+/// tries them with the biases of the marks that are left.
 pub fn settle(
     narrow: &mut Option<Narrow>,
     alloc: Global,
     marked: &Marked,
     op: u8,
 ) -> Result<(), OutOfMemory>
+    requires sound { IsSound marked.now }
+    requires from { marked.now.from ≤ length marked.now.marks.now }
     requires narrow { StandFor (begun_of marked.now).cases narrow.old }
     ensures narrow { OnOk result (StandFor (begun_of marked.now).cases narrow.new) }
     ensures idle { OnOk result (narrow.new ≡ None → narrow.old ≡ None) }
 {
+    let biases = &marked.biases[marked.from..];
+    let marks = &marked.marks[marked.from..];
     match narrow {
-        Some(cases) => cases.settle(alloc, op, marked.from < marked.marks.len()),
+        Some(cases) => cases.settle(alloc, biases, marks, op),
         None => Ok(()),
     }
 }

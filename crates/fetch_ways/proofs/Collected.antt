@@ -12,6 +12,7 @@ use Rattle.rv_mem.specs.Ram.{in_ram}
 use Rattle.rv_mem.specs.Seen.{is_there}
 use Rattle.rv_script.specs.Folds.{Entry}
 use Rattle.rv_script.specs.Lists.{HasItem}
+use Rattle.rv_script.proofs.Items.{has_either, has_first, has_second}
 use Rattle.sv_walk.specs.declared.entry.Kind.TheVariants.{Fetch as ForFetch}
 use Rattle.sv_walk.specs.declared.entry.View.{View}
 use Rattle.sv_walk.specs.Translation.{At, Fails, Reached}
@@ -40,28 +41,6 @@ use Rattle.fetch_ways.specs.Ways.{AreFetchWays, IsFetchGround, is_free_walk, kee
 use Rattle.fetch_ways.specs.Internal.Keeping.{end_for, keeps_with, passes, seconds_of, way_of, way_to, way_with, ways_of}
 use Rattle.fetch_ways.proofs.Listed.{first_same, second_same}
 use Rattle.fetch_ways.proofs.Walked.{IsInside, fetch_setting, keeps_is, leads_inside, root_is}
-
--- LISTS
-has_left : {A : Type 0} (xs ys : List A) (x : A) → HasItem xs x → HasItem (xs ++ ys) x
-has_left [] ys x i = absurd i
-has_left (z ∷ xs) ys x i = elim i [
-  | inl here ↦ inl here
-  | inr there ↦ inr (has_left xs ys x there)
-]
-
-has_right : {A : Type 0} (xs ys : List A) (x : A) → HasItem ys x → HasItem (xs ++ ys) x
-has_right [] ys x i = i
-has_right (z ∷ xs) ys x i = inr (has_right xs ys x i)
-
-has_parts : {A : Type 0} (xs ys : List A) (x : A) → HasItem (xs ++ ys) x → HasItem xs x ⊎ HasItem ys x
-has_parts [] ys x i = inr i
-has_parts (z ∷ xs) ys x i = elim i [
-  | inl here ↦ inl (inl here)
-  | inr there ↦ elim (has_parts xs ys x there) [
-    | inl j ↦ inl (inr j)
-    | inr j ↦ inr j
-  ]
-]
 
 -- ROWS
 -- where a row leads the pc
@@ -195,7 +174,7 @@ way_there (k ∷ ks) second end v h = inl refl
 
 from_ways : (at : ℕ → Seen) (feet : List Touch) (hart : ℕ) (view : View) (pc : ℕ) (listed : List ℕ) (rs : List Row) (way : FetchWay) → HasItem (ways_of at feet hart view pc listed rs) way → (row : Row) × HasItem rs row × HasItem (way_of at feet hart view pc listed row) way
 from_ways at feet hart view pc listed [] way i = absurd i
-from_ways at feet hart view pc listed (r ∷ rs) way i = elim (has_parts (way_of at feet hart view pc listed r) (ways_of at feet hart view pc listed rs) way i) [
+from_ways at feet hart view pc listed (r ∷ rs) way i = elim (has_either (way_of at feet hart view pc listed r) (ways_of at feet hart view pc listed rs) way i) [
   | inl here ↦ (r, inl refl, here)
   | inr there ↦ let f = from_ways at feet hart view pc listed rs way there in (f.0, inr f.1, f.2)
 ]
@@ -203,8 +182,8 @@ from_ways at feet hart view pc listed (r ∷ rs) way i = elim (has_parts (way_of
 in_ways : (at : ℕ → Seen) (feet : List Touch) (hart : ℕ) (view : View) (pc : ℕ) (listed : List ℕ) (rs : List Row) (row : Row) (way : FetchWay) → HasItem rs row → HasItem (way_of at feet hart view pc listed row) way → HasItem (ways_of at feet hart view pc listed rs) way
 in_ways at feet hart view pc listed [] row way i j = absurd i
 in_ways at feet hart view pc listed (r ∷ rs) row way i j = elim i [
-  | inl here ↦ has_left (way_of at feet hart view pc listed r) (ways_of at feet hart view pc listed rs) way (subst (λ (z : Row). HasItem (way_of at feet hart view pc listed z) way) (sym here) j)
-  | inr there ↦ has_right (way_of at feet hart view pc listed r) (ways_of at feet hart view pc listed rs) way (in_ways at feet hart view pc listed rs row way there j)
+  | inl here ↦ has_first (way_of at feet hart view pc listed r) (ways_of at feet hart view pc listed rs) way (subst (λ (z : Row). HasItem (way_of at feet hart view pc listed z) way) (sym here) j)
+  | inr there ↦ has_second (way_of at feet hart view pc listed r) (ways_of at feet hart view pc listed rs) way (in_ways at feet hart view pc listed rs row way there j)
 ]
 
 -- what is known of a turn and its rows

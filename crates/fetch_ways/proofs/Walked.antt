@@ -6,6 +6,7 @@ use Rattle.rv_isa.specs.declared.instruction.Instr.{Instr}
 use Rattle.rv_isa.specs.declared.operation.Op.TheVariants.{Lw}
 use Rattle.rv_mem.specs.declared.words.Seen.{Seen}
 use Rattle.rv_mem.specs.declared.words.Seen.TheVariants.{Vacant}
+use Rattle.rv_mem.specs.Frames.{in_frames}
 use Rattle.rv_mem.specs.Part.{valued}
 use Rattle.rv_mem.specs.Seen.{is_known}
 use Rattle.rv_script.specs.declared.place.Place.TheVariants.{Word}
@@ -22,7 +23,7 @@ use Rattle.sv_walk.specs.declared.entry.View.{View}
 use Rattle.sv_walk.specs.Entry.{access_cause, is_closed, is_invalid, is_pointer, is_reserved, is_unaligned, page_cause}
 use Rattle.sv_walk.specs.Translation.{At, Fails, Reached, arrived, is_in_ram, is_translated, root_address, second_address, second_end}
 use Rattle.sv_walk.proofs.Orders.{translated_between}
-use Rattle.row_parts.specs.Internal.Classes.{seen_at}
+use Rattle.row_parts.specs.Classes.{seen_at}
 use Rattle.addr_rows.specs.Combinations.{Setting}
 use Rattle.addr_rows.specs.Walks.{Shows, entry_answers, root_place, seen_by}
 use Rattle.addr_rows.proofs.Playing.{access_fails, all_played, all_plays, entry, page_fails, pointer_played, root_played, root_question, rooted_played, second_done, second_place, second_question, seen_is}
@@ -32,7 +33,7 @@ use Rattle.leaf_link.specs.Cases.{is_some_word}
 use Rattle.leaf_link.specs.FetchRows.{FetchWalks, entry_values}
 use Rattle.leaf_link.specs.Fetches.{fetch_script}
 use Rattle.leaf_link.specs.Served.{setting_of}
-use Rattle.leaf_link.specs.Turns.{Turn, in_frames, is_first_form, is_free, may_start, word_address_of}
+use Rattle.leaf_link.specs.Turns.{Turn, is_first_form, is_free, may_start, word_address_of}
 use Rattle.leaf_link.specs.Values.{given_by}
 use Rattle.fetch_ways.specs.declared.way.FetchEnd.{FetchEnd}
 use Rattle.fetch_ways.specs.declared.way.FetchEnd.TheVariants as ends
@@ -152,14 +153,14 @@ inside_after ram e (Does log end) h = h
 inside_after ram e (Missing place) h = tt
 inside_after ram e Nowhere h = tt
 
-arrived_inside : (ram : ℕ → Bool) (kind : Kind) (addr : ℕ) → IsInside ram (arrived ram kind addr)
+pub arrived_inside : (ram : ℕ → Bool) (kind : Kind) (addr : ℕ) → IsInside ram (arrived ram kind addr)
 arrived_inside ram kind addr = go (is_in_ram ram addr) refl
   where
     go : (b : Bool) → is_in_ram ram addr ≡ b → IsInside ram (if b then At addr else Fails (access_cause kind))
     go true h = h
     go false h = tt
 
-second_inside : (ram : ℕ → Bool) (v : View) (kind : Kind) (x w : ℕ) → IsInside ram (second_end ram v kind x w)
+pub second_inside : (ram : ℕ → Bool) (v : View) (kind : Kind) (x w : ℕ) → IsInside ram (second_end ram v kind x w)
 unfolding second_end
 second_inside ram v kind x w = go (is_invalid w || (is_pointer w || is_closed v kind w))
   where

@@ -1,16 +1,16 @@
 // The forms of new page table entries as sets, and how many pairs of them there are.
 ghost use Rattle.std.specs.Prelude.{◌≡◌, ◌≤◌, ◌<◌, ◌+◌, ◌*◌, ◌^◌, ℕ, length, max, if◌then◌else◌, IfOk};
-ghost use Rattle.dom_set.specs.Elements.{elements_of, is_in, is_within};
+ghost use Rattle.dom_set.specs.Elements.{is_in};
 ghost use Rattle.sv_walk.specs.Translation.{is_translated};
 ghost use Rattle.leaf_link.specs.Firsts.{pairs_at};
 ghost use Rattle.leaf_link.specs.Turns.{Turn, is_first_form, is_second_form};
 ghost use Rattle.fetch_ways.specs.Ways.{HasForms};
 
 use dom_set::{OutOfMemory, Set, set_laws};
-use row_parts::Forms;
+use row_parts::{Forms, set_of};
 use rv_csr::Priv;
 use std::alloc::Global;
-use sv_walk::View;
+use sv_walk::{View, is_translated};
 
 /// The forms of new page table entries.
 #[derive(Drop)]
@@ -19,28 +19,6 @@ pub struct EntryForms {
     pub first: Set,
     /// What a new second entry may be.
     pub second: Set,
-}
-
-/// Each number of a list, as a range.
-#[tactic(auto, using(row_parts::proofs::Sharing::single_pushed, row_parts::proofs::Lists::any_rest, row_parts::proofs::Lists::any_done, row_parts::proofs::Lists::or_false))]
-fn singles(alloc: Global, values: &[u32]) -> Result<Vec<(u32, u32)>, OutOfMemory>
-    ensures { IfOk result (λ rs. (w : ℕ) → is_within rs.items w ≡ is_in values.now w) }
-{
-    let mut ranges = Vec::new(alloc);
-    for value in values {
-        ranges.push((*value, *value))?;
-    }
-    Ok(ranges)
-}
-
-/// The numbers of a list.
-pub fn set_of(alloc: Global, values: &[u32]) -> Result<Set, OutOfMemory>
-    ensures { IfOk result (λ s. s ≡ elements_of (is_in values.now)) }
-{
-    set_laws();
-    let ranges = singles(alloc, values)?;
-    let set = Set::from_ranges(alloc, &ranges, 1)?;
-    Ok(set)
 }
 
 /// The forms of new page table entries as sets.
@@ -54,13 +32,6 @@ pub fn entry_forms(alloc: Global, forms: &Forms) -> Result<EntryForms, OutOfMemo
     let first = set_of(alloc, &firsts)?;
     let second = set_of(alloc, &seconds)?;
     Ok(EntryForms { first, second })
-}
-
-/// Whether addresses are translated.
-pub fn is_translated(view: View) -> bool
-    ensures { result ≡ is_translated view }
-{
-    !matches!(view.privilege, Priv::M) && view.satp >= 0x8000_0000
 }
 
 /// How many pairs there are of so many tables, frames and flag bytes.

@@ -1,5 +1,5 @@
 // The ways of a fetch.
-ghost use Rattle.std.specs.Prelude.{◌≡◌, ◌%◌, ◌<◌, ◌^◌, ◌++◌, [], ◌∷◌, if◌then◌else◌, ℕ, List, All, filter, IfOk, OnOk};
+ghost use Rattle.std.specs.Prelude.{◌≡◌, ◌%◌, ◌<◌, ◌++◌, [], ◌∷◌, if◌then◌else◌, ℕ, List, filter, IfOk, OnOk};
 ghost use Rattle.dom_set.specs.Elements.{is_in};
 ghost use Rattle.rv_mem.specs.Ram.{in_ram};
 ghost use Rattle.rv_mem.specs.Seen.{is_there};
@@ -9,28 +9,17 @@ ghost use Rattle.leaf_link.specs.Turns.{Turn};
 ghost use Rattle.fetch_ways.specs.Internal.Keeping.{end_for, passes, seconds_of, way_of, ways_of};
 ghost use Rattle.fetch_ways.specs.Ways.{AreFetchWays, IsFetchGround};
 
-use crate::forms::set_of;
 use crate::walker::Walker;
 use crate::way::{FetchEnd, FetchWay};
-use addr_rows::{rows, rows_are_walks};
+use addr_rows::{has_value, rows, rows_are_walks};
 use dom_set::{OutOfMemory, Set, set_laws};
 use foot_map::FootMap;
 use leaf_link::rows_serve_leaves;
-use row_parts::{Forms, Row, RowEnd, counts};
+use row_parts::{Forms, Row, RowEnd, counts, form_law, set_of};
 use rv_isa::Instr;
 use rv_mem::{Ram, Words};
 use std::alloc::Global;
 use sv_walk::{Kind, View};
-
-/// Whether a value is one of these new entries, or 0 where there are none.
-fn has_value(entries: &Option<Set>, value: u32) -> bool
-    ensures { result ≡ has_value entries.now value }
-{
-    match entries {
-        Some(set) => set.has(value),
-        None => value == 0,
-    }
-}
 
 /// Where a row leads the pc, if it leads somewhere or fails.
 fn end_for(pc: u32, end: RowEnd) -> Option<FetchEnd>
@@ -136,13 +125,6 @@ impl<'a, M: Words> Walker<'a, M> {
     }
 }
 
-/// Does nothing. Its contract says that frames and flag bytes are what their types can hold.
-fn words(tables: &[u32], pool: &[u32], flags: &[u8])
-    ensures tables { All (λ t. t < 2 ^ 32) tables.now }
-    ensures pool { All (λ p. p < 2 ^ 32) pool.now }
-    ensures flags { All (λ b. b < 256) flags.now }
-{}
-
 /// The ways of the fetch of a hart that stands at a pc and sees addresses as `view` says: each choice of new page table
 /// entries of the forms, by where it leads, whose walk races with nothing. Where an entry is new and the pc leads to an
 /// address, the word there is not known, and is none of the new entries.
@@ -162,7 +144,7 @@ pub fn fetch_ways<M: Words>(
     set_laws();
     rows_are_walks::<Instr>();
     rows_serve_leaves();
-    words(&forms.tables, &forms.pool, &forms.flags);
+    form_law(&forms.tables, &forms.pool, &forms.flags);
     let page = Set::from_ranges(alloc, &[(pc, pc)], 1)?;
     let found = rows(alloc, m, ram, view, Kind::Fetch, &page, forms)?;
     // A root entry that is not new stands as 0.

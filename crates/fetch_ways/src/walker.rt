@@ -4,13 +4,12 @@ ghost use Rattle.std.specs.List.{list_any};
 ghost use Rattle.fetch_ways.specs.Internal.Keeping.{is_clear, keeps_behind, keeps_with};
 ghost use Rattle.fetch_ways.specs.Ways.{is_free_walk};
 
-use crate::forms::is_translated;
 use crate::way::FetchEnd;
 use foot_map::FootMap;
 use row_parts::word_at;
 use rv_mem::{Seen, Words};
 use rv_script::Role;
-use sv_walk::{View, is_invalid, is_pointer};
+use sv_walk::{View, is_invalid, is_pointer, is_translated};
 
 /// What a fetch's walk rests on: memory, what was touched, and where the hart stands.
 #[derive(Drop)]

@@ -6,6 +6,7 @@ use Rattle.rv_script.specs.declared.access.Role.{Role}
 use Rattle.rv_script.specs.declared.access.Role.TheVariants.{Fetch, Walk, Load, Store}
 use Rattle.rv_script.specs.Lists.{HasItem}
 use Rattle.rv_script.specs.Bytes.{covers, is_look}
+use Rattle.rv_script.proofs.Items.{has_first, has_old_or_last, has_last}
 use Rattle.foot_map.specs.declared.clash.Clash.{Clash}
 use Rattle.foot_map.specs.declared.touch.Touch.{Touch}
 use Rattle.foot_map.specs.Touches.{has, is_part, same_role, IsInWord}
@@ -106,28 +107,10 @@ fewer did more among free = record {
 }
 
 -- ---- one access more
-item_cases : (xs : List Access) (x y : Access) → HasItem (xs ++ x ∷ []) y → HasItem xs y ⊎ (x ≡ y)
-item_cases [] x y (inl h) = inr h
-item_cases [] x y (inr h) = absurd h
-item_cases (z ∷ zs) x y (inl h) = inl (inl h)
-item_cases (z ∷ zs) x y (inr h) = elim (item_cases zs x y h) [
-  | inl old ↦ inl (inr old)
-  | inr new ↦ inr new
-]
-
-item_old : (xs : List Access) (x y : Access) → HasItem xs y → HasItem (xs ++ x ∷ []) y
-item_old [] x y h = absurd h
-item_old (z ∷ zs) x y (inl h) = inl h
-item_old (z ∷ zs) x y (inr h) = inr (item_old zs x y h)
-
-item_new : (xs : List Access) (x : Access) → HasItem (xs ++ x ∷ []) x
-item_new [] x = inl refl
-item_new (z ∷ zs) x = inr (item_new zs x)
-
 with_cases : (did : ℕ → List Access) (k : ℕ) (x : Access) (j : ℕ) (y : Access) → HasItem (with_access did k x j) y → HasItem (did j) y ⊎ ((j ≡ k) × (x ≡ y))
 with_cases did k x j y h = go (eqb j k) refl h where
   go : (b : Bool) → eqb j k ≡ b → HasItem (cond b (did k ++ x ∷ []) (did j)) y → HasItem (did j) y ⊎ ((j ≡ k) × (x ≡ y))
-  go true e i = let is = eqb-true j k e in elim (item_cases (did k) x y i) [
+  go true e i = let is = eqb-true j k e in elim (has_old_or_last (did k) x y i) [
     | inl old ↦ inl (subst (λ (n : ℕ). HasItem (did n) y) (sym is) old)
     | inr new ↦ inr (is, new)
   ]
@@ -136,11 +119,11 @@ with_cases did k x j y h = go (eqb j k) refl h where
 with_old : (did : ℕ → List Access) (k : ℕ) (x : Access) (j : ℕ) (y : Access) → HasItem (did j) y → HasItem (with_access did k x j) y
 with_old did k x j y h = go (eqb j k) refl where
   go : (b : Bool) → eqb j k ≡ b → HasItem (cond b (did k ++ x ∷ []) (did j)) y
-  go true e = item_old (did k) x y (subst (λ (n : ℕ). HasItem (did n) y) (eqb-true j k e) h)
+  go true e = has_first (did k) (x ∷ []) y (subst (λ (n : ℕ). HasItem (did n) y) (eqb-true j k e) h)
   go false e = h
 
 with_new : (did : ℕ → List Access) (k : ℕ) (x : Access) → HasItem (with_access did k x k) x
-with_new did k x = subst (λ (b : Bool). HasItem (cond b (did k ++ x ∷ []) (did k)) x) (sym (eq-eqb k k refl)) (item_new (did k) x)
+with_new did k x = subst (λ (b : Bool). HasItem (cond b (did k ++ x ∷ []) (did k)) x) (sym (eq-eqb k k refl)) (has_last (did k) x)
 
 -- ---- bytes
 covers_parts : (x : Access) (b : ℕ) → covers x b ≡ true → (x.addr ≤ b) × (b < x.addr + x.size)

@@ -12,8 +12,8 @@ use Rattle.tpl_ast.specs.declared.template.Wish.{Wish}
 use Rattle.tpl_ast.specs.Lengths.{longest_of}
 use Rattle.gen_search.specs.declared.place.Block.{Block}
 use Rattle.gen_search.specs.Search.{copies, of_hart}
-use Rattle.gen_search.specs.Internal.Steps.{steps_in, steps_of, steps_of_body, longest_steps}
-use Rattle.gen_search.specs.Internal.Places.{laid_block, laid_blocks, steps_of_block, steps_of_blocks}
+use Rattle.gen_search.specs.Steps.{steps_in, steps_of, steps_of_body, longest_steps}
+use Rattle.gen_search.specs.Places.{laid_block, laid_blocks, steps_of_block, steps_of_blocks}
 
 pub blocks_last : (hart : ℕ) (bs : List Block) (b : Block) → laid_blocks hart (bs ++ (b ∷ [])) ≡ laid_block hart b ++ laid_blocks hart bs
 blocks_last hart [] b = sym (append-nil (laid_block hart b))

@@ -16,7 +16,7 @@ use Rattle.gen_search.specs.Draws.{words}
 use Rattle.tpl_ast.specs.Choices.{all_true, are_ways_fit, can_pick, is_fit, weight_of}
 use Rattle.gen_search.specs.Search.{Rules, Turned, Taken, NoneFits, Spent, Outcome, Finished, Dead, GaveUp, IsLeaf, leaf, fault, Walks, WalksFrom, finished, gives_up, taken, unfit, too_large, label, seq, rep, choose, Tries, none_left, leads, stops, goes_on, SearchResult, Done, NoTest, ComesTo, done, gave_up, again, all_items, copies, cyclically, draw_made, fresh, in_turn, nothing_fitted, numbered, of_hart, picked, turn_made, was_spent}
 use Rattle.gen_search.specs.Fit.{AreFit}
-use Rattle.gen_search.specs.Internal.Steps.{longest_steps, steps_of, steps_of_body}
+use Rattle.gen_search.specs.Steps.{longest_steps, steps_of, steps_of_body}
 use Rattle.gen_search.specs.Laws.{HasSomeAnswer, HasSomeResult, StillAllows}
 use Rattle.gen_search.specs.Ready.{AreAllowed, AreReady, parts_of_body}
 use Rattle.gen_search.proofs.Blocks.{choose_steps, fault_steps, label_steps, leaf_steps, repeat_steps, seq_steps}

@@ -11,7 +11,7 @@ use Rattle.rand_pcg.specs.Pcg.{pcg32}
 use Rattle.gen_search.specs.Search.{Rules, Outcome, IsLeaf, leaf, fault, Walks, label, seq, rep, choose, Tries, copies, draw_made, in_turn, of_hart}
 use Rattle.tpl_ast.specs.Choices.{all_true, are_ways_fit, can_pick, is_fit}
 use Rattle.gen_search.specs.Fit.{AreFit}
-use Rattle.gen_search.specs.Internal.Steps.{steps_of, longest_steps}
+use Rattle.gen_search.specs.Steps.{steps_of, longest_steps}
 use Rattle.gen_search.proofs.Blocks.{choose_steps}
 use Rattle.gen_search.proofs.Fitting.{choose_fit, entered_fit, repeat_fit, seq_fit}
 use Rattle.gen_search.proofs.Weights.{both_true}

@@ -8,7 +8,7 @@ use Rattle.gen_search.proofs.Tries.{no_try}
 use Rattle.gen_search.specs.declared.choice.Choice.{Choice}
 use Rattle.gen_search.specs.declared.draws.Tally.{Tally}
 use Rattle.gen_search.specs.Search.{Rules, Outcome, Dead, Finished, GaveUp, Tries, none_left, OrElse, is_dead, is_finished, is_given_up}
-use Rattle.gen_search.specs.Internal.Places.{AreMarked, AreOpen, AreTried, ComesBack, Inside, IsInside, IsOpen, laid, untried}
+use Rattle.gen_search.specs.Places.{AreMarked, AreOpen, AreTried, ComesBack, Inside, IsInside, IsOpen, laid, untried}
 use Rattle.gen_search.specs.Wholes.{wholes, kept}
 
 pub get_taken : {A : Type 0} (n : ℕ) (xs : List A) (m : ℕ) → m < n → slice_get (take n xs) m ≡ slice_get xs m

@@ -14,7 +14,7 @@ use Rattle.gen_search.specs.declared.draws.Tally.{Tally}
 use Rattle.gen_search.specs.declared.place.Place.{Place}
 use Rattle.gen_search.specs.declared.walk.Walk.{Walk}
 use Rattle.gen_search.specs.Search.{IsLeaf, leaf, fault, copies, of_hart}
-use Rattle.gen_search.specs.Internal.Places.{AreMarked, IsInside}
+use Rattle.gen_search.specs.Places.{AreMarked, IsInside}
 use Rattle.gen_search.specs.Ready.{AllowsAll, AreAllowed, AreChoicesReady, AreReady, IsChoiceReady, joined, joined_ways, parts_in, parts_of, parts_of_body, parts_of_ways, CanComeBack}
 use Rattle.gen_search.specs.Wholes.{wholes, kept}
 use Rattle.gen_search.proofs.Each.{Each}

@@ -6,7 +6,7 @@ use Rattle.tpl_ast.specs.declared.template.Item.{Item}
 use Rattle.gen_search.specs.declared.choice.Choice.{Choice}
 use Rattle.gen_search.specs.declared.draws.Tally.{Tally}
 use Rattle.gen_search.specs.Search.{Rules, Outcome, Dead, SearchResult, Walks, WalksFrom, again, all_items}
-use Rattle.gen_search.specs.Internal.Places.{AreOpen, AreTried, Inside}
+use Rattle.gen_search.specs.Places.{AreOpen, AreTried, Inside}
 use Rattle.gen_search.specs.Internal.Walks.{Leads}
 use Rattle.gen_search.proofs.Kept.{inside_tried}
 

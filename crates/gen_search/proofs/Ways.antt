@@ -10,7 +10,7 @@ use Rattle.gen_search.specs.declared.choice.Choice.{Choice}
 use Rattle.gen_search.specs.declared.place.Place.{Place}
 use Rattle.gen_search.specs.declared.draws.Tally.{Tally}
 use Rattle.gen_search.specs.Search.{Rules, Outcome, Walks, Tries, leads, stops, goes_on, cyclically, numbered, picked, in_turn, draw_made, of_hart, all_items, copies, OrElse, is_dead, is_finished, is_given_up}
-use Rattle.gen_search.specs.Internal.Places.{AreMarked, ComesBack, Inside, laid, laid_blocks, steps_left, steps_of_blocks, steps_of_harts, untried}
+use Rattle.gen_search.specs.Places.{AreMarked, ComesBack, Inside, laid, laid_blocks, steps_left, steps_of_blocks, steps_of_harts, untried}
 use Rattle.gen_search.specs.Internal.Tries.{IsCyclic}
 use Rattle.gen_search.proofs.Kept.{get_kept, inside_append, inside_kept, inside_more}
 use Rattle.gen_search.proofs.Tries.{next_try}

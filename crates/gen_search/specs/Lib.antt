@@ -6,4 +6,6 @@ pub mod Ready
 pub mod Answers
 pub mod Laws
 pub mod Moved
+pub mod Places
+pub mod Steps
 pub mod Internal

@@ -11,7 +11,7 @@ use Rattle.tpl_ast.specs.declared.template.Item.TheFolds.{fold-Item}
 use Rattle.gen_search.specs.declared.choice.Choice.{Choice}
 use Rattle.gen_search.specs.declared.walk.Walk.{Walk}
 use Rattle.gen_search.specs.Search.{all_items}
-use Rattle.gen_search.specs.Internal.Places.{laid}
+use Rattle.gen_search.specs.Places.{laid}
 
 -- ---- the leaves and labels inside of items
 

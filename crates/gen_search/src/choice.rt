@@ -2,7 +2,7 @@
 ghost use Rattle.std.specs.Prelude.{◌≡◌, ◌<◌, ◌+◌, ◌%◌, [], ◌∷◌, ◌++◌, length, true, IfOk, MatchOption};
 ghost use Rattle.tpl_ast.specs.Choices.{can_pick, weight_of};
 ghost use Rattle.gen_search.specs.Search.{picked, way_at};
-ghost use Rattle.gen_search.specs.Internal.Places.{AreTried, IsInside};
+ghost use Rattle.gen_search.specs.Places.{AreTried, IsInside};
 ghost use Rattle.gen_search.specs.Internal.Tries.{IsCyclic};
 
 use crate::place::Place;

@@ -1,8 +1,8 @@
 // Where a walk through bodies stands.
 ghost use Rattle.std.specs.Prelude.{◌≡◌, ◌≤◌, ◌<◌, ◌+◌, ◌*◌, ◌^◌, [], ◌∷◌, ◌++◌, length, IfOk, MatchOption};
 ghost use Rattle.gen_search.specs.Search.{all_items, copies, of_hart};
-ghost use Rattle.gen_search.specs.Internal.Steps.{steps_of, steps_of_body};
-ghost use Rattle.gen_search.specs.Internal.Places.{laid, steps_left};
+ghost use Rattle.gen_search.specs.Steps.{steps_of, steps_of_body};
+ghost use Rattle.gen_search.specs.Places.{laid, steps_left};
 
 use std::alloc::{AllocError, Global};
 use tpl_ast::{HartDecl, Item};

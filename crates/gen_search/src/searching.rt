@@ -3,8 +3,8 @@ ghost use Rattle.std.specs.Prelude.{◌≡◌, ◌<◌, ◌≤◌, ◌+◌, ◌^
 ghost use Rattle.gen_search.specs.Search.{Finished, IsLeaf, Outcome, SearchResult, Searches};
 ghost use Rattle.tpl_ast.specs.Choices.{are_ways_fit, can_pick};
 ghost use Rattle.gen_search.specs.Fit.{CanSearch};
-ghost use Rattle.gen_search.specs.Internal.Steps.{longest_steps};
-ghost use Rattle.gen_search.specs.Internal.Places.{AreMarked, AreOpen, ComesBack, Inside, IsOpen, untried, steps_left};
+ghost use Rattle.gen_search.specs.Steps.{longest_steps};
+ghost use Rattle.gen_search.specs.Places.{AreMarked, AreOpen, ComesBack, Inside, IsOpen, untried, steps_left};
 ghost use Rattle.gen_search.specs.Internal.Walks.{Ahead, ChoiceAhead, DeadAhead, IsWell, LeafAhead, Leads, with_draws};
 ghost use Rattle.gen_search.specs.Answers.{AnswerIs, CountsTurns};
 ghost use Rattle.gen_search.specs.Ready.{AllowsAll, AreAllowed, BodiesAreReady, CanComeBack, IsChoiceReady, IsReady, parts_of_ways};

@@ -4,6 +4,7 @@ use Rattle.std.specs.Prelude.{slice_index}
 use Rattle.std.specs.List.{list_any}
 use Rattle.std.proofs.lemmas.Bool.{eq-eqb, eqb-true}
 use Rattle.rv_script.specs.Lists.{HasItem}
+use Rattle.rv_script.proofs.Items.{has_first, has_second}
 use Rattle.tpl_ast.specs.declared.template.Atom.{Atom}
 use Rattle.tpl_ast.specs.declared.template.Wish.{Wish}
 use Rattle.tpl_admit.specs.Admitting.{fixes_outcome, is_drop}
@@ -15,15 +16,7 @@ use Rattle.leaf_turn.specs.Wishes.{biases_of, mandatory_of, retires, unbiased}
 use Rattle.gen_turn.specs.Turns.{bias_atoms, is_listed, listed_as, next_bias}
 use Rattle.gen_turn.proofs.BoundNames.{IsWishAt}
 
--- ---- lists
-
-pub in_first : {A : Type 0} (xs ys : List A) (e : A) → HasItem xs e → HasItem (xs ++ ys) e
-in_first [] ys e i = absurd i
-in_first (x ∷ xs) ys e i = elim i [ inl here ↦ inl here | inr later ↦ inr (in_first xs ys e later) ]
-
-pub in_second : {A : Type 0} (xs ys : List A) (e : A) → HasItem ys e → HasItem (xs ++ ys) e
-in_second [] ys e i = i
-in_second (x ∷ xs) ys e i = inr (in_second xs ys e i)
+-- ---- tests
 
 either_true : (b c d : Bool) → (b || c) ≡ true → (c ≡ true → d ≡ true) → (b || d) ≡ true
 either_true true c d h more = refl
@@ -45,7 +38,7 @@ any_second test (x ∷ xs) ys h = second_true (test x) (list_any test (xs ++ ys)
 
 module _ (t : Turn) (pa : ℕ) (draws : List ℕ) (nodes : ℕ) where
   with_atoms : (answer : Solved) (position : ℕ) (bias : List Atom) (before : Taken) (a : Atom) → HasItem before.atoms a → HasItem (kept_with answer position bias before).atoms a
-  with_atoms (answers.Found x) position bias before a i = in_first before.atoms bias a i
+  with_atoms (answers.Found x) position bias before a i = has_first before.atoms bias a i
   with_atoms answers.NoneFits position bias before a i = i
   with_atoms answers.Spent position bias before a i = i
 
@@ -68,7 +61,7 @@ module _ (t : Turn) (pa : ℕ) (draws : List ℕ) (nodes : ℕ) where
 
   one_judged : (answer : Solved) (position : ℕ) (atom : Atom) (before : Taken)
       → (is_listed (kept_with answer position (atom ∷ []) before).dropped position ≡ true) ⊎ HasItem (kept_with answer position (atom ∷ []) before).atoms atom
-  one_judged (answers.Found x) position atom before = inr (in_second before.atoms (atom ∷ []) atom (inl refl))
+  one_judged (answers.Found x) position atom before = inr (has_second before.atoms (atom ∷ []) atom (inl refl))
   one_judged answers.NoneFits position atom before = inl (any_second (λ d. d.0 == position) before.dropped ((position, false) ∷ []) (ap (λ (b : Bool). b || false) (eq-eqb position position refl)))
   one_judged answers.Spent position atom before = inl (any_second (λ d. d.0 == position) before.dropped ((position, true) ∷ []) (ap (λ (b : Bool). b || false) (eq-eqb position position refl)))
 
@@ -105,10 +98,10 @@ unbiased_has (u ∷ us) n0 b0 w n b at must = go u.prefer refl at (λ later. unb
     go false is (inr later) rest = inr (rest later)
 
 pub mandatory_has : (ws : List Wish) (w : Wish) (n b : ℕ) → IsWishAt ws 0 0 w n b → w.prefer ≡ false → HasItem (mandatory_of ws) w.atom
-mandatory_has ws w n b at must = in_first (unbiased ws) _ w.atom (unbiased_has ws 0 0 w n b at must)
+mandatory_has ws w n b at must = has_first (unbiased ws) _ w.atom (unbiased_has ws 0 0 w n b at must)
 
 pub mandatory_retires : (ws : List Wish) → list_any fixes_outcome ws ≡ false → HasItem (mandatory_of ws) retires
-mandatory_retires ws h = in_second (unbiased ws) (if list_any fixes_outcome ws then [] else retires ∷ []) retires (subst (λ (b : Bool). HasItem (if b then [] else retires ∷ []) retires) (sym h) (inl refl))
+mandatory_retires ws h = has_second (unbiased ws) (if list_any fixes_outcome ws then [] else retires ∷ []) retires (subst (λ (b : Bool). HasItem (if b then [] else retires ∷ []) retires) (sym h) (inl refl))
 
 -- ---- how a dropped bias is listed
 

@@ -16,7 +16,7 @@ use Rattle.tpl_ast.specs.declared.template.Item.TheVariants as variants
 use Rattle.tpl_ast.specs.declared.template.Template.{Template}
 use Rattle.tpl_ast.specs.declared.template.Wish.{Wish}
 use Rattle.tpl_ast.specs.Templates.{is_number_among, IsBody, IsFrame, KeepsLimits, are_weights, stands, stands_in}
-use Rattle.leaf_link.specs.Turns.{in_frames}
+use Rattle.rv_mem.specs.Frames.{in_frames}
 use Rattle.tpl_ast.specs.Choices.{all_true, all_ways, weight_of}
 use Rattle.tpl_ast.specs.Leaves.{is_leaf}
 use Rattle.tpl_ast.proofs.Proved.{Proved, items_of}

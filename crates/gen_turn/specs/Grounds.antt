@@ -10,7 +10,7 @@ use Rattle.tpl_ast.specs.Leaves.{IsPlain, NamedOnce, atoms_of, is_name_below}
 use Rattle.tpl_ast.specs.Limits.{most_atoms}
 use Rattle.part_machine.specs.Whole.{Whole, fixed_in, hart_of}
 use Rattle.part_state.specs.Meaning.{IsTest}
-use Rattle.leaf_link.specs.Turns.{in_frames}
+use Rattle.rv_mem.specs.Frames.{in_frames}
 use Rattle.leaf_link.specs.Values.{fixed_value}
 use Rattle.leaf_link.specs.Ways.{AreWords}
 use Rattle.data_bytes.specs.Frames.{AreFrames}

@@ -13,7 +13,7 @@ use Rattle.rv_csr.proofs.Places.{lazy_after, none_at_first}
 use Rattle.rv_hart.specs.Fixed.{Fixed}
 use Rattle.rv_hart.specs.Registers.{no_registers}
 use Rattle.rv_hart.specs.Whole.{WholeHart}
-use Rattle.given_start.specs.Internal.Knowledge.{known_at}
+use Rattle.given_start.specs.Knowledge.{known_at}
 use Rattle.given_start.proofs.Lazy.{NamesCsr, has_address, address_positive}
 
 pub known_zero : (regs : List (Option ℕ)) (csrs : CsrValues) → known_at regs csrs 0 ≡ None

@@ -1,3 +1,2 @@
 -- What only contracts between parts of the code, and proofs, speak of.
-pub mod Knowledge
 pub mod Regions

@@ -4,7 +4,7 @@ ghost use Rattle.std.specs.List.{AllByRecursion};
 ghost use Rattle.tpl_ast.specs.declared.template.Region.{Region as ARegion};
 ghost use Rattle.tpl_admit.specs.Starts.{fixed_in, lookup};
 ghost use Rattle.tpl_ast.specs.States.{is_key, ArePlaces, is_legal_place, IsState};
-ghost use Rattle.given_start.specs.Internal.Knowledge.{known_of, fixed_now};
+ghost use Rattle.given_start.specs.Knowledge.{known_of, fixed_now};
 
 use rv_csr::{Csrs, FIRST_KEY};
 use rv_hart::Hart;

@@ -8,7 +8,7 @@ use Rattle.std.proofs.lemmas.Bool.{cases_eq, cases_lt, eq-eqb, le-ltb, lt-ltb, n
 use Rattle.std.proofs.lemmas.Bool.Decides.{nat_tests}
 use Rattle.dom_set.specs.Elements.{elements_of, is_in, is_within}
 use Rattle.leaf_link.specs.Cases.{is_some_word}
-use Rattle.leaf_stand.specs.Internal.Sets.{IsSetOf}
+use Rattle.data_bytes.specs.Sets.{IsSetOf}
 use Rattle.leaf_stand.specs.Stands.{held}
 use Rattle.leaf_stand.proofs.Sets.{elements_are, filter_leaves}
 

@@ -2,8 +2,8 @@
 
 ghost use Rattle.std.specs.Prelude.{◌≡◌, ℕ, ◌&&◌, ◌||◌, nat_eq, not, IfOk, OnOk};
 ghost use Rattle.dom_set.specs.Elements.{is_within};
-ghost use Rattle.leaf_stand.specs.Relations.{IsTargetSet};
-ghost use Rattle.leaf_stand.specs.Internal.Sets.{IsSetOf};
+ghost use Rattle.data_goals.specs.Goals.{IsCut};
+ghost use Rattle.data_bytes.specs.Sets.{IsSetOf};
 
 use dom_set::{OutOfMemory, Set};
 use leaf_stand::Spans;
@@ -16,7 +16,7 @@ const NOT_ZERO: Spans = Spans {
 
 /// A number alone.
 pub fn one(alloc: Global, value: u32) -> Result<Option<Set>, OutOfMemory>
-    ensures { IfOk result (IsTargetSet (λ v. nat_eq v value)) }
+    ensures { IfOk result (IsCut (λ v. nat_eq v value)) }
 {
     let set = Spans::one(value).set(alloc)?;
     Ok(Some(set))
@@ -24,7 +24,7 @@ pub fn one(alloc: Global, value: u32) -> Result<Option<Set>, OutOfMemory>
 
 /// Every word but 0.
 pub fn not_zero(alloc: Global) -> Result<Option<Set>, OutOfMemory>
-    ensures { IfOk result (IsTargetSet (λ v. not (nat_eq v 0))) }
+    ensures { IfOk result (IsCut (λ v. not (nat_eq v 0))) }
 {
     let set = NOT_ZERO.set(alloc)?;
     Ok(Some(set))

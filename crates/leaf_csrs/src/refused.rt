@@ -4,7 +4,7 @@ ghost use Rattle.std.specs.Prelude.{◌≡◌, ℕ, ◌&&◌, nat_eq, IfOk};
 ghost use Rattle.std.specs.List.{list_any};
 ghost use Rattle.dom_set.specs.Elements.{is_within};
 ghost use Rattle.rv_csr.specs.Table.{address_of};
-ghost use Rattle.leaf_stand.specs.Relations.{IsTargetSet};
+ghost use Rattle.data_goals.specs.Goals.{IsCut};
 ghost use Rattle.leaf_csrs.specs.Usages.{is_refused_at, refused_field, refused_test, refuses};
 
 use crate::accesses::{is_swap, refuses};
@@ -35,7 +35,7 @@ fn addresses(
 
 /// The addresses of registers that are refused.
 fn csr_cut(alloc: Global, stand: &Stand, written: bool) -> Result<Option<Set>, OutOfMemory>
-    ensures { IfOk result (IsTargetSet (is_refused_at stand.now written)) }
+    ensures { IfOk result (IsCut (is_refused_at stand.now written)) }
 {
     let pairs = addresses(alloc, stand, written, &REGISTERS)?;
     let set = set_of(alloc, &pairs)?;
@@ -44,7 +44,7 @@ fn csr_cut(alloc: Global, stand: &Stand, written: bool) -> Result<Option<Set>, O
 
 /// What is asked of the field of the operand: where a register may only be read, that it is written.
 fn field_cut(alloc: Global, op: Op, written: bool) -> Result<Option<Set>, OutOfMemory>
-    ensures { IfOk result (IsTargetSet (refused_field op written)) }
+    ensures { IfOk result (IsCut (refused_field op written)) }
 {
     if !written || is_swap(op) {
         return Ok(None);
@@ -61,7 +61,7 @@ pub fn refused_cut(
     written: bool,
     slot: Slot,
 ) -> Result<Option<Set>, OutOfMemory>
-    ensures { IfOk result (IsTargetSet (refused_test stand.now op written slot)) }
+    ensures { IfOk result (IsCut (refused_test stand.now op written slot)) }
 {
     match slot {
         Slot::Rs1 => {

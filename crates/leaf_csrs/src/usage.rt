@@ -8,8 +8,8 @@ ghost use Rattle.rv_script.specs.declared.place.Place.TheVariants.{Reg};
 ghost use Rattle.leaf_link.specs.Cases.{is_some_word};
 ghost use Rattle.leaf_link.specs.Controls.{is_read_old};
 ghost use Rattle.leaf_link.specs.Turns.{is_narrow, is_small};
-ghost use Rattle.leaf_stand.specs.Relations.{IsTargetSet};
-ghost use Rattle.leaf_stand.specs.Internal.Sets.{IsSetOf};
+ghost use Rattle.data_goals.specs.Goals.{IsCut};
+ghost use Rattle.data_bytes.specs.Sets.{IsSetOf};
 ghost use Rattle.leaf_stand.specs.Stands.{held, turn_of};
 ghost use Rattle.leaf_csrs.specs.Usages.{field_test, old_test, rd_test, source_test, usage_test, usages, usages_of};
 
@@ -65,7 +65,7 @@ pub fn usages_of(stand: &Stand, op: Op, register: Register) -> &'static [Usage]
 
 /// What a usage says of rd.
 fn rd_cut(alloc: Global, usage: Usage) -> Result<Option<Set>, OutOfMemory>
-    ensures { IfOk result (IsTargetSet (rd_test usage)) }
+    ensures { IfOk result (IsCut (rd_test usage)) }
 {
     match usage {
         Usage::Replaces => one(alloc, 0),
@@ -76,7 +76,7 @@ fn rd_cut(alloc: Global, usage: Usage) -> Result<Option<Set>, OutOfMemory>
 
 /// What a usage says of the field of the operand.
 fn field_cut(alloc: Global, usage: Usage) -> Result<Option<Set>, OutOfMemory>
-    ensures { IfOk result (IsTargetSet (field_test usage)) }
+    ensures { IfOk result (IsCut (field_test usage)) }
 {
     match usage {
         Usage::Looks => one(alloc, 0),
@@ -86,7 +86,7 @@ fn field_cut(alloc: Global, usage: Usage) -> Result<Option<Set>, OutOfMemory>
 
 /// The values that a register may have when it is read.
 fn read_cut(alloc: Global, stand: &Stand, register: Register) -> Result<Option<Set>, OutOfMemory>
-    ensures { IfOk result (IsTargetSet (is_read_old (turn_of stand.now) register)) }
+    ensures { IfOk result (IsCut (is_read_old (turn_of stand.now) register)) }
 {
     match register {
         Register::Lazy(lazy) => {
@@ -104,7 +104,7 @@ fn old_cut(
     register: Register,
     usage: Usage,
 ) -> Result<Option<Set>, OutOfMemory>
-    ensures { IfOk result (IsTargetSet (old_test stand.now register usage)) }
+    ensures { IfOk result (IsCut (old_test stand.now register usage)) }
 {
     match usage {
         Usage::Replaces => one(alloc, 0),
@@ -164,7 +164,7 @@ fn source_cut(
     few_sources: bool,
 ) -> Result<Option<Set>, OutOfMemory>
     requires few { few_sources ≡ is_small (turn_of stand.now).sources }
-    ensures { IfOk result (IsTargetSet (source_test stand.now op register)) }
+    ensures { IfOk result (IsCut (source_test stand.now op register)) }
 {
     if few_sources || !is_narrow(op, register) {
         return Ok(None);
@@ -175,7 +175,7 @@ fn source_cut(
 
 /// The words that both let through.
 fn both(alloc: Global, first: Option<Set>, second: Option<Set>) -> Result<Option<Set>, OutOfMemory>
-    ensures { (p q : ℕ → Bool) → IsTargetSet p first → IsTargetSet q second → IfOk result (IsTargetSet (λ v. p v && q v)) }
+    ensures { (p q : ℕ → Bool) → IsCut p first → IsCut q second → IfOk result (IsCut (λ v. p v && q v)) }
 {
     let Some(set) = first else {
         return Ok(second);
@@ -197,7 +197,7 @@ fn first_cut(
     few_sources: bool,
 ) -> Result<Option<Set>, OutOfMemory>
     requires few { few_sources ≡ is_small (turn_of stand.now).sources }
-    ensures { IfOk result (IsTargetSet (λ v. field_test usage v && source_test stand.now op register v)) }
+    ensures { IfOk result (IsCut (λ v. field_test usage v && source_test stand.now op register v)) }
 {
     let field = field_cut(alloc, usage)?;
     let source = source_cut(alloc, stand, op, register, few_sources)?;
@@ -216,7 +216,7 @@ pub fn usage_cut(
     few_sources: bool,
 ) -> Result<Option<Set>, OutOfMemory>
     requires few { few_sources ≡ is_small (turn_of stand.now).sources }
-    ensures { IfOk result (IsTargetSet (usage_test stand.now op register usage slot)) }
+    ensures { IfOk result (IsCut (usage_test stand.now op register usage slot)) }
 {
     match slot {
         Slot::Rs1 => {

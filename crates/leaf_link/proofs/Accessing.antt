@@ -29,15 +29,18 @@ use Rattle.tpl_admit.specs.Variables.{data_address, is_data, outcome_in}
 use Rattle.fd_prob.specs.declared.slot.Slot.TheVariants as slots
 use Rattle.rv_script.specs.Labels.{label_number, question_number, label_of}
 use Rattle.rv_script.specs.Logs.{same_place, is_word, entry_place, entry_label, answer_told, log_of, labelled, value_or, by_answers, answer, new_value, if_new}
-use Rattle.leaf_link.specs.Turns.{Turn, in_frames, is_free_entry, may_start}
-use Rattle.leaf_link.specs.Values.{Values, instr_in, given_by, has_address, has_csr_operand, old_csr}
+use Rattle.rv_mem.specs.Frames.{in_frames}
+use Rattle.leaf_link.specs.Turns.{Turn, is_free_entry, may_start}
+use Rattle.rv_isa.specs.Fields.{has_address}
+use Rattle.leaf_link.specs.Values.{Values, instr_in, given_by, has_csr_operand, old_csr}
 use Rattle.leaf_link.specs.Candidates.{accesses_in}
 use Rattle.leaf_link.specs.Cases.{Way, all_tests, is_some_word}
 use Rattle.leaf_link.specs.Ways.{AsksUsed, DoesRest, FitsWay, HasAddress, HasWay, IsAddressed, IsFetched, IsOf, IsReach, IsWays, shape_with, step_accesses}
 use Rattle.leaf_link.specs.Kinds.{traps_when, vector_at}
 use Rattle.leaf_link.specs.Reaching.{AreRows, HasPages, Walks, data_keeps, data_new, data_walk, data_ways, fault_new, in_row, is_aligned, is_data_word, not_code, not_walked, walk_keeps, way_of, way_to}
 use Rattle.rv_script.proofs.Plays.{entry, asks, goes_on}
-use Rattle.leaf_link.proofs.Front.{all_hold, hold_all, has_either, has_first, has_second, rest_of, same_done}
+use Rattle.rv_script.proofs.Items.{has_either, has_first, has_second}
+use Rattle.leaf_link.proofs.Front.{all_hold, hold_all, rest_of, same_done}
 use Rattle.leaf_link.proofs.Law.{address_asks}
 use Rattle.leaf_link.proofs.Both.{each_slot}
 use Rattle.leaf_link.proofs.Resting.{AsksAll, Traps, asks_used, does_trap, in_one, is_write, no_csr, not_true, quiet_apart, trap_change, traps_does, vector_entry, vector_from, vector_to}

@@ -21,7 +21,7 @@ use Rattle.leaf_link.specs.Values.{Values, instr_in, new_places}
 use Rattle.leaf_link.specs.Candidates.{IsCandidate}
 use Rattle.leaf_link.specs.KindLaws.{IsPosed}
 use Rattle.leaf_link.specs.Answers.{IsAnswerOver, values_in}
-use Rattle.leaf_link.specs.Internal.Problems.{key_of}
+use Rattle.leaf_link.specs.Problems.{key_of}
 use Rattle.leaf_link.specs.Firsts.{IsTurnAnswer, Precedes, allowed_by, domain_list, leaf_draw, leaf_pivot, leaf_space}
 use Rattle.leaf_link.specs.Fetches.{IsFetchCandidate, fetch_places}
 use Rattle.leaf_link.specs.Faults.{IsFaultCandidate}

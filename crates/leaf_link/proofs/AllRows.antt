@@ -10,6 +10,7 @@ use Rattle.rv_script.specs.Labels.{label_number}
 use Rattle.rv_script.specs.Lists.{HasItem}
 use Rattle.rv_script.specs.Logs.{entry_label, entry_place, labelled, new_value, where_unknown}
 use Rattle.rv_script.specs.Script.{Label, Label.DataRoot, Label.DataSecond}
+use Rattle.rv_script.proofs.Items.{has_either, has_first, has_second}
 use Rattle.sv_walk.specs.declared.entry.Kind.{Kind}
 use Rattle.sv_walk.specs.declared.entry.Kind.TheVariants.{Load as ForLoad, Store as ForStore}
 use Rattle.sv_walk.specs.Translation.{Reached, At, Fails, root_label, second_label}
@@ -22,7 +23,6 @@ use Rattle.leaf_link.specs.Turns.{Turn, is_first_form, is_second_form, may_be_fo
 use Rattle.leaf_link.specs.Reaching.{Walks}
 use Rattle.leaf_link.specs.RowsExist.{DataRowsExist, HasDataRows}
 use Rattle.leaf_link.specs.Ways.{AreWords}
-use Rattle.leaf_link.proofs.Front.{has_either, has_first, has_second}
 use Rattle.leaf_link.proofs.Serving.{entries_are_let, some_instr}
 
 -- LISTS OF ROWS

@@ -24,7 +24,7 @@ use Rattle.rv_hart.specs.declared.record.Change.{Change}
 use Rattle.rv_hart.specs.Fixed.{Fixed}
 use Rattle.rv_hart.specs.Machine.{arriving, at_address, data_view, fence_row, jump_row, jumped, load_at, load_from, reached, store_at, store_to, upper_pc_row, upper_row}
 use Rattle.rv_hart.specs.Privileged.{address_fence_row, csr_accessed, csr_exchanged, csr_granted, csr_immediate_row, is_withheld, mret_row, old_value, reads_csr, sret_row, trap, write_csr, writes_csr}
-use Rattle.rv_hart.specs.Internal.Rests.{after_access, csr_access, rest}
+use Rattle.rv_hart.specs.Rests.{after_access, csr_access, rest}
 use Rattle.leaf_link.specs.Values.{field_of_operand, fixed_value, has_csr_operand, unasked_csr}
 
 -- the old value of a CSR is asked for

@@ -6,7 +6,7 @@ use Rattle.rv_isa.specs.declared.operation.Op.{Op}
 use Rattle.rv_isa.specs.declared.table.Row.{Row}
 use Rattle.rv_isa.specs.declared.table.Row.TheVariants.{R, I, Shift, S, B, U, J, Csr as CsrRow, CsrImmediate, FenceSets, AddressFence, Fixed as Whole, DefinedIllegal}
 use Rattle.rv_isa.specs.Encoding.{word_of}
-use Rattle.rv_isa.specs.Fields.{reads_rs1}
+use Rattle.rv_isa.specs.Fields.{reads_rs1, has_address}
 use Rattle.rv_isa.specs.Reading.{decoded}
 use Rattle.rv_isa.specs.Table.{row_of}
 use Rattle.rv_isa.proofs.Codec.{encoded_read}
@@ -32,12 +32,12 @@ use Rattle.fd_prob.specs.declared.slot.Slot.TheVariants as slots
 use Rattle.rv_script.specs.Labels.{label_number, question_number}
 use Rattle.rv_script.specs.Logs.{entry_place, entry_label, answer_told, labelled, value_or, or_given, by_answers, new_value, value_in, Coherent}
 use Rattle.leaf_link.specs.Turns.{Turn, is_free_entry, may_be_source, may_start}
-use Rattle.leaf_link.specs.Values.{Values, instr_in, has_address, address_if, given_by, assigned, old_csr, new_places}
+use Rattle.leaf_link.specs.Values.{Values, instr_in, address_if, given_by, assigned, old_csr, new_places}
 use Rattle.rv_isa.specs.Numbers.{op_number}
 use Rattle.leaf_link.specs.Candidates.{accesses_in, all_met, moment_of, IsCandidate}
 use Rattle.leaf_link.specs.Cases.{Shape, Way, Fits, all_tests, atoms_hold, base_domain, cases_of, code_at, is_posed, shape_of, sources_hold, uses, uses_address, uses_rs1, uses_rs2}
 use Rattle.leaf_link.specs.Ways.{AreWords, AsksUsed, DoesRest, HasAddress, IsFetched, IsOf, IsWays, shape_with}
-use Rattle.rv_hart.specs.Internal.Rests.{after_access, asks_rs1, csr_access, is_granted, rest}
+use Rattle.rv_hart.specs.Rests.{after_access, asks_rs1, csr_access, is_granted, rest}
 use Rattle.tpl_ast.specs.Leaves.{IsPlain}
 use Rattle.leaf_link.specs.Laws.{OneToOne}
 use Rattle.rv_script.proofs.Plays.{entry, first_asked, given_is}

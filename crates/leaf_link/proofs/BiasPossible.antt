@@ -43,7 +43,7 @@ use Rattle.leaf_link.specs.Answers.{IsProblemOf, assignment_of, values_in}
 use Rattle.leaf_link.specs.AllWays.{leaf_cases, ways_of}
 use Rattle.leaf_link.specs.Firsts.{HasDraws, IsPosedProblem, first_case_at, firsts_at, with_cases}
 use Rattle.leaf_link.specs.Extras.{AreAdded, IsExtraOf, met_by, passes_cuts}
-use Rattle.leaf_link.specs.Internal.Problems.{bias_cut}
+use Rattle.leaf_link.specs.Problems.{bias_cut}
 use Rattle.leaf_link.specs.Reaching.{HasPages}
 use Rattle.leaf_link.specs.Witnesses.{bare_rows, busy_turn}
 use Rattle.leaf_link.specs.BiasWitness.{HaveKeptBias, choice_leaf, no_draws, rd_in}

@@ -12,7 +12,7 @@ use Rattle.leaf_link.specs.Turns.{Turn}
 use Rattle.leaf_link.specs.Values.{Values}
 use Rattle.tpl_ast.specs.Leaves.{same_var}
 use Rattle.leaf_link.specs.Cases.{Shape, all_judged, all_relate, all_tests, atoms_hold, base_domain, is_judged, may_fetch, or_no, relates, shape_of, sources_hold, target_at, tests, unless, uses, value_at}
-use Rattle.leaf_link.specs.Internal.Problems.{BiasesAreAtoms, bias_cut}
+use Rattle.leaf_link.specs.Problems.{BiasesAreAtoms, bias_cut}
 use Rattle.leaf_link.proofs.Truths.{same_var_is}
 use Rattle.leaf_link.proofs.Both.{each_slot}
 

@@ -6,7 +6,7 @@ use Rattle.rv_isa.specs.declared.instruction.Instr.{Instr}
 use Rattle.rv_isa.specs.declared.operation.Op.{Op}
 use Rattle.rv_isa.specs.Encoding.{word_of}
 use Rattle.rv_isa.specs.Reading.{decoded}
-use Rattle.rv_isa.specs.Fields.{reads_rs1}
+use Rattle.rv_isa.specs.Fields.{reads_rs1, has_address}
 use Rattle.rv_isa.specs.Table.{row_of}
 use Rattle.rv_isa.proofs.Codec.{encoded_read, encoded_below}
 use Rattle.rv_script.specs.declared.access.Access.{Access}
@@ -26,8 +26,9 @@ use Rattle.fd_prob.specs.declared.slot.Slot.{Slot}
 use Rattle.fd_prob.specs.declared.slot.Slot.TheVariants as slots
 use Rattle.rv_isa.specs.Numbers.{op_numbered, op_number}
 use Rattle.rv_script.specs.Logs.{entry_place, entry_label, answer_told, labelled, value_or, by_answers, new_value, value_in, Coherent}
-use Rattle.leaf_link.specs.Turns.{Turn, in_frames, is_free_entry, may_be_source, may_start, word_address_of}
-use Rattle.leaf_link.specs.Values.{Values, instr_in, has_address, address_if, given_by, assigned, old_csr}
+use Rattle.rv_mem.specs.Frames.{in_frames}
+use Rattle.leaf_link.specs.Turns.{Turn, is_free_entry, may_be_source, may_start, word_address_of}
+use Rattle.leaf_link.specs.Values.{Values, instr_in, address_if, given_by, assigned, old_csr}
 use Rattle.leaf_link.specs.Candidates.{accesses_in, moment_of}
 use Rattle.leaf_link.specs.Cases.{Shape, Way, Fits, FitsCase, is_posed, case_at, all_judged, all_tests, atoms_hold, base_domain, cases_of, code_at, fetch_entry, is_held, is_linked, is_some_word, may_fetch, or_no, shape_of, sources_hold, unless, uses, uses_address, uses_rs1, uses_rs2, value_at}
 use Rattle.leaf_link.specs.Ways.{AsksUsed, DoesRest, FitsWay, HasAddress, IsFetched, IsOf, IsReach, IsWays}

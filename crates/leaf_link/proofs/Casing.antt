@@ -15,7 +15,7 @@ use Rattle.leaf_link.specs.Values.{Values}
 use Rattle.rv_isa.specs.Numbers.{op_number}
 use Rattle.leaf_link.specs.Candidates.{all_met, moment_of}
 use Rattle.leaf_link.specs.Cases.{Shape, Way, all_judged, all_relate, all_tests, shape_of, target_at, unless, uses, value_at}
-use Rattle.leaf_link.specs.Internal.Problems.{bias_cut}
+use Rattle.leaf_link.specs.Problems.{bias_cut}
 use Rattle.leaf_link.specs.Extras.{AddressesAreWanted, ArePlain, BiasesInCases, MeetsInCase, address_by, address_in, met_by, met_in}
 use Rattle.leaf_link.proofs.Truths.{JudgesAll, all_met_by, by_all_met, when}
 use Rattle.leaf_link.proofs.Law.{all_without, unless_from, used}

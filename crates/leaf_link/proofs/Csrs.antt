@@ -34,7 +34,7 @@ use Rattle.leaf_link.specs.Turns.{Turn}
 use Rattle.leaf_link.specs.Values.{Values, field_of_operand, fixed_value, given_by, has_csr_operand, instr_in, old_csr}
 use Rattle.leaf_link.specs.Cases.{Way}
 use Rattle.leaf_link.specs.Ways.{AsksUsed, DoesRest, FitsWay, HasWay, IsFetched, IsOf, IsWays, shape_with}
-use Rattle.rv_hart.specs.Internal.Rests.{after_access, asks_rs1, csr_access, is_granted, rest}
+use Rattle.rv_hart.specs.Rests.{after_access, asks_rs1, csr_access, is_granted, rest}
 use Rattle.leaf_link.specs.Kinds.{traps_when}
 use Rattle.leaf_link.specs.Controls.{CsrsAreExact, access_in, csr_ways, ends_when, grants, is_denied, is_legal_write, is_old, is_read_old, operand_in, writes_in}
 use Rattle.rv_script.proofs.Plays.{asks}

@@ -3,7 +3,7 @@ use Rattle.std.proofs.Common.{◌≡◌, ℕ, if◌then◌else◌, ◌+◌, ◌%
 use Rattle.std.proofs.lemmas.Bool.{cases_Bool, eq-eqb, eqb-true}
 use Rattle.rv_isa.specs.declared.instruction.Instr.{Instr}
 use Rattle.rv_isa.specs.declared.table.Row.{Row}
-use Rattle.rv_isa.specs.Fields.{is_load, is_store}
+use Rattle.rv_isa.specs.Fields.{is_load, is_store, has_address}
 use Rattle.rv_isa.specs.Table.{row_of}
 use Rattle.rv_csr.specs.declared.cause.Cause.{Cause}
 use Rattle.rv_csr.specs.declared.cause.Cause.TheVariants.{LoadMisaligned, StoreMisaligned}
@@ -15,20 +15,20 @@ use Rattle.rv_script.specs.Logs.{answer_told, by_answers, entry_label, entry_pla
 use Rattle.rv_script.specs.Script.{Label.DataRoot, Label.DataSecond, Label.DataWord, Question, Question.OfRegister, Question.OfCsr, Question.OfMemory, Question.ToMemory, Script, ◌>>=◌, place_of}
 use Rattle.rv_script.specs.Folds.{Answer.Does, Entry, Teller}
 use Rattle.rv_script.proofs.Plays.{entry}
+use Rattle.rv_script.proofs.Items.{has_either, has_first}
 use Rattle.rv_hart.specs.declared.record.Change.{Change}
 use Rattle.rv_hart.specs.Machine.{arriving, at_address, data_view, load_at, reached, size_of, store_at}
 use Rattle.rv_hart.specs.Privileged.{trap}
-use Rattle.rv_hart.specs.Internal.Rests.{rest}
+use Rattle.rv_hart.specs.Rests.{rest}
 use Rattle.sv_walk.specs.declared.entry.Kind.{Kind}
 use Rattle.sv_walk.specs.declared.entry.Kind.TheVariants.{Load as ForLoad, Store as ForStore}
 use Rattle.sv_walk.specs.declared.entry.View.{View}
 use Rattle.sv_walk.specs.Translation.{At, Fails, Reached, is_translated, root_address, second_address, translated}
 use Rattle.fd_prob.specs.declared.slot.Slot.TheVariants as slots
 use Rattle.leaf_link.specs.Turns.{Turn}
-use Rattle.leaf_link.specs.Values.{Values, given_by, has_address}
+use Rattle.leaf_link.specs.Values.{Values, given_by}
 use Rattle.leaf_link.specs.Placing.{data_value, is_second, root_entry}
 use Rattle.leaf_link.proofs.DataWalks.{IsOfData, IsWalk, leads, root_aligned, root_asked, second_aligned, second_asked, walk_is}
-use Rattle.leaf_link.proofs.Front.{has_either, has_first}
 use Rattle.leaf_link.proofs.Loads.{load_rest}
 use Rattle.leaf_link.proofs.NewWords.{IsForCsr, rest_csrs, trap_csrs}
 use Rattle.leaf_link.proofs.Placing.{asked_by}

@@ -13,6 +13,7 @@ use Rattle.rv_script.specs.Logs.{answer_told, enlarged, entry_label, entry_place
 use Rattle.rv_script.specs.Script.{Label, Label.FetchRoot, Label.FetchSecond, Label.Fetched, Label.FromVector, Question, Question.OfRegister, Question.OfCsr, Question.OfMemory, Question.ToMemory, Script, Script.Ask, Script.Done, place_of}
 use Rattle.rv_script.proofs.Plays.{first_asked, labelled_one, numbers_within}
 use Rattle.rv_script.proofs.Results.{Ends, ended}
+use Rattle.rv_script.proofs.Items.{has_either, has_first}
 use Rattle.rv_hart.specs.declared.record.Change.{Change}
 use Rattle.rv_hart.specs.Changes.{outcome_of}
 use Rattle.rv_hart.specs.Fixed.{Fixed}
@@ -33,7 +34,7 @@ use Rattle.leaf_link.specs.Placing.{AreTwoWords, KeepsSatp}
 use Rattle.leaf_link.specs.FetchPlacing.{FaultPlacesHaveValues, FaultWordsAreTwo, FaultsAreUnfetched, FaultsKeepSatp, FetchPlacesHaveValues, FetchWordsAreTwo, entry_value, root_word}
 use Rattle.leaf_link.proofs.Failing.{fault_numbers, given_fault, reads}
 use Rattle.leaf_link.proofs.Fetching.{fetch_between, given_fetch}
-use Rattle.leaf_link.proofs.Front.{has_either, has_first, label_past}
+use Rattle.leaf_link.proofs.Front.{label_past}
 use Rattle.leaf_link.proofs.Placing.{address_in, address_of, asked_by, found_in, new_found, same_word, word_aligned}
 use Rattle.leaf_link.proofs.Reaching.{then_done}
 use Rattle.leaf_link.proofs.Unfailing.{translated_ends}

@@ -21,7 +21,7 @@ use Rattle.leaf_link.specs.Laws.{OneToOne}
 use Rattle.leaf_link.specs.KindLaws.{IsPosed}
 use Rattle.leaf_link.specs.Reaching.{AreRows, HasPages}
 use Rattle.leaf_link.specs.Answers.{IsAnswerOver, assignment_of, values_in}
-use Rattle.leaf_link.specs.Internal.Problems.{key_of}
+use Rattle.leaf_link.specs.Problems.{key_of}
 use Rattle.leaf_link.specs.AllWays.{leaf_cases}
 use Rattle.leaf_link.specs.Firsts.{IsTurnAnswer, leaf_pivot, leaf_space}
 use Rattle.leaf_link.specs.Fetches.{IsFetchCandidate, fetch_places}

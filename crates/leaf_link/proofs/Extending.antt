@@ -13,6 +13,7 @@ use Rattle.dom_set.proofs.Sets.{filter_is, is_in-elements}
 use Rattle.rv_isa.specs.declared.operation.Op.{Op}
 use Rattle.rv_isa.specs.declared.operation.TheConstants.{OPS}
 use Rattle.rv_script.specs.Folds.{Answer, Entry}
+use Rattle.rv_script.proofs.Items.{has_either}
 use Rattle.sv_walk.specs.declared.entry.Kind.TheVariants.{Load as ForLoad, Store as ForStore}
 use Rattle.addr_rows.specs.Walks.{EntryRow}
 use Rattle.rv_hart.specs.declared.record.Change.{Change}
@@ -40,7 +41,7 @@ use Rattle.leaf_link.specs.Candidates.{all_met, is_met, moment_of}
 use Rattle.leaf_link.specs.Cases.{Fits, all_tests, code_at}
 use Rattle.leaf_link.specs.KindLaws.{IsPosed}
 use Rattle.leaf_link.specs.Answers.{values_in}
-use Rattle.leaf_link.specs.Internal.Problems.{bias_cut}
+use Rattle.leaf_link.specs.Problems.{bias_cut}
 use Rattle.leaf_link.specs.Reaching.{AreRows, HasPages}
 use Rattle.leaf_link.specs.AllWays.{leaf_cases, ways_of}
 use Rattle.leaf_link.specs.Firsts.{AreFirsts, IsFirst, IsFirstOf, first_domain, in_first_word, is_allowed}
@@ -49,7 +50,6 @@ use Rattle.leaf_link.proofs.Biases.{and_assoc, tests_more}
 use Rattle.leaf_link.proofs.Links.{Good}
 use Rattle.leaf_link.proofs.Both.{fits_good}
 use Rattle.leaf_link.proofs.Back.{good_fits}
-use Rattle.leaf_link.proofs.Front.{has_either}
 use Rattle.leaf_link.proofs.Spacing.{domain_is}
 use Rattle.leaf_link.proofs.Whole.{of_one, one_of, every_op as op_listed}
 use Rattle.leaf_link.proofs.Every.{every_op}
@@ -253,7 +253,7 @@ first_more t pa leaf bias op slots.Rs2 v = ap (λ (b : Bool). in_first_word (cod
 first_more t pa leaf bias op slots.Imm v = ap (λ (b : Bool). in_first_word (code_at t pa) op slots.Imm v && b) (tests_more t leaf bias vars.Imm v) ∙ and_assoc _ (all_tests t leaf vars.Imm v) (all_tests t bias vars.Imm v)
 first_more t pa leaf bias op slots.Rd v = ap (λ (b : Bool). in_first_word (code_at t pa) op slots.Rd v && b) (tests_more t leaf bias vars.Rd v) ∙ and_assoc _ (all_tests t leaf vars.Rd v) (all_tests t bias vars.Rd v)
 first_more t pa leaf bias op slots.Csr v = ap (λ (b : Bool). in_first_word (code_at t pa) op slots.Csr v && b) (tests_more t leaf bias vars.Csr v) ∙ and_assoc _ (all_tests t leaf vars.Csr v) (all_tests t bias vars.Csr v)
-first_more t pa leaf bias op slots.Ea v = ap (λ (b : Bool). Rattle.leaf_link.specs.Cases.or_no (Rattle.leaf_link.specs.Values.has_address (Rattle.rv_isa.specs.Table.row_of op)) true v && b) (tests_more t leaf bias vars.Ea v) ∙ and_assoc _ (all_tests t leaf vars.Ea v) (all_tests t bias vars.Ea v)
+first_more t pa leaf bias op slots.Ea v = ap (λ (b : Bool). Rattle.leaf_link.specs.Cases.or_no (Rattle.rv_isa.specs.Fields.has_address (Rattle.rv_isa.specs.Table.row_of op)) true v && b) (tests_more t leaf bias vars.Ea v) ∙ and_assoc _ (all_tests t leaf vars.Ea v) (all_tests t bias vars.Ea v)
 first_more t pa leaf bias op slots.A v = ap (λ (b : Bool). Rattle.leaf_link.specs.Cases.or_no (Rattle.rv_isa.specs.Fields.reads_rs1 (Rattle.rv_isa.specs.Table.row_of op)) true v && b) (tests_more t leaf bias vars.A v) ∙ and_assoc _ (all_tests t leaf vars.A v) (all_tests t bias vars.A v)
 first_more t pa leaf bias op slots.B v = ap (λ (b : Bool). Rattle.leaf_link.specs.Cases.or_no (Rattle.rv_isa.specs.Fields.reads_rs2 (Rattle.rv_isa.specs.Table.row_of op)) true v && b) (tests_more t leaf bias vars.B v) ∙ and_assoc _ (all_tests t leaf vars.B v) (all_tests t bias vars.B v)
 first_more t pa leaf bias op slots.FirstPte v = and_true _

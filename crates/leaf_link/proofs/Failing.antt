@@ -17,8 +17,9 @@ use Rattle.leaf_link.specs.Values.{Values, given_by, new_places}
 use Rattle.leaf_link.specs.Fetches.{fetch_script}
 use Rattle.leaf_link.specs.Faults.{FaultDoes, FaultsAreExact, IsFaultCandidate, fault_values}
 use Rattle.rv_script.proofs.Plays.{first_asked, labelled_one, numbers_within, play_same, told}
+use Rattle.rv_script.proofs.Items.{has_either}
 use Rattle.rv_hart.proofs.Forms.{script_between, trap_between}
-use Rattle.leaf_link.proofs.Front.{has_either, label_past}
+use Rattle.leaf_link.proofs.Front.{label_past}
 use Rattle.leaf_link.proofs.Links.{answers_have, enlarged_has}
 use Rattle.leaf_link.proofs.Reaching.{then_done}
 use Rattle.leaf_link.proofs.Fetching.{fetch_between}

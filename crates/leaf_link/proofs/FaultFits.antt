@@ -27,7 +27,8 @@ use Rattle.leaf_link.specs.FetchRows.{AreFetchRows, FetchRow, FetchWalks, entry_
 use Rattle.leaf_link.specs.Faults.{FaultDoes, fault_values}
 use Rattle.leaf_link.specs.FaultRows.{FaultProblemsAreExact, fault_case, fault_case_to, fault_cases, fault_domain}
 use Rattle.rv_script.proofs.Plays.{asks, goes_on, numbers_within, play_same, told}
-use Rattle.leaf_link.proofs.Front.{all_hold, hold_all, has_either, has_first, has_second, label_past, same_done}
+use Rattle.rv_script.proofs.Items.{has_either, has_first, has_second}
+use Rattle.leaf_link.proofs.Front.{all_hold, hold_all, label_past, same_done}
 use Rattle.leaf_link.proofs.Both.{each_slot}
 use Rattle.leaf_link.proofs.Reaching.{coherent_behind, label_before, then_done}
 use Rattle.leaf_link.proofs.Resting.{in_one, vector_entry, vector_from, vector_to}

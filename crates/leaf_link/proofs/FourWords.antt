@@ -12,6 +12,7 @@ use Rattle.rv_script.specs.Script.{Label, Label.DataRoot, Label.DataSecond, Labe
 use Rattle.rv_script.specs.Labels.{label_of}
 use Rattle.rv_script.specs.Folds.{Entry, Known, by_known}
 use Rattle.rv_script.proofs.Plays.{labelled_one}
+use Rattle.rv_script.proofs.Items.{has_either}
 use Rattle.rv_hart.specs.Machine.{script}
 use Rattle.rv_hart.proofs.Forms.{script_between}
 use Rattle.tpl_ast.specs.declared.template.Atom.{Atom}
@@ -21,10 +22,10 @@ use Rattle.leaf_link.specs.Values.{Values, given_by, instr_in}
 use Rattle.leaf_link.specs.Candidates.{IsCandidate}
 use Rattle.leaf_link.specs.Cases.{fetch_entry}
 use Rattle.leaf_link.specs.Ways.{IsFetched}
-use Rattle.leaf_link.specs.Internal.Problems.{key_of}
+use Rattle.leaf_link.specs.Problems.{key_of}
 use Rattle.leaf_link.specs.Placing.{NewWordsAreFour}
 use Rattle.leaf_link.proofs.Alone.{IsForLater, IsForOld, is_data, rest_alone}
-use Rattle.leaf_link.proofs.Front.{a_entry, asks_a, asks_b, b_entry, front_log, has_either, has_only, only, pa_aligned, rest_of, told_a, told_b, walk_known, word_place}
+use Rattle.leaf_link.proofs.Front.{a_entry, asks_a, asks_b, b_entry, front_log, has_only, only, pa_aligned, rest_of, told_a, told_b, walk_known, word_place}
 use Rattle.leaf_link.proofs.Links.{instr_assigned}
 use Rattle.leaf_link.proofs.Placing.{address_in, address_of, asked_by, found_in, in_parts_of, new_found, same_word, word_aligned}
 

@@ -28,29 +28,15 @@ use Rattle.leaf_link.specs.Values.{Values, instr_in, given_by}
 use Rattle.leaf_link.specs.Candidates.{accesses_in}
 use Rattle.leaf_link.specs.Cases.{fetch_entry}
 use Rattle.leaf_link.specs.Ways.{IsFetched}
-use Rattle.rv_hart.specs.Internal.Rests.{ask_if, asks_rs1, rest, in_parts}
+use Rattle.rv_hart.specs.Rests.{ask_if, asks_rs1, rest, in_parts}
 use Rattle.rv_script.proofs.Plays.{entry, after, after_done, told, play_same, asks, goes_on, numbers_within}
+use Rattle.rv_script.proofs.Items.{has_either}
 use Rattle.sv_walk.proofs.Offsets.{offset_kept}
 use Rattle.sv_walk.proofs.Orders.{translated_between}
 use Rattle.rv_hart.proofs.Forms.{effect_in_parts, fetched_between, script_between}
 use Rattle.leaf_link.proofs.Links.{IsSettled}
 
 -- LISTS
-pub has_either : {A : Type 0} (xs ys : List A) (e : A) → HasItem (xs ++ ys) e → HasItem xs e ⊎ HasItem ys e
-has_either [] ys e i = inr i
-has_either (x ∷ xs) ys e i = elim i [
-  | inl h ↦ inl (inl h)
-  | inr j ↦ elim (has_either xs ys e j) [ inl h ↦ inl (inr h) | inr h ↦ inr h ]
-]
-
-pub has_first : {A : Type 0} (xs ys : List A) (e : A) → HasItem xs e → HasItem (xs ++ ys) e
-has_first [] ys e i = absurd i
-has_first (x ∷ xs) ys e i = elim i [ inl h ↦ inl h | inr j ↦ inr (has_first xs ys e j) ]
-
-pub has_second : {A : Type 0} (xs ys : List A) (e : A) → HasItem ys e → HasItem (xs ++ ys) e
-has_second [] ys e i = i
-has_second (x ∷ xs) ys e i = inr (has_second xs ys e i)
-
 pub all_hold : {A : Type 0} (test : A → Bool) (xs : List A) → list_all test xs ≡ true → (x : A) → HasItem xs x → test x ≡ true
 all_hold test [] h x i = absurd i
 all_hold test (y ∷ xs) h x i =

@@ -6,7 +6,7 @@ use Rattle.std.proofs.lemmas.Bool.{and_from, and_parts, cases_Bool, eqb-true}
 use Rattle.rv_isa.specs.declared.operation.Op.{Op}
 use Rattle.rv_isa.specs.declared.operation.Op.TheVariants.{Csrrw, Csrrs, Csrrc, Csrrwi, Csrrsi, Csrrci, Jal, Jalr, Beq, Bne, Blt, Bge, Bltu, Bgeu, Lb, Lh, Lw, Lbu, Lhu, Sb, Sh, Sw, Ecall, Ebreak, Mret, Sret, SfenceVma, Illegal}
 use Rattle.rv_isa.specs.declared.operation.TheConstants.{OPS}
-use Rattle.rv_isa.specs.Fields.{has_csr, reads_rs1, reads_rs2}
+use Rattle.rv_isa.specs.Fields.{has_csr, reads_rs1, reads_rs2, has_address}
 use Rattle.rv_isa.specs.Table.{row_of}
 use Rattle.rv_csr.specs.declared.access.CsrAccess.{CsrAccess}
 use Rattle.rv_csr.specs.declared.access.CsrAccess.TheVariants.{Outside as NotModelled}
@@ -28,11 +28,11 @@ use Rattle.tpl_ast.specs.Leaves.{same_var}
 use Rattle.fd_prob.specs.declared.slot.Slot.{Slot}
 use Rattle.fd_prob.specs.declared.slot.Slot.TheVariants as slots
 use Rattle.leaf_link.specs.Turns.{Turn, csr_of, holds_address, is_first_form, is_second_form, may_be_old, may_start}
-use Rattle.leaf_link.specs.Values.{Values, has_address, instr_in, old_csr}
+use Rattle.leaf_link.specs.Values.{Values, instr_in, old_csr}
 use Rattle.leaf_link.specs.Candidates.{IsCandidate}
 use Rattle.leaf_link.specs.Cases.{Fits, FitsCase, Shape, Way, all_judged, all_tests, code_at, in_word, is_judged, is_some_word, or_no, shape_of, tests, unless, uses, base_domain, case_at}
 use Rattle.leaf_link.specs.KindLaws.{IsPosed}
-use Rattle.leaf_link.specs.Internal.Problems.{key_of}
+use Rattle.leaf_link.specs.Problems.{key_of}
 use Rattle.leaf_link.specs.Reaching.{AreRows, HasPages, Walks, data_ways, in_row, is_aligned, load_question, store_apart, store_question, way_of, way_to}
 use Rattle.leaf_link.specs.Controls.{access_in, csr_ways, return_ways, grants, is_denied, operand_in}
 use Rattle.leaf_link.specs.AllWays.{leaf_cases, ways_of}

@@ -22,7 +22,7 @@ use Rattle.leaf_link.specs.Turns.{Turn}
 use Rattle.leaf_link.specs.Values.{Values, given_by, instr_in, old_csr, unasked_csr}
 use Rattle.leaf_link.specs.Candidates.{IsCandidate}
 use Rattle.leaf_link.specs.Ways.{IsFetched}
-use Rattle.leaf_link.specs.Internal.Problems.{key_of}
+use Rattle.leaf_link.specs.Problems.{key_of}
 use Rattle.leaf_link.specs.Firsts.{Precedes, is_nearer, leaf_pivot}
 use Rattle.leaf_link.specs.Started.{OrderIsKept, started_key}
 use Rattle.leaf_link.proofs.Numbers.{same_op}

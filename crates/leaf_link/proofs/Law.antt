@@ -27,18 +27,20 @@ use Rattle.fd_prob.specs.declared.slot.Slot.TheVariants as slots
 use Rattle.rv_script.specs.Labels.{label_number, question_number}
 use Rattle.rv_script.specs.Logs.{is_register, is_word, entry_place, entry_label, answer_told, labelled, value_or, by_answers, enlarged, started, Coherent}
 use Rattle.leaf_link.specs.Turns.{Turn}
-use Rattle.leaf_link.specs.Values.{Values, instr_in, has_address, address_if, given_by}
+use Rattle.rv_isa.specs.Fields.{has_address}
+use Rattle.leaf_link.specs.Values.{Values, instr_in, address_if, given_by}
 use Rattle.leaf_link.specs.Candidates.{accesses_in, moment_of}
 use Rattle.tpl_ast.specs.Leaves.{are_comparable, same_var, IsPlain}
 use Rattle.leaf_link.specs.Cases.{Shape, Way, Fits, FitsCase, all_relate, case_at, case_if, cases_of, fetch_entry, is_held, is_posed, or_no, relates, shape_of, unless, uses_rs1, value_at}
 use Rattle.leaf_link.specs.Ways.{HasAddress, IsFetched, IsOf, step_accesses}
-use Rattle.rv_hart.specs.Internal.Rests.{asks_rs1}
+use Rattle.rv_hart.specs.Rests.{asks_rs1}
 use Rattle.rv_script.proofs.Plays.{told, no_label, no_register, numbers_within}
+use Rattle.rv_script.proofs.Items.{has_either, has_first, has_second}
 use Rattle.rv_hart.proofs.Forms.{rest_between}
 use Rattle.leaf_link.proofs.Links.{enlarged_has}
 use Rattle.leaf_link.proofs.Truths.{Shows, register_at, when}
 use Rattle.leaf_link.proofs.Unrefused.{is_never_refused}
-use Rattle.leaf_link.proofs.Front.{pa_aligned, a_entry, accesses_only, accesses_then, asks_a, asks_b, b_entry, chosen, front_log, has_either, has_first, has_only, has_second, label_here, label_past, label_skip, later_has, only, only_has, rest_of, walk_first, walk_known, word_place}
+use Rattle.leaf_link.proofs.Front.{pa_aligned, a_entry, accesses_only, accesses_then, asks_a, asks_b, b_entry, chosen, front_log, has_only, label_here, label_past, label_skip, later_has, only, only_has, rest_of, walk_first, walk_known, word_place}
 
 -- COHERENCE
 pub coherent_cons : (k : Known) (e : Entry) (log : List Entry) → Coherent k log

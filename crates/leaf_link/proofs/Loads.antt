@@ -6,11 +6,12 @@ use Rattle.rv_isa.specs.declared.operation.Op.{Op}
 use Rattle.rv_isa.specs.declared.table.Row.{Row}
 use Rattle.rv_isa.specs.declared.table.Row.TheVariants.{R, I, Shift, S, B, U, J, Csr as CsrRow, CsrImmediate, FenceSets, AddressFence, Fixed as Whole, DefinedIllegal}
 use Rattle.rv_isa.specs.Encoding.{word_of}
-use Rattle.rv_isa.specs.Fields.{is_load}
+use Rattle.rv_isa.specs.Fields.{is_load, has_address}
 use Rattle.rv_isa.specs.Table.{row_of}
 use Rattle.rv_csr.specs.declared.cause.Cause.TheVariants.{LoadMisaligned}
 use Rattle.rv_script.specs.Script.{Script}
 use Rattle.rv_script.specs.Folds.{Entry}
+use Rattle.rv_script.proofs.Items.{has_either}
 use Rattle.sv_walk.specs.declared.entry.Kind.TheVariants.{Load as ForLoad}
 use Rattle.rv_hart.specs.declared.record.Change.{Change}
 use Rattle.rv_hart.specs.Fixed.{Fixed}
@@ -18,14 +19,14 @@ use Rattle.rv_hart.specs.Machine.{at_address, data_view, load_at, load_from, loa
 use Rattle.rv_hart.specs.Privileged.{rd_told, retired, trap}
 use Rattle.fd_prob.specs.declared.slot.Slot.TheVariants as slots
 use Rattle.leaf_link.specs.Turns.{Turn}
-use Rattle.leaf_link.specs.Values.{Values, address_if, has_address, has_csr_operand, instr_in}
+use Rattle.leaf_link.specs.Values.{Values, address_if, has_csr_operand, instr_in}
 use Rattle.leaf_link.specs.Ways.{HasAddress, IsFetched, IsOf}
-use Rattle.rv_hart.specs.Internal.Rests.{rest}
+use Rattle.rv_hart.specs.Rests.{rest}
 use Rattle.leaf_link.specs.Reaching.{LoadsAreExact, load_question, load_ways}
 use Rattle.leaf_link.proofs.Accessing.{IsData, data_is_ways}
 use Rattle.leaf_link.proofs.Reaching.{data_script, early_write, walk_numbers}
 use Rattle.leaf_link.proofs.Resting.{in_one, is_write, quiet_apart}
-use Rattle.leaf_link.proofs.Front.{has_either, rest_of}
+use Rattle.leaf_link.proofs.Front.{rest_of}
 use Rattle.leaf_link.proofs.Operations.{all_asked, exact, if_no, if_yes}
 
 pub load_rest : (row : Row) → is_load row ≡ true → (f : Fixed) (word : ℕ) (i : Instr) (a b : ℕ) → rest row f word i a b ≡ load_from f word i ((a + i.imm) % 2 ^ 32)

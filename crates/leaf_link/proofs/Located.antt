@@ -13,6 +13,7 @@ use Rattle.rv_script.specs.Logs.{by_answers, entry_place, entry_label, is_word, 
 use Rattle.rv_script.specs.Script.{Label, Label.FetchRoot, Label.FetchSecond, Label.Fetched, Label.FromRs1, Label.FromRs2, Label.FromCsr, Label.DataRoot, Label.DataSecond, Label.DataWord, Label.FromVector, Question, Question.OfRegister, Question.OfCsr, Question.OfMemory, Question.ToMemory, place_of}
 use Rattle.rv_script.specs.Folds.{Entry, Known}
 use Rattle.rv_script.specs.Bytes.{word_address}
+use Rattle.rv_script.proofs.Items.{has_either, has_second}
 use Rattle.tpl_ast.specs.declared.template.Atom.{Atom}
 use Rattle.fd_prob.specs.declared.slot.Slot.TheVariants as slots
 use Rattle.leaf_link.specs.Turns.{Turn}
@@ -20,10 +21,10 @@ use Rattle.leaf_link.specs.Values.{Values, address_if, given_by, instr_in, old_c
 use Rattle.leaf_link.specs.Candidates.{IsCandidate}
 use Rattle.leaf_link.specs.Cases.{fetch_entry}
 use Rattle.leaf_link.specs.Ways.{AreWords, IsFetched}
-use Rattle.leaf_link.specs.Internal.Problems.{key_of}
+use Rattle.leaf_link.specs.Problems.{key_of}
 use Rattle.leaf_link.specs.Placing.{PlacesHaveValues, data_value, place_value}
 use Rattle.leaf_link.proofs.Links.{instr_assigned}
-use Rattle.leaf_link.proofs.Front.{a_entry, asks_a, asks_b, b_entry, front_log, has_either, has_only, has_second, later_has, only, only_has, pa_aligned, rest_of, told_a, told_b, walk_known, word_place}
+use Rattle.leaf_link.proofs.Front.{a_entry, asks_a, asks_b, b_entry, front_log, has_only, later_has, only, only_has, pa_aligned, rest_of, told_a, told_b, walk_known, word_place}
 use Rattle.leaf_link.proofs.Law.{rest_label}
 use Rattle.leaf_link.proofs.Back.{told_small}
 use Rattle.leaf_link.proofs.Placing.{InParts, asked_by, both_asked, found_in, given_here, in_parts_of, new_found, unknown_value}

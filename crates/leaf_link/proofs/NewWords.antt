@@ -5,7 +5,7 @@ use Rattle.rv_isa.specs.declared.operation.Op.{Op}
 use Rattle.rv_isa.specs.declared.operation.Op.TheVariants as ops
 use Rattle.rv_isa.specs.declared.table.Row.{Row}
 use Rattle.rv_isa.specs.declared.table.Row.TheVariants.{R, I, Shift, S, B, U, J, Csr as CsrRow, CsrImmediate, FenceSets, AddressFence, Fixed as Whole, DefinedIllegal}
-use Rattle.rv_isa.specs.Fields.{is_store}
+use Rattle.rv_isa.specs.Fields.{is_store, has_address}
 use Rattle.rv_isa.specs.Table.{row_of}
 use Rattle.rv_csr.specs.declared.access.CsrAccess.{CsrAccess}
 use Rattle.rv_csr.specs.declared.access.CsrAccess.TheVariants.{Granted, Denied, Outside as NotModelled}
@@ -22,8 +22,7 @@ use Rattle.sv_walk.specs.declared.entry.View.{View}
 use Rattle.sv_walk.specs.Translation.{arrived, is_translated, translated}
 use Rattle.rv_hart.specs.Machine.{fence_row, jump_row, jumped, upper_pc_row, upper_row}
 use Rattle.rv_hart.specs.Privileged.{address_fence_row, csr_accessed, csr_exchanged, csr_granted, csr_immediate_row, mret_row, old_value, sret_row, trap, write_csr, writes_csr}
-use Rattle.rv_hart.specs.Internal.Rests.{after_access, csr_access, rest}
-use Rattle.leaf_link.specs.Values.{has_address}
+use Rattle.rv_hart.specs.Rests.{after_access, csr_access, rest}
 
 -- ---- what a rest asks for
 

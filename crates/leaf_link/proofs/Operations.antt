@@ -6,7 +6,7 @@ use Rattle.rv_isa.specs.declared.operation.Op.{Op}
 use Rattle.rv_isa.specs.declared.operation.Op.TheVariants.{Beq, Bne, Blt, Bge, Bltu, Bgeu, Jal, Jalr, Ecall, Ebreak, SfenceVma, Illegal as IllegalOp}
 use Rattle.rv_isa.specs.declared.table.Row.{Row}
 use Rattle.rv_isa.specs.declared.table.Row.TheVariants.{R, I, Shift, S, B, U, J, Csr as CsrRow, CsrImmediate, FenceSets, AddressFence, Fixed as Whole, DefinedIllegal}
-use Rattle.rv_isa.specs.Arithmetic.{alu_result, is_branch}
+use Rattle.rv_isa.specs.Arithmetic.{alu_result, is_branch, is_taken}
 use Rattle.rv_isa.specs.Encoding.{word_of}
 use Rattle.rv_isa.specs.Fields.{reads_rs1}
 use Rattle.rv_isa.specs.Table.{row_of}
@@ -18,7 +18,7 @@ use Rattle.rv_hart.specs.declared.record.Change.{Change}
 use Rattle.rv_hart.specs.declared.record.Control.TheVariants.{Stay}
 use Rattle.rv_hart.specs.Changes.{outcome_of}
 use Rattle.rv_hart.specs.Fixed.{Fixed}
-use Rattle.rv_hart.specs.Machine.{even, fence_row, is_taken, jump_row, jumped, upper_pc_row, upper_row}
+use Rattle.rv_hart.specs.Machine.{even, fence_row, jump_row, jumped, upper_pc_row, upper_row}
 use Rattle.rv_hart.specs.Privileged.{address_fence_row, call_cause, following, is_withheld, rd_told, retired, trap, went}
 use Rattle.tpl_ast.specs.declared.template.Atom.{Atom}
 use Rattle.tpl_admit.specs.Variables.{outcome_in}
@@ -26,7 +26,7 @@ use Rattle.fd_prob.specs.declared.slot.Slot.TheVariants as slots
 use Rattle.leaf_link.specs.Turns.{Turn}
 use Rattle.leaf_link.specs.Values.{Values, instr_in, has_csr_operand}
 use Rattle.leaf_link.specs.Ways.{IsFetched, IsOf, IsWays}
-use Rattle.rv_hart.specs.Internal.Rests.{asks_rs1, rest}
+use Rattle.rv_hart.specs.Rests.{asks_rs1, rest}
 use Rattle.leaf_link.specs.Kinds.{branch_goes, far_is_target, forks, is_plain_row, near_is_target, retires, traps}
 use Rattle.leaf_link.specs.KindLaws.{WaysAreExact, PlainIsExact, BranchesAreExact, JumpIsExact, JumpRegisterIsExact, CallIsExact, BreakIsExact, IllegalIsExact, AddressFenceIsExact, fence_ways}
 use Rattle.leaf_link.proofs.Front.{rest_of}

@@ -18,14 +18,14 @@ use Rattle.rv_script.specs.Folds.{Entry, Known, Teller, Answer.Does}
 use Rattle.rv_script.proofs.Plays.{first_asked, same_is, told}
 use Rattle.rv_hart.specs.Fixed.{Fixed}
 use Rattle.rv_hart.specs.Machine.{script}
-use Rattle.rv_hart.specs.Internal.Rests.{asks_rs1}
+use Rattle.rv_hart.specs.Rests.{asks_rs1}
 use Rattle.tpl_ast.specs.declared.template.Atom.{Atom}
 use Rattle.fd_prob.specs.declared.slot.Slot.TheVariants as slots
 use Rattle.leaf_link.specs.Turns.{Turn}
 use Rattle.leaf_link.specs.Values.{Values, given_by, instr_in}
 use Rattle.leaf_link.specs.Candidates.{IsCandidate}
 use Rattle.leaf_link.specs.Ways.{IsFetched}
-use Rattle.leaf_link.specs.Internal.Problems.{key_of}
+use Rattle.leaf_link.specs.Problems.{key_of}
 use Rattle.leaf_link.specs.Placing.{ValuesAreInstructions}
 use Rattle.leaf_link.proofs.Links.{Good, candidate_good, instr_assigned}
 use Rattle.leaf_link.proofs.Front.{front_back, front_log, rest_of, settled, told_a, told_b}

@@ -17,8 +17,9 @@ use Rattle.leaf_link.specs.Turns.{Turn}
 use Rattle.leaf_link.specs.Values.{Values, given_by}
 use Rattle.leaf_link.specs.Cases.{is_some_word}
 use Rattle.rv_script.proofs.Plays.{no_label, numbers_within, play_same, same_is, same_refl, told}
+use Rattle.rv_script.proofs.Items.{has_either}
 use Rattle.sv_walk.proofs.Orders.{translated_between}
-use Rattle.leaf_link.proofs.Front.{has_either, label_past, prefixed_done}
+use Rattle.leaf_link.proofs.Front.{label_past, prefixed_done}
 use Rattle.leaf_link.proofs.Resting.{in_one, is_write}
 
 -- SCRIPTS ONE AFTER ANOTHER

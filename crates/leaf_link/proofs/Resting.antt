@@ -35,10 +35,11 @@ use Rattle.leaf_link.specs.Values.{Values, instr_in, given_by, has_csr_operand, 
 use Rattle.leaf_link.specs.Candidates.{accesses_in}
 use Rattle.leaf_link.specs.Cases.{Way, all_tests, fetch_entry, is_some_word}
 use Rattle.leaf_link.specs.Ways.{AsksUsed, DoesRest, FitsWay, IsFetched, IsOf, IsReach, IsWays, shape_with, step_accesses}
-use Rattle.rv_hart.specs.Internal.Rests.{asks_rs1}
+use Rattle.rv_hart.specs.Rests.{asks_rs1}
 use Rattle.leaf_link.specs.Kinds.{always, forks, nothing_new, retires, retires_when, traps, traps_when, vector_alone, vector_at}
 use Rattle.rv_script.proofs.Plays.{asks}
-use Rattle.leaf_link.proofs.Front.{has_either, rest_of, same_done, walk_first}
+use Rattle.rv_script.proofs.Items.{has_either}
+use Rattle.leaf_link.proofs.Front.{rest_of, same_done, walk_first}
 use Rattle.leaf_link.proofs.Both.{each_slot}
 
 -- ACCESSES THAT ONLY LOOK

@@ -26,10 +26,10 @@ use Rattle.rv_hart.specs.declared.record.Change.{Change}
 use Rattle.rv_hart.specs.Fixed.{Fixed}
 use Rattle.rv_hart.specs.Machine.{arriving, at_address, data_view, fence_row, jump_row, jumped, load_at, load_from, reached, store_at, store_to, upper_pc_row, upper_row}
 use Rattle.rv_hart.specs.Privileged.{address_fence_row, csr_accessed, csr_exchanged, csr_granted, csr_immediate_row, mret_row, old_value, sret_row, trap, write_csr, writes_csr}
-use Rattle.rv_hart.specs.Internal.Rests.{after_access, csr_access, rest}
+use Rattle.rv_hart.specs.Rests.{after_access, csr_access, rest}
 use Rattle.leaf_link.specs.Values.{Values, given_by, has_csr_operand, instr_in}
 use Rattle.leaf_link.specs.Placing.{KeepsSatp, StepsKeepSatp, IsNotSatp, accesses_satp}
-use Rattle.leaf_link.specs.Internal.Problems.{key_of}
+use Rattle.leaf_link.specs.Problems.{key_of}
 use Rattle.leaf_link.proofs.Links.{instr_assigned}
 use Rattle.leaf_link.proofs.Front.{rest_of, told_a, told_b}
 use Rattle.leaf_link.proofs.Placing.{in_parts_of}

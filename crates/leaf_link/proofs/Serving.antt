@@ -19,7 +19,8 @@ use Rattle.sv_walk.proofs.Orders.{translated_between}
 use Rattle.addr_rows.specs.Walks.{Walks as RowWalks, end_at, entry_answers, may_be_root, may_be_second, word_address_of as address_of}
 use Rattle.addr_rows.specs.Laws.{Always}
 use Rattle.rv_hart.specs.Machine.{data_view, fetch_view}
-use Rattle.leaf_link.specs.Turns.{Turn, in_frames, is_first_form, is_second_form, may_start, word_address_of}
+use Rattle.rv_mem.specs.Frames.{in_frames}
+use Rattle.leaf_link.specs.Turns.{Turn, is_first_form, is_second_form, may_start, word_address_of}
 use Rattle.leaf_link.specs.Values.{given_by}
 use Rattle.leaf_link.specs.Reaching.{Walks}
 use Rattle.leaf_link.specs.Fetches.{fetch_script}
@@ -116,7 +117,7 @@ by_given t first second log end h =
     play_same (fetch_script t) tell (by_answers t.known (given_by (entry_values first second))) log end h (λ e i.
     ap (λ (v : ℕ). or_given (t.known (entry_place e)) v) (same_answer first second (entry_label e) (asks_early t tell log end h e i)) ∙ told (fetch_script t) tell log end h e i)
 
-given_by_entries : (t : Turn) (first second : ℕ) (log : List Entry) (end : Reached) → answer_told (by_answers t.known (given_by (entry_values first second))) (fetch_script t) ≡ Does log end
+pub given_by_entries : (t : Turn) (first second : ℕ) (log : List Entry) (end : Reached) → answer_told (by_answers t.known (given_by (entry_values first second))) (fetch_script t) ≡ Does log end
     → answer_told (by_answers t.known (entry_answers first second)) (fetch_script t) ≡ Does log end
 given_by_entries t first second log end h =
     let tell : Teller = by_answers t.known (given_by (entry_values first second)) in

@@ -17,7 +17,8 @@ use Rattle.fd_prob.specs.declared.slot.Slot.TheVariants as slots
 use Rattle.rv_script.specs.Labels.{label_number, question_number}
 use Rattle.rv_script.specs.Logs.{entry_place, by_answers, if_new, labelled, new_value, or_given, value_in}
 use Rattle.leaf_link.specs.Turns.{Turn}
-use Rattle.leaf_link.specs.Values.{Values, fixed_value, given_by, has_address, has_csr_operand, instr_in, old_csr, unasked_csr}
+use Rattle.rv_isa.specs.Fields.{has_address}
+use Rattle.leaf_link.specs.Values.{Values, fixed_value, given_by, has_csr_operand, instr_in, old_csr, unasked_csr}
 use Rattle.rv_isa.specs.Numbers.{op_number}
 use Rattle.leaf_link.specs.Ways.{AreWords}
 use Rattle.rv_script.proofs.Plays.{told}

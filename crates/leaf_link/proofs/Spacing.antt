@@ -10,7 +10,7 @@ use Rattle.rv_isa.specs.declared.operation.Op.{Op}
 use Rattle.rv_isa.specs.declared.operation.TheConstants.{OPS}
 use Rattle.rv_isa.specs.declared.table.Row.{Row}
 use Rattle.rv_isa.specs.declared.table.Row.TheVariants.{R, I, Shift, S, B, U, J, Csr as CsrRow, CsrImmediate, FenceSets, AddressFence, Fixed as Whole, DefinedIllegal}
-use Rattle.rv_isa.specs.Fields.{has_csr, has_rs1, has_rs2}
+use Rattle.rv_isa.specs.Fields.{has_csr, has_rs1, has_rs2, has_address}
 use Rattle.rv_isa.specs.Table.{row_of}
 use Rattle.tpl_ast.specs.declared.template.Atom.{Atom}
 use Rattle.tpl_ast.specs.declared.template.Var.TheVariants as vars
@@ -22,9 +22,8 @@ use Rattle.fd_prob.specs.Fitting.{domain_of}
 use Rattle.fd_prob.specs.Order.{domain_in, draw_of, picked, pivot_of}
 use Rattle.rv_isa.specs.Numbers.{op_numbered, op_number}
 use Rattle.fd_prob.specs.Slots.{slot_number}
-use Rattle.fd_prob.specs.Spaces.{access_space, allowed_case, allowed_cases, counted_fields, has_data_access, if_allowed, is_access, numbers_from, operation_space, pages_in, pages_of, product_of, saturated, size_in, source_of, sum_of}
+use Rattle.fd_prob.specs.Spaces.{access_space, allowed_case, allowed_cases, counted_fields, if_allowed, is_access, numbers_from, operation_space, pages_in, pages_of, product_of, saturated, size_in, source_of, sum_of}
 use Rattle.leaf_link.specs.Turns.{Turn}
-use Rattle.leaf_link.specs.Values.{has_address}
 use Rattle.leaf_link.specs.Cases.{all_tests}
 use Rattle.leaf_link.specs.Firsts.{AreFirsts, HasDraws, IsDomain, IsFirstOf, PivotsAreExact, SpaceIsExact, allowed_by, counts_imm, data_pairs, data_space, domain_list, domain_size, first_domain, first_of, is_allowed, is_data_op, leaf_draw, leaf_pages, op_space, size_if}
 use Rattle.leaf_link.proofs.Numbers.{op_back}
@@ -149,17 +148,8 @@ ops_are t pa leaf [] (o ∷ os) h = absurd h
 ops_are t pa leaf (c ∷ cs) [] h = absurd h
 
 -- LOADS AND STORES
-reaches_is : (row : Row) → has_data_access row ≡ has_address row
-reaches_is (I opcode funct3) = go (opcode == 0x03)
-  where
-    go : (b : Bool) → b ≡ (b || false)
-    go true = refl
-    go false = refl
-reaches_is (S opcode funct3) = refl
-reaches_is _ = refl
-
 access_is : (t : Turn) (pa : ℕ) (leaf : List Atom) (o : Op) (c : Case) → IsOf t pa leaf o c → is_access c ≡ is_data_op o
-access_is t pa leaf o c h = ap (λ (q : Op). has_data_access (row_of q)) (op_is t pa leaf o c h) ∙ reaches_is (row_of o)
+access_is t pa leaf o c h = ap (λ (q : Op). has_address (row_of q)) (op_is t pa leaf o c h)
 
 pages_are : (t : Turn) (pa : ℕ) (leaf : List Atom) (o : Op) (c : Case) → IsOf t pa leaf o c → is_data_op o ≡ true → pages_of (domain_of c slots.Ea) ≡ leaf_pages t leaf
 pages_are t pa leaf o c h is_yes =

@@ -8,13 +8,13 @@ use Rattle.rv_isa.specs.declared.operation.Op.TheVariants.{Lb, Lbu, Lh, Lhu, Sb,
 use Rattle.rv_isa.specs.declared.table.Row.{Row}
 use Rattle.rv_isa.specs.declared.table.Row.TheVariants.{R, I, Shift, S, B, U, J, Csr as CsrRow, CsrImmediate, FenceSets, AddressFence, Fixed as Whole, DefinedIllegal}
 use Rattle.rv_isa.specs.Encoding.{word_of}
-use Rattle.rv_isa.specs.Fields.{is_store}
+use Rattle.rv_isa.specs.Fields.{is_store, has_address}
 use Rattle.rv_isa.specs.Table.{row_of}
 use Rattle.rv_csr.specs.declared.cause.Cause.TheVariants.{StoreMisaligned}
 use Rattle.rv_script.specs.declared.access.Access.{Access}
 use Rattle.rv_script.specs.declared.access.Role.{Role}
 use Rattle.rv_script.specs.declared.access.Role.TheVariants.{Fetch, Walk, Load, Store}
-use Rattle.rv_script.specs.Bytes.{covers, is_look}
+use Rattle.rv_script.specs.Bytes.{covers, is_look, any_byte}
 use Rattle.rv_script.specs.Script.{Label, Label.FetchRoot, Label.FetchSecond, Label.Fetched, Label.FromRs1, Label.FromRs2, Label.FromCsr, Label.DataRoot, Label.DataSecond, Label.DataWord, Label.FromVector, Question, Question.OfRegister, Question.OfCsr, Question.OfMemory, Question.ToMemory, access_of, role_of, Script}
 use Rattle.foot_map.specs.Races.{breaks, is_code}
 use Rattle.sv_walk.specs.Translation.{Reached, At}
@@ -27,20 +27,21 @@ use Rattle.rv_hart.specs.Machine.{at_address, data_view, size_of, store_at, stor
 use Rattle.rv_hart.specs.Privileged.{retired, trap}
 use Rattle.fd_prob.specs.declared.slot.Slot.TheVariants as slots
 use Rattle.leaf_link.specs.Turns.{Turn}
-use Rattle.leaf_link.specs.Values.{Values, address_if, has_address, given_by, has_csr_operand, instr_in}
+use Rattle.leaf_link.specs.Values.{Values, address_if, given_by, has_csr_operand, instr_in}
 use Rattle.rv_script.specs.Labels.{label_number, question_number}
 use Rattle.rv_script.specs.Logs.{answer_told, log_of, by_answers}
 use Rattle.leaf_link.specs.Candidates.{accesses_in}
 use Rattle.leaf_link.specs.Cases.{fetch_entry}
 use Rattle.leaf_link.specs.Ways.{HasAddress, IsFetched, IsOf, step_accesses}
-use Rattle.rv_hart.specs.Internal.Rests.{rest}
-use Rattle.leaf_link.specs.Reaching.{StoresAreExact, any_byte, data_walk, store_apart, store_question, store_ways}
+use Rattle.rv_hart.specs.Rests.{rest}
+use Rattle.leaf_link.specs.Reaching.{StoresAreExact, data_walk, store_apart, store_question, store_ways}
 use Rattle.leaf_link.proofs.Accessing.{IsData, data_is_ways}
 use Rattle.leaf_link.proofs.Reaching.{data_script, walk_numbers}
 use Rattle.leaf_link.proofs.Resting.{accessed, in_one, looks_apart}
 use Rattle.sv_walk.proofs.Offsets.{offset_kept}
 use Rattle.rv_script.proofs.Plays.{entry}
-use Rattle.leaf_link.proofs.Front.{all_hold, hold_all, accesses_then, has_either, has_first, has_second, rest_of, walk_first}
+use Rattle.rv_script.proofs.Items.{has_either, has_first, has_second}
+use Rattle.leaf_link.proofs.Front.{all_hold, hold_all, accesses_then, rest_of, walk_first}
 use Rattle.leaf_link.proofs.Operations.{all_asked, exact, if_no, if_yes}
 
 pub store_rest : (row : Row) → is_store row ≡ true → (f : Fixed) (word : ℕ) (i : Instr) (a b : ℕ) → rest row f word i a b ≡ store_to f word i ((a + i.imm) % 2 ^ 32) b

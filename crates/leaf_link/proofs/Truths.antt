@@ -5,15 +5,15 @@ use Rattle.std.specs.Prelude.{slice_index_or}
 use Rattle.dom_set.specs.Elements.{is_in}
 use Rattle.rv_isa.specs.declared.instruction.Instr.{Instr}
 use Rattle.rv_isa.specs.declared.operation.Op.{Op}
-use Rattle.rv_isa.specs.Arithmetic.{is_branch}
-use Rattle.rv_isa.specs.Fields.{has_csr, has_imm, has_rd, has_rs1, has_rs2, is_load, is_store, reads_rs1, reads_rs2}
+use Rattle.rv_isa.specs.Arithmetic.{is_branch, is_taken}
+use Rattle.rv_isa.specs.Fields.{has_csr, has_imm, has_rd, has_rs1, has_rs2, is_load, is_store, reads_rs1, reads_rs2, has_address}
 use Rattle.rv_isa.specs.Reading.{decoded}
 use Rattle.rv_isa.specs.Table.{row_of}
 use Rattle.rv_script.specs.declared.place.Place.TheVariants.{Reg}
 use Rattle.rv_script.specs.Folds.{Known}
 use Rattle.rv_hart.specs.declared.record.Outcome.{Outcome}
 use Rattle.rv_hart.specs.declared.record.Outcome.TheVariants.{Retired, Trap}
-use Rattle.rv_hart.specs.Machine.{even, is_taken}
+use Rattle.rv_hart.specs.Machine.{even}
 use Rattle.tpl_ast.specs.declared.template.Atom.{Atom}
 use Rattle.tpl_ast.specs.declared.template.Atom.TheVariants as atoms
 use Rattle.tpl_ast.specs.declared.template.Var.{Var}
@@ -22,7 +22,7 @@ use Rattle.tpl_admit.specs.Truth.{are_same, are_different, condition, condition_
 use Rattle.tpl_admit.specs.Variables.{Moment, address_of, data_address, field, first_operand, first_register, is_jalr, is_refused, offset, outcome_in, read_register, second_operand, second_register, target_of, unless_refused, value_of}
 use Rattle.fd_prob.specs.declared.slot.Slot.TheVariants as slots
 use Rattle.leaf_link.specs.Turns.{Turn}
-use Rattle.leaf_link.specs.Values.{Values, instr_in, has_address, address_if}
+use Rattle.leaf_link.specs.Values.{Values, instr_in, address_if}
 use Rattle.rv_isa.specs.Numbers.{op_number}
 use Rattle.leaf_link.specs.Candidates.{all_met, is_met, is_named, registers_from}
 use Rattle.tpl_ast.specs.Leaves.{same_var, var_number}

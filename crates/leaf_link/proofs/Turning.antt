@@ -28,7 +28,7 @@ use Rattle.leaf_link.specs.Values.{Values, new_places}
 use Rattle.leaf_link.specs.Candidates.{IsCandidate}
 use Rattle.leaf_link.specs.Cases.{Fits, all_tests, code_at, in_word}
 use Rattle.leaf_link.specs.Answers.{ComesBeforeIn}
-use Rattle.leaf_link.specs.Internal.Problems.{key_of}
+use Rattle.leaf_link.specs.Problems.{key_of}
 use Rattle.leaf_link.specs.AllWays.{leaf_cases, ways_of}
 use Rattle.leaf_link.specs.Firsts.{AreFirsts, FirstsHoldNothing, HasDraws, HoldNothing, Precedes, TurnAnswersAreExact, first_domain, in_first_word, is_allowed, leaf_pivot, leaf_space, with_cases}
 use Rattle.leaf_link.proofs.Numbers.{op_back}

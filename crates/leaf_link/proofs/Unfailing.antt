@@ -5,6 +5,7 @@ use Rattle.rv_isa.specs.declared.table.Row.{Row}
 use Rattle.rv_isa.specs.declared.table.Row.TheVariants.{R, I, Shift, S, B, U, J, Csr as CsrRow, CsrImmediate, FenceSets, AddressFence, Fixed as Whole, DefinedIllegal}
 use Rattle.rv_isa.specs.Encoding.{word_of}
 use Rattle.rv_isa.specs.Table.{row_of}
+use Rattle.rv_isa.specs.Arithmetic.{is_taken}
 use Rattle.rv_csr.specs.declared.access.CsrAccess.{CsrAccess}
 use Rattle.rv_csr.specs.declared.access.CsrAccess.TheVariants.{Granted, Denied, Outside as NotModelled}
 use Rattle.rv_csr.specs.declared.cause.Cause.{Cause}
@@ -29,12 +30,12 @@ use Rattle.rv_hart.specs.declared.record.Change.{Change}
 use Rattle.rv_hart.specs.declared.record.Control.TheVariants.{Mret, Sret, Stay}
 use Rattle.rv_hart.specs.Changes.{outcome_of}
 use Rattle.rv_hart.specs.Fixed.{Fixed}
-use Rattle.rv_hart.specs.Machine.{arriving, at_address, data_view, fence_row, is_taken, jump_row, jumped, load_at, load_from, reached, size_of, store_at, store_to, upper_pc_row, upper_row}
+use Rattle.rv_hart.specs.Machine.{arriving, at_address, data_view, fence_row, jump_row, jumped, load_at, load_from, reached, size_of, store_at, store_to, upper_pc_row, upper_row}
 use Rattle.rv_hart.specs.Privileged.{address_fence_row, call_cause, csr_accessed, csr_exchanged, csr_granted, csr_immediate_row, is_withheld, lazy_address, mret_row, old_value, reads_csr, refused, retired, sret_row, trap, went, write_csr}
-use Rattle.rv_hart.specs.Internal.Rests.{after_access, csr_access, rest}
+use Rattle.rv_hart.specs.Rests.{after_access, csr_access, rest}
 use Rattle.tpl_admit.specs.Admitting.{is_fetch_cause, is_unfetched}
 use Rattle.leaf_link.specs.Admitted.{StepsAreFetched}
-use Rattle.leaf_link.specs.Internal.Problems.{key_of}
+use Rattle.leaf_link.specs.Problems.{key_of}
 use Rattle.leaf_link.specs.Values.{Values, given_by, instr_in}
 use Rattle.leaf_link.proofs.Front.{rest_of, told_a, told_b}
 use Rattle.leaf_link.proofs.Placing.{in_parts_of}

@@ -5,8 +5,8 @@ use Rattle.rv_isa.specs.declared.operation.Op.{Op}
 use Rattle.rv_isa.specs.declared.operation.Op.TheVariants.{Jalr}
 use Rattle.rv_isa.specs.declared.table.Row.{Row}
 use Rattle.rv_isa.specs.declared.table.Row.TheVariants.{R, I, Shift, S, B, U, J, Csr as CsrRow, CsrImmediate, FenceSets, AddressFence, Fixed as Whole, DefinedIllegal}
-use Rattle.rv_isa.specs.Arithmetic.{has_condition}
-use Rattle.rv_isa.specs.Fields.{reads_rs1, reads_rs2}
+use Rattle.rv_isa.specs.Arithmetic.{has_condition, is_taken}
+use Rattle.rv_isa.specs.Fields.{reads_rs1, reads_rs2, has_address}
 use Rattle.rv_isa.specs.Table.{row_of}
 use Rattle.rv_csr.specs.declared.cause.Cause.{Cause}
 use Rattle.rv_csr.specs.declared.cause.Cause.TheVariants.{FetchMisaligned, LoadMisaligned, StoreMisaligned}
@@ -22,11 +22,10 @@ use Rattle.rv_hart.specs.declared.record.Change.{Change}
 use Rattle.rv_hart.specs.declared.record.Control.TheVariants.{Stay}
 use Rattle.rv_hart.specs.Changes.{outcome_of}
 use Rattle.rv_hart.specs.Fixed.{Fixed}
-use Rattle.rv_hart.specs.Machine.{arriving, at_address, data_view, is_taken, jumped, load_at, load_from, reached, size_of, store_at, store_to}
+use Rattle.rv_hart.specs.Machine.{arriving, at_address, data_view, jumped, load_at, load_from, reached, size_of, store_at, store_to}
 use Rattle.rv_hart.specs.Privileged.{trap, went}
-use Rattle.rv_hart.specs.Internal.Rests.{asks_rs1, rest}
+use Rattle.rv_hart.specs.Rests.{asks_rs1, rest}
 use Rattle.tpl_admit.specs.Variables.{is_jalr, outcome_in}
-use Rattle.leaf_link.specs.Values.{has_address}
 
 abbrev pub is_never_refused : Row → Bool
 is_never_refused (R opcode funct3 funct7) = true

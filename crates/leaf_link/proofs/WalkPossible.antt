@@ -27,7 +27,8 @@ use Rattle.rv_hart.specs.Machine.{at_address, data_view, fetch_view, fetched_at,
 use Rattle.rv_hart.specs.Privileged.{trap}
 use Rattle.rv_isa.specs.Numbers.{op_numbered, op_number}
 use Rattle.fd_prob.specs.declared.slot.Slot.TheVariants as slots
-use Rattle.leaf_link.specs.Turns.{in_frames, is_second_form, may_start}
+use Rattle.rv_mem.specs.Frames.{in_frames}
+use Rattle.leaf_link.specs.Turns.{is_second_form, may_start}
 use Rattle.leaf_link.specs.Values.{Values, fixed_value, given_by, new_places}
 use Rattle.leaf_link.specs.KindLaws.{IsPosed}
 use Rattle.leaf_link.specs.Reaching.{AreRows, Walks}

@@ -16,7 +16,7 @@ use Rattle.leaf_link.specs.Candidates.{IsCandidate}
 use Rattle.leaf_link.specs.Cases.{Case, Fits, Way, cases_of}
 use Rattle.leaf_link.specs.Ways.{IsWays}
 use Rattle.leaf_link.specs.KindLaws.{IsPosed}
-use Rattle.leaf_link.specs.Internal.Problems.{AnswersAreExact, ProblemIsExact, cases, cases_over, key_of}
+use Rattle.leaf_link.specs.Problems.{AnswersAreExact, ProblemIsExact, cases, cases_over, key_of}
 use Rattle.leaf_link.proofs.Numbers.{op_back}
 use Rattle.leaf_link.proofs.Links.{law_from}
 use Rattle.leaf_link.proofs.Front.{settled}

@@ -13,7 +13,8 @@ use Rattle.fd_prob.specs.declared.problem.Problem.{Problem}
 use Rattle.fd_solve.specs.declared.answers.Solved.{Solved}
 use Rattle.fd_solve.specs.Answers.{IsAnswer}
 use Rattle.leaf_link.specs.Turns.{Turn}
-use Rattle.leaf_link.specs.Values.{assigned, has_address, new_places}
+use Rattle.rv_isa.specs.Fields.{has_address}
+use Rattle.leaf_link.specs.Values.{assigned, new_places}
 use Rattle.leaf_link.specs.Ways.{IsFetched, IsWays}
 use Rattle.leaf_link.specs.Candidates.{IsCandidate}
 use Rattle.leaf_link.specs.Cases.{Case, Fits, Way}
@@ -23,7 +24,7 @@ use Rattle.leaf_link.specs.Laws.{OneToOne}
 use Rattle.leaf_link.specs.Reaching.{AreRows, HasPages, load_ways, store_ways}
 use Rattle.leaf_link.specs.Controls.{csr_ways, mret_ways, sret_ways}
 use Rattle.leaf_link.specs.Answers.{IsProblemOf}
-use Rattle.leaf_link.specs.Internal.Problems.{IsAnswerOverCandidates, cases}
+use Rattle.leaf_link.specs.Problems.{IsAnswerOverCandidates, cases}
 
 -- how a step of an operation may go on after its sources; the rows are those of the addresses of loads and of stores
 abbrev pub ways_of : Turn → List Entry → ℕ → List Atom → List EntryRow → List EntryRow → Op → List Way

@@ -6,15 +6,15 @@ use Rattle.rv_isa.specs.declared.instruction.Instr.{Instr}
 use Rattle.rv_isa.specs.declared.operation.Op.{Op}
 use Rattle.rv_isa.specs.declared.table.Row.{Row}
 use Rattle.rv_isa.specs.declared.table.Row.TheVariants.{R, I, Shift, S, B, U, J, Csr as CsrRow, CsrImmediate, FenceSets, AddressFence, Fixed as Whole, DefinedIllegal}
-use Rattle.rv_isa.specs.Arithmetic.{is_branch}
+use Rattle.rv_isa.specs.Arithmetic.{is_branch, is_taken}
 use Rattle.rv_isa.specs.Encoding.{sign_extended}
-use Rattle.rv_isa.specs.Fields.{has_csr, has_imm, has_rd, has_rs1, has_rs2, is_jump, reads_rs1, reads_rs2}
+use Rattle.rv_isa.specs.Fields.{has_csr, has_imm, has_rd, has_rs1, has_rs2, is_jump, reads_rs1, reads_rs2, has_address}
 use Rattle.rv_isa.specs.Reading.{decoded}
 use Rattle.rv_isa.specs.Table.{row_of}
 use Rattle.rv_script.specs.declared.place.Place.TheVariants.{Reg, Word}
 use Rattle.rv_script.specs.Script.{Label.Fetched, Question.OfMemory}
 use Rattle.rv_script.specs.Folds.{Entry}
-use Rattle.rv_hart.specs.Machine.{even, is_taken}
+use Rattle.rv_hart.specs.Machine.{even}
 use Rattle.tpl_ast.specs.Leaves.{same_var}
 use Rattle.tpl_ast.specs.declared.template.Atom.{Atom}
 use Rattle.tpl_ast.specs.declared.template.Atom.TheVariants as atoms
@@ -24,8 +24,9 @@ use Rattle.tpl_admit.specs.Truth.{is_shared}
 use Rattle.tpl_admit.specs.Variables.{is_jalr}
 use Rattle.fd_prob.specs.declared.slot.Slot.{Slot}
 use Rattle.fd_prob.specs.declared.slot.Slot.TheVariants as slots
-use Rattle.leaf_link.specs.Turns.{Turn, in_frames, is_free_entry, may_be_source}
-use Rattle.leaf_link.specs.Values.{Values, instr_in, has_address}
+use Rattle.rv_mem.specs.Frames.{in_frames}
+use Rattle.leaf_link.specs.Turns.{Turn, is_free_entry, may_be_source}
+use Rattle.leaf_link.specs.Values.{Values, instr_in}
 use Rattle.rv_isa.specs.Numbers.{op_number}
 
 -- WHAT A STEP USES, by its operation and its outcome, and whether it makes a data access

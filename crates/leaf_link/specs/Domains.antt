@@ -16,7 +16,7 @@ use Rattle.leaf_link.specs.Turns.{Turn, csr_of, holds_address, may_be_old}
 use Rattle.leaf_link.specs.Candidates.{IsCandidate}
 use Rattle.leaf_link.specs.Cases.{is_some_word}
 use Rattle.leaf_link.specs.KindLaws.{IsPosed}
-use Rattle.leaf_link.specs.Internal.Problems.{key_of}
+use Rattle.leaf_link.specs.Problems.{key_of}
 use Rattle.leaf_link.specs.Reaching.{AreRows, HasPages}
 use Rattle.leaf_link.specs.Firsts.{first_domain}
 

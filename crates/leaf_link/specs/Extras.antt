@@ -36,7 +36,7 @@ use Rattle.leaf_link.specs.Candidates.{accesses_in, all_met, moment_of}
 use Rattle.tpl_ast.specs.Leaves.{IsPlain}
 use Rattle.leaf_link.specs.KindLaws.{IsPosed}
 use Rattle.leaf_link.specs.Answers.{values_in}
-use Rattle.leaf_link.specs.Internal.Problems.{FitsPosed, MeetsBias, bias_cut}
+use Rattle.leaf_link.specs.Problems.{FitsPosed, MeetsBias, bias_cut}
 use Rattle.leaf_link.specs.Reaching.{AreRows, HasPages}
 use Rattle.leaf_link.specs.Firsts.{IsPosedProblem, IsTurnAnswer}
 

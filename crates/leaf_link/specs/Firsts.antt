@@ -7,7 +7,7 @@ use Rattle.rv_isa.specs.declared.operation.Op.TheVariants.{Mret, Sret}
 use Rattle.rv_isa.specs.declared.operation.TheConstants.{OPS}
 use Rattle.rv_isa.specs.declared.table.Row.{Row}
 use Rattle.rv_isa.specs.declared.table.Row.TheVariants.{U, J, R, I, Shift, S, B, Csr as CsrRow, CsrImmediate, FenceSets, AddressFence, Fixed as Whole, DefinedIllegal}
-use Rattle.rv_isa.specs.Fields.{has_csr, has_rs1, has_rs2, reads_rs1, reads_rs2}
+use Rattle.rv_isa.specs.Fields.{has_csr, has_rs1, has_rs2, reads_rs1, reads_rs2, has_address}
 use Rattle.rv_isa.specs.Reading.{decoded}
 use Rattle.rv_isa.specs.Table.{row_of}
 use Rattle.rv_csr.specs.Table.{address_of, registers}
@@ -34,12 +34,12 @@ use Rattle.rv_script.specs.Lists.{HasItem}
 use Rattle.fd_solve.specs.declared.answers.Solved.{Solved}
 use Rattle.fd_solve.specs.Answers.{IsAnswer}
 use Rattle.leaf_link.specs.Turns.{Turn, is_first_form, is_second_form}
-use Rattle.leaf_link.specs.Values.{Values, has_address, new_places}
+use Rattle.leaf_link.specs.Values.{Values, new_places}
 use Rattle.leaf_link.specs.Candidates.{IsCandidate}
 use Rattle.leaf_link.specs.Cases.{Case, all_tests, code_at, in_format, in_read, or_no}
 use Rattle.leaf_link.specs.KindLaws.{IsPosed}
 use Rattle.leaf_link.specs.Answers.{IsAnswerOver, IsProblemOf}
-use Rattle.leaf_link.specs.Internal.Problems.{key_of}
+use Rattle.leaf_link.specs.Problems.{key_of}
 use Rattle.leaf_link.specs.Reaching.{AreRows, HasPages}
 use Rattle.leaf_link.specs.AllWays.{leaf_cases}
 
@@ -141,7 +141,7 @@ leaf_pages t leaf = length (filter (has_element t leaf) (numbers_below (2 ^ 20))
 abbrev pub is_data_op : Op → Bool
 is_data_op op = has_address (row_of op)
 
--- how many pairs of page table entries a translation may start
+-- the choices of a new root entry times those of a new second one, each at least 1; 1 where nothing is translated
 abbrev pub pairs_at : Turn → View → ℕ
 pairs_at t v =
     if is_translated v then max 1 (length t.tables + length t.pool * length t.flags) * max 1 (length t.pool * length t.flags) else 1

@@ -31,4 +31,4 @@ pub mod FetchWitness
 pub mod Placing
 pub mod FetchPlacing
 pub mod RowsExist
-pub mod Internal
+pub mod Problems

@@ -20,7 +20,7 @@ use Rattle.leaf_link.specs.Turns.{Turn}
 use Rattle.leaf_link.specs.Values.{Values, has_csr_operand, instr_in}
 use Rattle.leaf_link.specs.Candidates.{IsCandidate}
 use Rattle.leaf_link.specs.Ways.{AreWords, IsFetched}
-use Rattle.leaf_link.specs.Internal.Problems.{key_of}
+use Rattle.leaf_link.specs.Problems.{key_of}
 
 -- what the root entry of the values' address holds: it is known, or their new one
 abbrev pub root_entry : Turn → Values → ℕ

@@ -1,5 +1,5 @@
 -- The ways of loads and stores, from the rows of their addresses.
-use Rattle.std.specs.Prelude.{◌≡◌, ℕ, zero, suc, ◌+◌, ◌++◌, ◌%◌, ◌^◌, ◌<◌, Bool, true, false, not, ◌&&◌, ◌||◌, nat_eq, nat_lt, if◌then◌else◌, List, ◌∷◌, map, None}
+use Rattle.std.specs.Prelude.{◌≡◌, ℕ, ◌+◌, ◌++◌, ◌%◌, ◌^◌, ◌<◌, Bool, true, false, not, ◌&&◌, ◌||◌, nat_eq, nat_lt, if◌then◌else◌, List, ◌∷◌, map, None}
 use Rattle.std.specs.List.{list_all}
 use Rattle.rv_isa.specs.declared.instruction.Instr.{Instr}
 use Rattle.rv_isa.specs.declared.operation.Op.{Op}
@@ -11,7 +11,7 @@ use Rattle.rv_csr.specs.declared.cause.Cause.TheVariants.{LoadMisaligned, StoreM
 use Rattle.rv_csr.specs.Causes.{number_of}
 use Rattle.rv_script.specs.declared.place.Place.{Place}
 use Rattle.rv_script.specs.declared.place.Place.TheVariants.{Word}
-use Rattle.rv_script.specs.Bytes.{covers, word_address}
+use Rattle.rv_script.specs.Bytes.{covers, word_address, any_byte}
 use Rattle.rv_script.specs.Lists.{HasItem}
 use Rattle.rv_script.specs.Script.{Label.DataRoot, Label.DataSecond, Label.DataWord, Question, Question.OfMemory, Question.ToMemory}
 use Rattle.rv_script.specs.Folds.{Answer.Does, Entry}
@@ -25,7 +25,8 @@ use Rattle.tpl_ast.specs.declared.template.Var.TheVariants as vars
 use Rattle.fd_prob.specs.declared.slot.Slot.{Slot}
 use Rattle.fd_prob.specs.declared.slot.Slot.TheVariants as slots
 use Rattle.rv_script.specs.Logs.{same_place, entry_place, entry_label, answer_told, log_of, labelled, by_answers, new_value, Coherent}
-use Rattle.leaf_link.specs.Turns.{Turn, in_frames, is_free_entry, may_start}
+use Rattle.rv_mem.specs.Frames.{in_frames}
+use Rattle.leaf_link.specs.Turns.{Turn, is_free_entry, may_start}
 use Rattle.leaf_link.specs.Values.{Values, given_by, instr_in}
 use Rattle.leaf_link.specs.Candidates.{accesses_in}
 use Rattle.leaf_link.specs.Cases.{Way, all_tests, fetch_entry, is_some_word}
@@ -138,11 +139,6 @@ LoadsAreExact =
 -- STORES
 abbrev pub store_question : Op → Values → ℕ → Question
 store_question op x p = ToMemory p (size_of op) (x slots.B % 256 ^ size_of op)
-
--- one of so many bytes from an address on passes
-abbrev pub any_byte : ℕ → ℕ → (ℕ → Bool) → Bool
-any_byte zero addr test = false
-any_byte (suc n) addr test = test addr || any_byte n (addr + 1) test
 
 -- the bytes that a store writes are none that the same step fetches or walks
 abbrev pub store_apart : Turn → List Entry → ℕ → Op → Values → ℕ → Bool

@@ -7,6 +7,7 @@ use Rattle.rv_isa.specs.declared.table.Row.{Row}
 use Rattle.rv_isa.specs.declared.table.Row.TheVariants.{Csr as CsrRow, R, I, Shift, S, B, U, J, CsrImmediate, FenceSets, AddressFence, Fixed as Whole, DefinedIllegal}
 use Rattle.rv_isa.specs.Table.{row_of}
 use Rattle.rv_csr.specs.Table.{is_legal_at}
+use Rattle.rv_mem.specs.Frames.{in_frames}
 use Rattle.rv_script.specs.declared.access.Access.{Access}
 use Rattle.rv_script.specs.declared.place.Place.{Place}
 use Rattle.rv_script.specs.declared.place.Place.TheVariants.{Reg, Csr, Word}
@@ -39,10 +40,6 @@ pub record Turn : Type 0 where
   pub others : List (List Record)
   -- the domain of a under the leaf's mandatory atoms alone, whatever biases are kept
   pub sources : ℕ → Bool
-
--- the frame of 4,096 bytes that holds an address is in the list
-abbrev pub in_frames : List ℕ → ℕ → Bool
-in_frames frames addr = list_any (λ frame. nat_eq (addr / 4096) (frame / 4096)) frames
 
 -- PAGE TABLE ENTRIES THAT MAY BE STARTED
 -- a pointer to a table frame

@@ -1,11 +1,11 @@
 -- The values of a step's fourteen variables, and the answers that they are to its questions.
-use Rattle.std.specs.Prelude.{ℕ, ◌+◌, ◌%◌, ◌^◌, Bool, true, false, ◌||◌, if◌then◌else◌, List, Option, Some, None}
+use Rattle.std.specs.Prelude.{ℕ, ◌+◌, ◌%◌, ◌^◌, Bool, true, false, if◌then◌else◌, List, Option, Some, None}
 use Rattle.std.specs.Option.{unwrap_or}
 use Rattle.rv_isa.specs.declared.instruction.Instr.{Instr}
 use Rattle.rv_isa.specs.declared.table.Row.{Row}
 use Rattle.rv_isa.specs.declared.table.Row.TheVariants.{Csr as CsrRow, CsrImmediate, R, I, Shift, S, B, U, J, FenceSets, AddressFence, Fixed as Whole, DefinedIllegal}
 use Rattle.rv_isa.specs.Encoding.{word_of}
-use Rattle.rv_isa.specs.Fields.{is_load, is_store}
+use Rattle.rv_isa.specs.Fields.{has_address}
 use Rattle.rv_isa.specs.Table.{row_of}
 use Rattle.rv_csr.specs.declared.access.CsrAccess.{CsrAccess}
 use Rattle.rv_csr.specs.declared.access.CsrAccess.TheVariants.{Granted, Denied, Outside as NotModelled}
@@ -31,10 +31,6 @@ abbrev pub instr_in : Values → Instr
 instr_in x = record { op = op_numbered (x slots.Op); rd = x slots.Rd; rs1 = x slots.Rs1; rs2 = x slots.Rs2; imm = x slots.Imm; csr = x slots.Csr }
 
 -- THE VALUES OF A STEP
--- an operation has a virtual address
-abbrev pub has_address : Row → Bool
-has_address row = is_load row || is_store row
-
 abbrev pub address_if : Bool → ℕ → ℕ → ℕ
 address_if true a imm = (a + imm) % 2 ^ 32
 address_if false a imm = 0

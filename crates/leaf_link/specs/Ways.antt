@@ -2,7 +2,7 @@
 use Rattle.std.specs.Prelude.{◌≡◌, ℕ, ◌%◌, ◌^◌, ◌<◌, Bool, true, false, List, ◌∷◌, ◌++◌, Option, Some, None}
 use Rattle.rv_isa.specs.declared.operation.Op.{Op}
 use Rattle.rv_isa.specs.Encoding.{Fits, word_of}
-use Rattle.rv_isa.specs.Fields.{reads_rs2}
+use Rattle.rv_isa.specs.Fields.{reads_rs2, has_address}
 use Rattle.rv_isa.specs.Numbers.{op_number}
 use Rattle.rv_isa.specs.Table.{row_of}
 use Rattle.rv_script.specs.declared.access.Access.{Access}
@@ -24,10 +24,10 @@ use Rattle.fd_prob.specs.declared.slot.Slot.{Slot}
 use Rattle.fd_prob.specs.declared.slot.Slot.TheVariants as slots
 use Rattle.rv_script.specs.Logs.{entry_place, entry_label, answer_told, labelled, by_answers, new_value, Coherent}
 use Rattle.leaf_link.specs.Turns.{Turn, may_start, is_free_entry}
-use Rattle.leaf_link.specs.Values.{Values, instr_in, has_address, address_if, given_by, old_csr}
+use Rattle.leaf_link.specs.Values.{Values, instr_in, address_if, given_by, old_csr}
 use Rattle.leaf_link.specs.Candidates.{accesses_in}
 use Rattle.leaf_link.specs.Cases.{Shape, Way, uses_address, uses_rs1, uses_rs2, all_tests, fetch_entry, base_domain}
-use Rattle.rv_hart.specs.Internal.Rests.{asks_rs1, rest}
+use Rattle.rv_hart.specs.Rests.{asks_rs1, rest}
 
 -- the translation of the fetch is settled: it asks for known entries alone, and leads to a physical address; the pc is a multiple of 4
 pub record IsFetched (t : Turn) (walk : List Entry) (pa : ℕ) : Type 0 where

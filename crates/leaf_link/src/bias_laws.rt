@@ -1,6 +1,6 @@
 // The laws of biases.
 ghost use Rattle.leaf_link.specs.Extras.{AddressesAreWanted, BiasesAreKept, BiasesInCases, ExtrasAreBiases, ExtrasStay};
-ghost use Rattle.leaf_link.specs.Internal.Problems.{BiasesAreAtoms};
+ghost use Rattle.leaf_link.specs.Problems.{BiasesAreAtoms};
 
 /// Does nothing. Its contract says that a bias is its atoms: what fits a case with more atoms is what fits the case,
 /// keeps to the cuts of these atoms, and meets their relations, where the case has what they speak of.

@@ -5,7 +5,7 @@ ghost use Rattle.leaf_link.specs.Bounds.{SpaceIsBounded};
 ghost use Rattle.leaf_link.specs.Domains.{CandidatesAreInDomains, CandidatesAreWords, OldDomainsAreLet, OldValuesAreInDomains};
 ghost use Rattle.leaf_link.specs.Placing.{NewWordsAreFour, PlacesHaveValues, StepsKeepSatp, ValuesAreInstructions};
 ghost use Rattle.leaf_link.specs.Firsts.{FirstsExist, FirstsHoldNothing, PivotsAreExact, SpaceIsExact, TurnAnswersAreExact};
-ghost use Rattle.leaf_link.specs.Internal.Problems.{AnswersAreExact, ProblemIsExact};
+ghost use Rattle.leaf_link.specs.Problems.{AnswersAreExact, ProblemIsExact};
 ghost use Rattle.leaf_link.specs.Started.{OrderIsKept};
 
 /// Does nothing. Its contract says that what fits the problem of a leaf stands one to one for the candidates, and

@@ -11,7 +11,7 @@ use Rattle.rv_isa.specs.declared.operation.Op.{Op}
 use Rattle.rv_isa.specs.declared.operation.Op.TheVariants as ops
 use Rattle.rv_isa.specs.declared.table.Row.{Row}
 use Rattle.rv_isa.specs.declared.table.Row.TheVariants.{R, I, Shift, S, B, U, J, Csr as CsrRow, CsrImmediate, FenceSets, AddressFence, Fixed as Whole, DefinedIllegal}
-use Rattle.rv_isa.specs.Fields.{has_rs1, reads_rs1}
+use Rattle.rv_isa.specs.Fields.{has_rs1, reads_rs1, has_address}
 use Rattle.rv_isa.specs.Numbers.{op_numbered, op_number}
 use Rattle.rv_isa.specs.Table.{row_of}
 use Rattle.rv_isa.proofs.Numbers.{read}
@@ -29,7 +29,7 @@ use Rattle.fd_prob.specs.Fitting.{domain_of, fits_case}
 use Rattle.fd_prob.specs.Relations.{holds, is_none_or_legal, value_of, written_by}
 use Rattle.fd_prob.proofs.Fitted.{all_within, each_within}
 use Rattle.leaf_link.specs.Turns.{is_small, may_be_source}
-use Rattle.leaf_link.specs.Values.{Values, has_address, has_csr_operand, instr_in}
+use Rattle.leaf_link.specs.Values.{Values, has_csr_operand, instr_in}
 use Rattle.leaf_link.specs.Cases.{Fits, Shape as AShape, all_judged, all_relate, atoms_hold, base_domain, case_at, domain, is_held, is_linked, is_some_word, shape_of, sources_hold, unless, uses, uses_address, uses_rs1, uses_rs2, value_at}
 use Rattle.leaf_link.specs.Kinds.{vector_alone}
 use Rattle.leaf_link.specs.Controls.{old_new}
@@ -39,8 +39,10 @@ use Rattle.leaf_stand.specs.declared.shape.End.{End}
 use Rattle.leaf_stand.specs.declared.shape.End.TheVariants.{Retires, Traps}
 use Rattle.leaf_stand.specs.declared.stand.Stand.{Stand}
 use Rattle.leaf_stand.specs.Posed.{FitsSame}
-use Rattle.leaf_stand.specs.Relations.{IsTargetSet, are_between, atom_rels, source_rels}
-use Rattle.leaf_stand.specs.Internal.Sets.{AreDomains, IsSetOf}
+use Rattle.data_goals.specs.Goals.{IsCut}
+use Rattle.leaf_stand.specs.Relations.{are_between, atom_rels, source_rels}
+use Rattle.data_bytes.specs.Sets.{IsSetOf}
+use Rattle.leaf_stand.specs.Sets.{AreDomains}
 use Rattle.leaf_stand.specs.Stands.{open_at, shape_at, turn_of}
 use Rattle.leaf_stand.specs.Internal.Ways.{shape_with}
 use Rattle.leaf_stand.proofs.Lists.{each_domain}
@@ -80,16 +82,16 @@ access_domain_is s leaf op (Refused written) slot v =
 
 -- with what the access says of the variable, where it says anything
 pub cut_domain : (s : Stand) (leaf : List Atom) (op : Op) (access : Access) (end : End) (slot : Slot) (found : List ℕ) (o : Option (List ℕ)) (cut both : List ℕ) → end ≡ end_of access → o ≡ Some cut
-    → IsSetOf (open_at (turn_of s) leaf (shape_with op end) slot) found → IsTargetSet (access_test s op access slot) o → both ≡ filter (is_in cut) found → IsSetOf (domain (turn_of s) 0 leaf op (access_way s op access) slot) both
+    → IsSetOf (open_at (turn_of s) leaf (shape_with op end) slot) found → IsCut (access_test s op access slot) o → both ≡ filter (is_in cut) found → IsSetOf (domain (turn_of s) 0 leaf op (access_way s op access) slot) both
 cut_domain s leaf op access end slot found o cut both e is h k b v small =
     in_both (open_at (turn_of s) leaf (shape_with op (end_of access)) slot) (access_test s op access slot) found cut both
-    (subst (λ (d : End). IsSetOf (open_at (turn_of s) leaf (shape_with op d) slot) found) e h) (subst (λ (q : Option (List ℕ)). IsTargetSet (access_test s op access slot) q) is k) b v small
+    (subst (λ (d : End). IsSetOf (open_at (turn_of s) leaf (shape_with op d) slot) found) e h) (subst (λ (q : Option (List ℕ)). IsCut (access_test s op access slot) q) is k) b v small
     ∙ access_domain_is s leaf op access slot v
 
 pub uncut_domain : (s : Stand) (leaf : List Atom) (op : Op) (access : Access) (end : End) (slot : Slot) (found : List ℕ) (o : Option (List ℕ)) → end ≡ end_of access → o ≡ None
-    → IsSetOf (open_at (turn_of s) leaf (shape_with op end) slot) found → IsTargetSet (access_test s op access slot) o → IsSetOf (domain (turn_of s) 0 leaf op (access_way s op access) slot) found
+    → IsSetOf (open_at (turn_of s) leaf (shape_with op end) slot) found → IsCut (access_test s op access slot) o → IsSetOf (domain (turn_of s) 0 leaf op (access_way s op access) slot) found
 uncut_domain s leaf op access end slot found o e is h k v small =
-    let all : IsTargetSet (access_test s op access slot) None = subst (λ (q : Option (List ℕ)). IsTargetSet (access_test s op access slot) q) is k in
+    let all : IsCut (access_test s op access slot) None = subst (λ (q : Option (List ℕ)). IsCut (access_test s op access slot) q) is k in
     (subst (λ (d : End). IsSetOf (open_at (turn_of s) leaf (shape_with op d) slot) found) e h) v small
     ∙ sym (and_last (open_at (turn_of s) leaf (shape_with op (end_of access)) slot v) (access_test s op access slot v) (all v small)) ∙ access_domain_is s leaf op access slot v
   where

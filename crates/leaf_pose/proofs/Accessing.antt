@@ -31,10 +31,10 @@ use Rattle.fd_prob.proofs.Fitted.{all_within, each_within}
 use Rattle.row_parts.specs.Gaps.{counts}
 use Rattle.data_ways.specs.declared.way.DataWay.{DataWay}
 use Rattle.data_goals.specs.declared.accesses.Accesses.{Accesses}
-use Rattle.data_goals.specs.declared.cuts.Place.{Place}
+use Rattle.data_goals.specs.declared.cuts.AddressCuts.{AddressCuts}
 use Rattle.data_goals.specs.declared.goal.Goal.{Goal}
 use Rattle.data_goals.specs.declared.goal.Goal.TheVariants.{Misaligned, Fails, Known, Fresh}
-use Rattle.data_goals.specs.Goals.{IsCut, IsPlace, address_test, apart_test, cause_of, end_test, goal_way, goal_ways, goals_by, is_aligned_to, misses, near_test, near_way, outcome_of, own_test, retires, there_test, ways_by, ways_for, ways_through}
+use Rattle.data_goals.specs.Goals.{IsCut, AreAddressCuts, address_test, apart_test, cause_of, end_test, goal_way, goal_ways, goals_by, is_aligned_to, misses, near_test, near_way, outcome_of, own_test, retires, there_test, ways_by, ways_for, ways_through}
 use Rattle.data_goals.proofs.Through.{in_through}
 use Rattle.leaf_link.specs.Turns.{is_narrow, is_small, may_be_source}
 use Rattle.leaf_link.specs.Values.{instr_in}
@@ -45,7 +45,8 @@ use Rattle.leaf_stand.specs.declared.stand.Stand.{Stand}
 use Rattle.leaf_stand.specs.Kinds.{kind_of}
 use Rattle.leaf_stand.specs.Posed.{FitsSame, data_ways, is_data, is_posed_at, stand_cases, stand_ways, ways_at}
 use Rattle.leaf_stand.specs.Relations.{are_between, atom_rels, source_rels}
-use Rattle.leaf_stand.specs.Internal.Sets.{AreDomains, IsSetOf}
+use Rattle.data_bytes.specs.Sets.{IsSetOf}
+use Rattle.leaf_stand.specs.Sets.{AreDomains}
 use Rattle.leaf_stand.specs.Stands.{outcome_at, shape_at, turn_of}
 use Rattle.leaf_stand.proofs.Fits.{none_yet}
 use Rattle.leaf_stand.proofs.Lists.{each_domain}
@@ -223,14 +224,14 @@ place_same op x None test hx cut = sym (cut (value_of x slots.Ea) (word_at x hx 
 place_same op x (Some set) test hx cut = and_true (is_in set (value_of x slots.Ea)) ∙ cut (value_of x slots.Ea) (word_at x hx slots.Ea)
 
 -- the two relations of a place hold where the address counts and leads there
-places_same : (s : Stand) (a : Accesses) (leaf : List Atom) (op : Op) (lead : DataWay) (goal : Goal) (x : Assignment) (place : Place) → IsAssignment x → IsPlace a op lead (all_tests (turn_of s) leaf vars.Pa) goal place
+places_same : (s : Stand) (a : Accesses) (leaf : List Atom) (op : Op) (lead : DataWay) (goal : Goal) (x : Assignment) (place : AddressCuts) → IsAssignment x → AreAddressCuts a op lead (all_tests (turn_of s) leaf vars.Pa) goal place
     → list_all (holds op x) (place_rels place) ≡ leads s a leaf op lead goal (value_of x slots.Ea)
 places_same s a leaf op lead goal x place hx is =
     list_all-append (holds op x) (place_rel place.apart) (place_rel place.leads)
     ∙ both_same _ _ _ _ (place_same op x place.apart (apart_test lead goal) hx is.apart) (place_same op x place.leads (there_test a op lead (all_tests (turn_of s) leaf vars.Pa) goal) hx is.leads)
 
-pub goal_case_same : (s : Stand) (a : Accesses) (leaf : List Atom) (op : Op) (lead : DataWay) (goal : Goal) (c : ACase) (place : Place) → is_data (kind_of op) ≡ true → all_judged (shape_at (goal_shape op lead.end goal)) leaf ≡ true → are_between leaf ≡ true → c.op ≡ op_number op
-    → AreDomains (near_domain s leaf op lead goal) SLOTS c.doms → c.rels ≡ goal_rels s leaf (goal_shape op lead.end goal) ++ place_rels place → IsPlace a op lead (all_tests (turn_of s) leaf vars.Pa) goal place → FitsSame (c ∷ []) (case_at (turn_of s) 0 leaf op (goal_way (turn_of s) a leaf op lead goal) ∷ [])
+pub goal_case_same : (s : Stand) (a : Accesses) (leaf : List Atom) (op : Op) (lead : DataWay) (goal : Goal) (c : ACase) (place : AddressCuts) → is_data (kind_of op) ≡ true → all_judged (shape_at (goal_shape op lead.end goal)) leaf ≡ true → are_between leaf ≡ true → c.op ≡ op_number op
+    → AreDomains (near_domain s leaf op lead goal) SLOTS c.doms → c.rels ≡ goal_rels s leaf (goal_shape op lead.end goal) ++ place_rels place → AreAddressCuts a op lead (all_tests (turn_of s) leaf vars.Pa) goal place → FitsSame (c ∷ []) (case_at (turn_of s) 0 leaf op (goal_way (turn_of s) a leaf op lead goal) ∷ [])
 goal_case_same s a leaf op lead goal c place kind j b n d r cut x hx = (there, back)
   where
     sh : AShape

@@ -4,7 +4,7 @@ use Rattle.std.proofs.lemmas.Bool.Decides.{nat_tests}
 use Rattle.dom_set.specs.Elements.{is_in}
 use Rattle.fd_prob.specs.declared.relation.Rel.TheVariants.{Rows}
 use Rattle.rv_isa.specs.Table.{row_of}
-use Rattle.rv_isa.specs.Fields.{is_load}
+use Rattle.rv_isa.specs.Fields.{is_load, has_address}
 use Rattle.rv_script.specs.Folds.{Answer.Does, Entry}
 use Rattle.rv_script.specs.Logs.{answer_told, by_answers}
 use Rattle.sv_walk.specs.declared.entry.Kind.{Kind}
@@ -22,7 +22,7 @@ use Rattle.data_ways.specs.Ways.{reached_by}
 use Rattle.data_goals.specs.declared.accesses.Accesses.{Accesses}
 use Rattle.data_goals.specs.declared.goal.Goal.{Goal}
 use Rattle.data_goals.specs.declared.goal.Goal.TheVariants.{Fails, Fresh, Known, Misaligned}
-use Rattle.data_goals.specs.Goals.{access_of, address_test, cause_of, end_test, entry_test, goal_test, goal_way, goal_ways, goals_by, is_aligned_to, leads_to, misses, place_at, retires as goal_retires, target_test as is_target, way_in, ways_for}
+use Rattle.data_goals.specs.Goals.{access_of, address_test, cause_of, end_test, entry_test, goal_test, goal_way, goal_ways, goals_by, is_aligned_to, leads_to, misses, place_at, retires as goal_retires, target_test as is_target, way_in, ways_for, IsCut}
 use Rattle.data_goals.specs.Grounds.{HasAccesses}
 use Rattle.data_goals.specs.Laws.{AreSmall, GoalsAreWays, WaysAreGoals}
 use Rattle.data_goals.proofs.Through.{in_through, through_has}
@@ -32,6 +32,7 @@ use Rattle.std.proofs.lemmas.Bool.{and_from, and_parts}
 use Rattle.std.proofs.lemmas.List.Folds.{list_all-append}
 use Rattle.rv_isa.specs.declared.operation.Op.{Op}
 use Rattle.rv_script.specs.Lists.{HasItem}
+use Rattle.rv_script.proofs.Items.{has_either, has_first, has_second}
 use Rattle.tpl_ast.specs.Leaves.{IsPlain, same_var, var_number}
 use Rattle.tpl_ast.specs.declared.template.Atom.{Atom}
 use Rattle.tpl_ast.specs.declared.template.Atom.TheVariants as atoms
@@ -51,12 +52,12 @@ use Rattle.rv_isa.proofs.Numbers.{read}
 use Rattle.rv_isa.specs.Numbers.{op_numbered, op_number}
 use Rattle.leaf_link.specs.Turns.{Turn}
 use Rattle.leaf_link.specs.Cases.{FitsCase, Shape as AShape, Way as AWay, all_judged, all_tests, atoms_hold, base_domain, case_at, is_judged, is_posed, may_fetch, shape_of, target_at, unless, uses}
-use Rattle.leaf_link.specs.Values.{Values, has_address}
+use Rattle.leaf_link.specs.Values.{Values}
 use Rattle.leaf_link.specs.Ways.{IsFetched, IsWays}
 use Rattle.leaf_link.specs.Answers.{values_in}
 use Rattle.leaf_link.specs.AllWays.{AllWaysAreBuilt, WaysAreBuilt, ways_of}
 use Rattle.leaf_link.specs.KindLaws.{IsPosed}
-use Rattle.leaf_link.specs.Internal.Problems.{FitsPosed, bias_cut, bias_stays}
+use Rattle.leaf_link.specs.Problems.{FitsPosed, bias_cut, bias_stays}
 use Rattle.leaf_link.specs.Extras.{AddressesAreWanted, ArePlain, AreAdded, BiasesInCases, MeetsInCase, PassesExtra, address_by, met_by}
 use Rattle.leaf_stand.specs.declared.shape.Shape.{Shape}
 use Rattle.leaf_stand.specs.declared.stand.Stand.{Stand}
@@ -66,14 +67,13 @@ use Rattle.leaf_stand.specs.Internal.Cuts.{AreCuts}
 use Rattle.leaf_pose.specs.Posed.{AreShaped, HasFitted, IsShaped}
 use Rattle.leaf_stand.specs.Kinds.{kind_of}
 use Rattle.leaf_stand.specs.Posed.{data_ways, is_data, is_posed_at, stand_ways}
-use Rattle.leaf_stand.specs.Relations.{IsTargetSet, are_between, atom_rels, speak_of, speaks_of, target_rel, target_test}
+use Rattle.leaf_stand.specs.Relations.{are_between, atom_rels, speak_of, speaks_of, target_rel, target_test}
 use Rattle.leaf_stand.specs.Stands.{IsStandOf, outcome_at, shape_at, turn_of}
 use Rattle.leaf_stand.proofs.Rows.{built_address, data_address}
 use Rattle.leaf_stand.proofs.Single.{atoms_same, both_same, number_of, targets_same, word_at}
 use Rattle.leaf_stand.proofs.Silent.{silent}
 use Rattle.leaf_stand.specs.DataRows.{AreRowsOf, AreRowsOfPages}
 use Rattle.leaf_stand.proofs.Turning.{AreGoals, AreSameWays, IsSameWay, all_same, atoms_agree, case_there, data_step, goal_same, posed_agrees, way_moved, ways_same}
-use Rattle.leaf_link.proofs.Front.{has_either, has_first, has_second}
 use Rattle.leaf_pose.proofs.OneAddress.{one_address}
 use Rattle.leaf_pose.proofs.Steps.{plain_ways}
 
@@ -129,7 +129,7 @@ unless_true true b h = h
 unless_true false b h = refl
 
 target_meets : (s : Stand) (bias : List Atom) (shape : Shape) (speaks : Bool) (set : Option (List ℕ)) (x : Assignment) → all_judged (shape_at shape) bias ≡ true → speak_of bias vars.Target ≡ speaks
-    → IsTargetSet (target_test s bias speaks Anywhere) set → (speaks ≡ false → set ≡ None)
+    → IsCut (target_test s bias speaks Anywhere) set → (speaks ≡ false → set ≡ None)
     → list_all (holds shape.op x) (target_rel s.pc set) ≡ unless (uses (shape_at shape) vars.Target) (all_tests (turn_of s) bias vars.Target (target_at shape.op s.pc (values_in x)))
 target_meets s bias shape true set x j h is none =
     let u : uses (shape_at shape) vars.Target ≡ true = all_use (shape_at shape) bias vars.Target j h in

@@ -23,7 +23,7 @@ use Rattle.data_goals.specs.Goals.{leads_to, way_in}
 use Rattle.leaf_link.specs.Cases.{all_tests}
 use Rattle.leaf_csrs.proofs.Counted.{in_both}
 use Rattle.leaf_stand.specs.declared.stand.Stand.{Stand}
-use Rattle.leaf_stand.specs.Internal.Sets.{IsSetOf}
+use Rattle.data_bytes.specs.Sets.{IsSetOf}
 use Rattle.leaf_stand.specs.Stands.{turn_of}
 use Rattle.leaf_stand.proofs.Single.{word_at}
 use Rattle.leaf_pose.proofs.Joining.{or_assoc, or_none}

@@ -52,7 +52,8 @@ use Rattle.leaf_stand.specs.declared.shape.End.TheVariants.{Retires, Traps}
 use Rattle.leaf_stand.specs.declared.stand.Stand.{Stand}
 use Rattle.leaf_stand.specs.Internal.FirstCases.{IsFetchFirstCase, fetch_first_at}
 use Rattle.leaf_stand.specs.Posed.{FitsSame}
-use Rattle.leaf_stand.specs.Internal.Sets.{AreDomains, IsSetOf}
+use Rattle.data_bytes.specs.Sets.{IsSetOf}
+use Rattle.leaf_stand.specs.Sets.{AreDomains}
 use Rattle.leaf_stand.specs.Stands.{turn_of}
 use Rattle.leaf_stand.proofs.Fits.{fits_either, fits_left, fits_right, none_yet}
 use Rattle.leaf_stand.proofs.Lists.{each_domain}

@@ -15,7 +15,7 @@ use Rattle.leaf_stand.specs.declared.way.Aim.{Aim}
 use Rattle.leaf_stand.specs.declared.way.Aim.TheVariants.{Anywhere, Aligned, Misaligned}
 use Rattle.leaf_stand.specs.declared.stand.Stand.{Stand}
 use Rattle.leaf_stand.specs.Relations.{AddsTargets, is_aimed, is_anywhere, speak_of}
-use Rattle.leaf_stand.specs.Internal.Sets.{IsSetOf}
+use Rattle.data_bytes.specs.Sets.{IsSetOf}
 use Rattle.leaf_stand.specs.Stands.{turn_of}
 use Rattle.leaf_stand.proofs.Sets.{elements_are}
 use Rattle.leaf_stand.proofs.Silent.{neither, silent}

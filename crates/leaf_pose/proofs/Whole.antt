@@ -30,7 +30,7 @@ use Rattle.rv_isa.proofs.Numbers.{read, small}
 use Rattle.rv_isa.specs.Numbers.{op_numbered, op_number}
 use Rattle.fd_prob.specs.Slots.{slot_number}
 use Rattle.leaf_link.specs.Turns.{Turn, is_first_form, is_second_form}
-use Rattle.leaf_link.specs.Values.{has_address}
+use Rattle.rv_isa.specs.Fields.{has_address}
 use Rattle.leaf_link.specs.Cases.{all_tests, in_read, or_no}
 use Rattle.leaf_link.specs.Firsts.{IsDomain, IsFirst, IsFirstOf, first_domain, has_walk, in_first_word, is_allowed}
 use Rattle.leaf_stand.specs.declared.shape.Shape.{Shape}
@@ -38,7 +38,7 @@ use Rattle.leaf_pose.specs.declared.shaped.Shaped.{Shaped}
 use Rattle.leaf_stand.specs.declared.stand.Stand.{Stand}
 use Rattle.leaf_pose.specs.Internal.Firsts.{AddsFirsts, AreFirstCases}
 use Rattle.leaf_stand.specs.Internal.FirstCases.{IsFirstCase, first_at, first_entries, first_entry}
-use Rattle.leaf_stand.specs.Internal.Sets.{IsSetOf}
+use Rattle.data_bytes.specs.Sets.{IsSetOf}
 use Rattle.leaf_stand.specs.Kinds.{kind_of}
 use Rattle.leaf_pose.specs.Posed.{Adds, AreShaped, IsAllowedCase}
 use Rattle.leaf_stand.specs.Posed.{FitsSame, all_cases, allows, are_posable, has_accesses, is_data, is_posable, is_read_as, reads_as}

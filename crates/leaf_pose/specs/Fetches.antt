@@ -24,7 +24,7 @@ use Rattle.fetch_ways.specs.Ways.{AreFetchWays}
 use Rattle.leaf_stand.specs.declared.shape.End.{End}
 use Rattle.leaf_stand.specs.declared.shape.End.TheVariants.{Retires, Traps}
 use Rattle.leaf_stand.specs.declared.stand.Stand.{Stand}
-use Rattle.leaf_stand.specs.Internal.Sets.{IsSetOf}
+use Rattle.data_bytes.specs.Sets.{IsSetOf}
 use Rattle.leaf_stand.specs.Stands.{also_at, csr_held}
 use Rattle.leaf_pose.specs.Posed.{FitsMore}
 

@@ -12,7 +12,7 @@ use Rattle.fd_prob.specs.declared.slot.Slot.TheVariants as slots
 use Rattle.data_ways.specs.declared.way.DataEnd.{DataEnd}
 use Rattle.data_ways.specs.declared.way.DataWay.{DataWay}
 use Rattle.data_goals.specs.declared.accesses.Accesses.{Accesses}
-use Rattle.data_goals.specs.declared.cuts.Place.{Place}
+use Rattle.data_goals.specs.declared.cuts.AddressCuts.{AddressCuts}
 use Rattle.data_goals.specs.declared.goal.Goal.{Goal}
 use Rattle.data_goals.specs.declared.targets.Targets.{Targets}
 use Rattle.data_goals.specs.Goals.{AreTargets, cause_of, goal_way, goal_ways, goals_by, near_way, retires}
@@ -56,7 +56,7 @@ abbrev pub place_rel : Option (List ℕ) → List Rel
 place_rel None = []
 place_rel (Some set) = In slots.Ea set ∷ []
 
-abbrev pub place_rels : Place → List Rel
+abbrev pub place_rels : AddressCuts → List Rel
 place_rels place = place_rel place.apart ++ place_rel place.leads
 
 -- the domain of a variable of a goal, but for the two indices of an address and where it leads

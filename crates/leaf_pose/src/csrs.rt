@@ -11,8 +11,10 @@ ghost use Rattle.leaf_link.specs.Values.{has_csr_operand};
 ghost use Rattle.rv_script.specs.Lists.{HasItem};
 ghost use Rattle.leaf_csrs.specs.Usages.{usages_of};
 ghost use Rattle.leaf_stand.specs.Posed.{FitsSame, allows, stand_cases, stand_ways};
-ghost use Rattle.leaf_stand.specs.Relations.{IsTargetSet, are_between};
-ghost use Rattle.leaf_stand.specs.Internal.Sets.{AreDomains, IsSetOf};
+ghost use Rattle.data_goals.specs.Goals.{IsCut};
+ghost use Rattle.leaf_stand.specs.Relations.{are_between};
+ghost use Rattle.data_bytes.specs.Sets.{IsSetOf};
+ghost use Rattle.leaf_stand.specs.Sets.{AreDomains};
 ghost use Rattle.leaf_stand.specs.Stands.{open_at, shape_at, turn_of};
 ghost use Rattle.fd_prob.specs.declared.slot.TheConstants.{SLOTS};
 ghost use Rattle.leaf_pose.specs.Internal.Csrs.{IsListed, access_case, access_rels, access_test, access_way, end_of, register_cases, usage_cases, writes_rel};
@@ -62,7 +64,7 @@ fn cut_of(
     slot: Slot,
 ) -> Result<Option<Set>, OutOfMemory>
     requires few { few ≡ is_small (turn_of stand.now).sources }
-    ensures { IfOk result (IsTargetSet (access_test stand.now op access slot)) }
+    ensures { IfOk result (IsCut (access_test stand.now op access slot)) }
 {
     match access {
         Access::Granted(register, usage) => {

@@ -3,7 +3,7 @@
 ghost use Rattle.std.specs.Prelude.{◌≡◌, ◌∷◌, ◌&&◌, ◌||◌, ◌↔◌, [], true, List, length, IfOk, IfSome, IsTrue, OnOk};
 ghost use Rattle.dom_set.specs.Elements.{is_in};
 ghost use Rattle.row_parts.specs.Gaps.{counts};
-ghost use Rattle.leaf_stand.specs.Internal.Sets.{IsSetOf};
+ghost use Rattle.data_bytes.specs.Sets.{IsSetOf};
 ghost use Rattle.leaf_pose.specs.Extras.{AddsAddress, AddsBias, AddsRows, AreAddressRows, AreBiasRelations, AreJoined, in_rows, stays_at, stays_of};
 ghost use Rattle.fd_prob.specs.declared.problem.Assignment.{Assignment};
 ghost use Rattle.fd_prob.specs.Order.{IsAssignment};

@@ -6,7 +6,8 @@ ghost use Rattle.rv_csr.specs.Causes.{number_of};
 ghost use Rattle.fd_prob.specs.Fitting.{IsCase, IsProblem};
 ghost use Rattle.leaf_pose.specs.Fetches.{AddsCases, AreFetchPivots, PosesFault, PosesFetch, case_by, cases_by, entries_at, entries_case, fault_end, fetch_end};
 ghost use Rattle.leaf_stand.specs.Posed.{FitsSame};
-ghost use Rattle.leaf_stand.specs.Internal.Sets.{AreDomains, IsSetOf};
+ghost use Rattle.data_bytes.specs.Sets.{IsSetOf};
+ghost use Rattle.leaf_stand.specs.Sets.{AreDomains};
 ghost use Rattle.leaf_stand.specs.Stands.{turn_of};
 ghost use Rattle.fd_prob.specs.declared.slot.TheConstants.{SLOTS};
 

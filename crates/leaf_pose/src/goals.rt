@@ -7,12 +7,13 @@ ghost use Rattle.fd_prob.specs.declared.slot.Slot.{Slot as ASlot};
 ghost use Rattle.fd_prob.specs.declared.slot.TheConstants.{SLOTS};
 ghost use Rattle.fd_prob.specs.Fitting.{IsCase};
 ghost use Rattle.data_goals.specs.declared.accesses.Accesses.{Accesses as AnAccesses};
-ghost use Rattle.data_goals.specs.Goals.{AreTargets, IsCut, IsPlace, goal_way, goals_by, ways_by, ways_for, ways_through};
+ghost use Rattle.data_goals.specs.Goals.{AreTargets, IsCut, AreAddressCuts, goal_way, goals_by, ways_by, ways_for, ways_through};
 ghost use Rattle.leaf_link.specs.Cases.{all_judged, all_tests, case_at};
 ghost use Rattle.leaf_stand.specs.Kinds.{kind_of};
 ghost use Rattle.leaf_stand.specs.Posed.{FitsSame, allows, is_data, stand_cases, ways_at};
 ghost use Rattle.leaf_stand.specs.Relations.{are_between};
-ghost use Rattle.leaf_stand.specs.Internal.Sets.{AreDomains, IsSetOf};
+ghost use Rattle.data_bytes.specs.Sets.{IsSetOf};
+ghost use Rattle.leaf_stand.specs.Sets.{AreDomains};
 ghost use Rattle.leaf_stand.specs.Stands.{shape_at, turn_of};
 ghost use Rattle.leaf_pose.specs.Goals.{AreGoalsOf, IsAimed, IsGoalOf, entered_at, goal_rels, goal_shape, near_domain, place_rel, place_rels};
 ghost use Rattle.leaf_pose.specs.Posed.{Adds};
@@ -20,8 +21,8 @@ ghost use Rattle.leaf_pose.specs.Posed.{Adds};
 use crate::relations::push_sources;
 use crate::shaped::Shaped;
 use data_goals::{
-    Accesses, DataEnd, DataWay, Goal, Place, Targets, goal_apart, goal_cut, goal_leads, misses,
-    targets_of,
+    Accesses, AddressCuts, DataEnd, DataWay, Goal, Targets, goal_apart, goal_cut, goal_leads,
+    misses, targets_of,
 };
 use dom_set::{OutOfMemory, Set};
 use fd_prob::{Case, Items, Rel, SLOTS, Slot};
@@ -150,7 +151,7 @@ fn goal_relations(
     stand: &Stand,
     leaf: &[Atom],
     shape: Shape,
-    place: &Place,
+    place: &AddressCuts,
 ) -> Result<Items<Rel>, OutOfMemory>
     ensures { IfOk result (λ rels. rels ≡ goal_rels stand.now leaf.now shape ++ place_rels place.now) }
 {
@@ -174,14 +175,14 @@ fn case_of(
     way: &DataWay,
     goal: Goal,
     ea: &Set,
-    place: &Place,
+    place: &AddressCuts,
 ) -> Result<Case, OutOfMemory>
     requires kind { is_data (kind_of op) ≡ true }
     requires judged { all_judged (shape_at (goal_shape op way.now.end goal)) leaf.now ≡ true }
     requires between { are_between leaf.now ≡ true }
     ensures shape { IfOk result IsCase }
     ensures number { IfOk result (λ c. c.op ≡ op_number op) }
-    ensures fits { IfOk result (λ c. (a : AnAccesses) → IsPlace a op way.now (all_tests (turn_of stand.now) leaf.now AVar.Pa) goal place.now → IsSetOf (near_domain stand.now leaf.now op way.now goal ASlot.Ea) ea.now → FitsSame (c ∷ []) (case_at (turn_of stand.now) 0 leaf.now op (goal_way (turn_of stand.now) a leaf.now op way.now goal) ∷ [])) }
+    ensures fits { IfOk result (λ c. (a : AnAccesses) → AreAddressCuts a op way.now (all_tests (turn_of stand.now) leaf.now AVar.Pa) goal place.now → IsSetOf (near_domain stand.now leaf.now op way.now goal ASlot.Ea) ea.now → FitsSame (c ∷ []) (case_at (turn_of stand.now) 0 leaf.now op (goal_way (turn_of stand.now) a leaf.now op way.now goal) ∷ [])) }
 {
     let doms = goal_domains(alloc, stand, leaf, op, way, goal, ea)?;
     let rels = goal_relations(alloc, stand, leaf, shape_of(op, way.end, goal), place)?;
@@ -231,7 +232,7 @@ fn push_goal(
         return Ok(());
     }
     let apart = goal_apart(alloc, way, goal)?;
-    let place = Place { apart, leads };
+    let place = AddressCuts { apart, leads };
     let case = case_of(alloc, stand, leaf, op, way, goal, &ea, &place)?;
     shaped.push(case, shape)?;
     Ok(())

@@ -2,7 +2,7 @@
 
 ghost use Rattle.std.specs.Prelude.{◌≡◌, ◌++◌, ◌||◌, not, IfOk, OnOk};
 ghost use Rattle.leaf_stand.specs.Relations.{AddsTargets, AreRelations, is_aimed, is_anywhere, linked_rel, source_rels, speak_of};
-ghost use Rattle.leaf_stand.specs.Internal.Sets.{IsSetOf};
+ghost use Rattle.data_bytes.specs.Sets.{IsSetOf};
 ghost use Rattle.leaf_stand.specs.Stands.{shape_at};
 
 use dom_set::{OutOfMemory, Set};

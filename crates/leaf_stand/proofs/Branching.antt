@@ -4,13 +4,12 @@ use Rattle.std.specs.Prelude.{not, if◌then◌else◌}
 use Rattle.std.proofs.lemmas.Bool.{and_from, and_parts}
 use Rattle.rv_isa.specs.declared.operation.Op.{Op}
 use Rattle.rv_isa.specs.declared.operation.Op.TheVariants as ops
-use Rattle.rv_isa.specs.Arithmetic.{is_branch}
+use Rattle.rv_isa.specs.Arithmetic.{is_branch, is_taken}
 use Rattle.rv_csr.specs.declared.cause.Cause.TheVariants as causes
 use Rattle.rv_csr.specs.declared.status.Flag.TheVariants.{Tsr, Tvm}
 use Rattle.rv_csr.specs.declared.table.LazyRegister.{LazyRegister}
 use Rattle.rv_csr.specs.declared.table.LazyRegister.TheVariants.{Mepc, Sepc}
 use Rattle.rv_csr.specs.Privilege.{is_machine}
-use Rattle.rv_hart.specs.Machine.{is_taken}
 use Rattle.rv_hart.specs.Privileged.{call_cause, is_withheld, lazy_address}
 use Rattle.rv_script.specs.Lists.{HasItem}
 use Rattle.tpl_ast.specs.declared.template.Atom.{Atom}

@@ -12,12 +12,12 @@ use Rattle.fd_prob.specs.declared.slot.TheConstants.{SLOTS}
 use Rattle.fd_prob.specs.Slots.{slot_number}
 use Rattle.leaf_link.specs.Turns.{Turn}
 use Rattle.leaf_link.specs.Cases.{all_tests}
-use Rattle.leaf_link.specs.Internal.Problems.{bias_cut}
+use Rattle.leaf_link.specs.Problems.{bias_cut}
 use Rattle.leaf_link.specs.Extras.{passes_cuts}
 use Rattle.leaf_stand.specs.declared.stand.Stand.{Stand}
 use Rattle.leaf_stand.specs.Internal.Cuts.{AddsCut, cut_of, cuts_of, var_of}
 use Rattle.leaf_stand.specs.Relations.{speak_of}
-use Rattle.leaf_stand.specs.Internal.Sets.{IsSetOf}
+use Rattle.data_bytes.specs.Sets.{IsSetOf}
 use Rattle.leaf_stand.specs.Stands.{turn_of}
 use Rattle.leaf_stand.proofs.Single.{and_true}
 use Rattle.leaf_stand.proofs.Silent.{silent}

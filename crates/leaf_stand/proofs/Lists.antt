@@ -10,7 +10,7 @@ use Rattle.fd_prob.proofs.Places.{place_below, placed}
 use Rattle.fd_prob.specs.declared.relation.Quad.{Quad}
 use Rattle.fd_prob.specs.declared.relation.Rel.{Rel}
 use Rattle.fd_prob.specs.declared.relation.Rel.TheVariants.{Rows}
-use Rattle.leaf_stand.specs.Internal.Sets.{AreEach}
+use Rattle.leaf_stand.specs.Sets.{AreEach}
 
 nth_domain : (Is : Slot → List ℕ → Type 0) (ss : List Slot) (ds : List (List ℕ)) → AreEach Is ss ds → (n : ℕ) (d : Slot) → n < length ss → Is (get_or ss n d) (slice_index_or ds n [])
 nth_domain Is [] ds h n d lt = absurd (omega arith)

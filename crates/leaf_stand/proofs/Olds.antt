@@ -8,7 +8,7 @@ use Rattle.rv_csr.specs.declared.table.LazyRegister.TheVariants.{Mcause, Scause}
 use Rattle.rv_hart.specs.Privileged.{lazy_address}
 use Rattle.leaf_link.specs.Firsts.{is_modelled}
 use Rattle.leaf_link.specs.Turns.{Turn, may_be_old}
-use Rattle.leaf_stand.specs.Internal.Sets.{IsSetOf}
+use Rattle.data_bytes.specs.Sets.{IsSetOf}
 use Rattle.leaf_stand.proofs.Sets.{elements_are}
 
 abbrev to_supervisor : ℕ → Bool

@@ -4,7 +4,7 @@ use Rattle.rv_isa.specs.declared.operation.Op.{Op}
 use Rattle.rv_isa.specs.declared.operation.Op.TheVariants.{Lb, Lh, Lw, Lbu, Lhu, Sb, Sh, Sw, Csrrw, Csrrs, Csrrc}
 use Rattle.rv_isa.specs.Table.{row_of}
 use Rattle.leaf_link.specs.Turns.{is_narrow}
-use Rattle.leaf_link.specs.Values.{has_address}
+use Rattle.rv_isa.specs.Fields.{has_address}
 use Rattle.leaf_stand.specs.declared.kind.Kind.{Kind}
 use Rattle.leaf_stand.specs.declared.kind.Kind.TheVariants.{Csr, Data, Plain}
 use Rattle.leaf_stand.specs.Kinds.{kind_of}

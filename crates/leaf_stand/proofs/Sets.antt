@@ -9,7 +9,7 @@ use Rattle.std.proofs.lemmas.Bool.Decides.{nat_tests}
 use Rattle.dom_set.specs.Elements.{elements_of, is_in, is_within}
 use Rattle.dom_set.proofs.Sets.{is_in-elements, own_elements}
 use Rattle.set_sums.proofs.Members.{is_in-filter}
-use Rattle.leaf_stand.specs.Internal.Sets.{IsSetOf}
+use Rattle.data_bytes.specs.Sets.{IsSetOf}
 use Rattle.std.specs.Int.{IsPowerOfTwo}
 use Rattle.rv_isa.specs.Encoding.{sign_extended}
 use Rattle.tpl_ast.specs.declared.template.Atom.{Atom}

@@ -9,10 +9,9 @@ use Rattle.std.proofs.lemmas.List.Folds.{list_all-append}
 use Rattle.dom_set.specs.Elements.{is_in}
 use Rattle.rv_isa.specs.declared.operation.Op.{Op}
 use Rattle.rv_isa.specs.declared.operation.Op.TheVariants as ops
-use Rattle.rv_isa.specs.Arithmetic.{is_branch}
+use Rattle.rv_isa.specs.Arithmetic.{is_branch, is_taken}
 use Rattle.rv_isa.specs.Table.{row_of}
 use Rattle.rv_csr.specs.declared.table.LazyRegister.{LazyRegister}
-use Rattle.rv_hart.specs.Machine.{is_taken}
 use Rattle.tpl_ast.specs.declared.template.Atom.{Atom}
 use Rattle.tpl_ast.specs.declared.template.Atom.TheVariants as atoms
 use Rattle.tpl_ast.specs.declared.template.Var.{Var}
@@ -25,7 +24,7 @@ use Rattle.fd_prob.specs.declared.slot.Slot.TheVariants as slots
 use Rattle.fd_prob.specs.declared.slot.TheConstants.{SLOTS}
 use Rattle.fd_prob.specs.Fitting.{domain_of, fits_case, is_within}
 use Rattle.fd_prob.specs.Order.{IsAssignment}
-use Rattle.fd_prob.specs.Relations.{agrees, goes_to_target, has_condition, holds, target_of, value_of, is_held as is_held_by, is_some_in, is_linked as is_linked_by}
+use Rattle.fd_prob.specs.Relations.{agrees, has_condition, holds, target_of, value_of, is_held as is_held_by, is_some_in, is_linked as is_linked_by}
 use Rattle.rv_isa.proofs.Numbers.{read}
 use Rattle.rv_isa.specs.Numbers.{op_numbered, op_number}
 use Rattle.fd_prob.specs.Slots.{slot_number}
@@ -43,8 +42,10 @@ use Rattle.leaf_stand.specs.declared.way.Aim.TheVariants.{Anywhere, Aligned, Mis
 use Rattle.leaf_stand.specs.declared.way.Way.{Way}
 use Rattle.leaf_stand.specs.Kinds.{kind_of}
 use Rattle.leaf_stand.specs.Posed.{FitsSame, is_listed}
-use Rattle.leaf_stand.specs.Relations.{AreRelations, IsTargetSet, are_between, atom_rel, atom_rels, differ_rel, has_slot, held_rel, is_aimed, is_between, is_steered, linked_rel, may_aim, may_steer, same_rel, slot_of, source_rels, taken_rel, target_rel, target_test, way_at}
-use Rattle.leaf_stand.specs.Internal.Sets.{AreDomains, IsSetOf}
+use Rattle.data_goals.specs.Goals.{IsCut}
+use Rattle.leaf_stand.specs.Relations.{AreRelations, are_between, atom_rel, atom_rels, differ_rel, has_slot, held_rel, is_aimed, is_between, is_steered, linked_rel, may_aim, may_steer, same_rel, slot_of, source_rels, taken_rel, target_rel, target_test, way_at}
+use Rattle.data_bytes.specs.Sets.{IsSetOf}
+use Rattle.leaf_stand.specs.Sets.{AreDomains}
 use Rattle.leaf_stand.specs.Stands.{also_at, also_by, domain_at, held, shape_at, turn_of}
 use Rattle.leaf_stand.specs.Internal.Ways.{shape_with}
 use Rattle.leaf_stand.proofs.Lists.{each_domain}
@@ -149,19 +150,9 @@ differ_holds o x None ot a b h p q = absurd (cc h)
 differ_holds o x (Some s) None a b h p q = absurd (cc h)
 differ_holds o x (Some s) (Some t) a b h p q = and_true _ ∙ rw (p, q) refl
 
--- the condition of a branch is one
-same_condition : (op : Op) (a b : ℕ) → goes_to_target op a b ≡ is_taken op a b
-same_condition ops.Beq a b = refl
-same_condition ops.Bne a b = refl
-same_condition ops.Blt a b = refl
-same_condition ops.Bge a b = refl
-same_condition ops.Bltu a b = refl
-same_condition ops.Bgeu a b = refl
-same_condition _ a b = refl
-
 steered_same : (op : Op) (x : Assignment) (taken : Bool) → is_branch op ≡ true → has_condition op x taken ≡ is_steered op (Some taken) (values_in x)
-steered_same op x true h = ap (λ (b : Bool). b && goes_to_target op (value_of x slots.A) (value_of x slots.B)) h ∙ same_condition op (value_of x slots.A) (value_of x slots.B)
-steered_same op x false h = ap (λ (b : Bool). b && not (goes_to_target op (value_of x slots.A) (value_of x slots.B))) h ∙ ap not (same_condition op (value_of x slots.A) (value_of x slots.B))
+steered_same op x true h = ap (λ (b : Bool). b && is_taken op (value_of x slots.A) (value_of x slots.B)) h
+steered_same op x false h = ap (λ (b : Bool). b && not (is_taken op (value_of x slots.A) (value_of x slots.B))) h
 
 atom_holds : (x : Assignment) (pc : ℕ) (sh : AShape) → value_of x slots.Op ≡ op_number sh.op → (atom : Atom) → is_judged sh atom ≡ true → is_between atom ≡ true
     → list_all (holds sh.op x) (atom_rel atom) ≡ relates sh.op (value_at sh pc 0 (values_in x)) atom
@@ -247,7 +238,7 @@ in_targets : (op : Op) (x : Assignment) (pc target : ℕ) (set : List ℕ) → t
 in_targets op x pc target set h = and_true _ ∙ ap (λ (o : Option ℕ). is_some_in set o) h
 
 pub targets_same : (s : Stand) (leaf : List Atom) (op : Op) (end : End) (used : Bool) (aim : Aim) (set : Option (List ℕ)) (x : Assignment) → used ≡ uses (shape_at (shape_with op end)) vars.Target
-    → IsTargetSet (target_test s leaf used aim) set → (used ≡ false → set ≡ None)
+    → IsCut (target_test s leaf used aim) set → (used ≡ false → set ≡ None)
     → list_all (holds op x) (target_rel s.pc set) ≡ target_test s leaf used aim (target_at op s.pc (values_in x))
 targets_same s leaf op end used aim None x u is none = sym (is (target_at op s.pc (values_in x)) (target_small op s.pc x))
 targets_same s leaf op end true aim (Some set) x u is none = in_targets op x s.pc _ set (has_its_target op end s.pc x (sym u)) ∙ is (target_at op s.pc (values_in x)) (target_small op s.pc x)

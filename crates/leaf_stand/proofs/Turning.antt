@@ -9,7 +9,7 @@ use Rattle.dom_set.specs.Elements.{is_in}
 use Rattle.dom_set.proofs.Sets.{elements_same}
 use Rattle.rv_isa.specs.declared.operation.Op.{Op}
 use Rattle.rv_isa.specs.declared.operation.Op.TheVariants as ops
-use Rattle.rv_isa.specs.Fields.{reads_rs1}
+use Rattle.rv_isa.specs.Fields.{reads_rs1, has_address}
 use Rattle.rv_isa.specs.Table.{row_of}
 use Rattle.rv_csr.specs.declared.cause.Cause.{Cause}
 use Rattle.rv_csr.specs.declared.cause.Cause.TheVariants as causes
@@ -45,13 +45,13 @@ use Rattle.fd_prob.specs.declared.slot.Slot.{Slot}
 use Rattle.fd_prob.specs.declared.slot.Slot.TheVariants as slots
 use Rattle.rv_isa.specs.Numbers.{op_number}
 use Rattle.leaf_link.specs.Turns.{Turn, holds_address, is_free_entry, is_narrow, is_small, may_be_old, may_be_source}
-use Rattle.leaf_link.specs.Values.{Values, has_address, instr_in}
+use Rattle.leaf_link.specs.Values.{Values, instr_in}
 use Rattle.leaf_link.specs.Cases.{Case, Fits, FitsCase, Shape as AShape, Way as AWay, all_judged, all_relate, all_tests, atoms_hold, base_domain, case_at, case_if, cases_of, domain, fetch_entry, in_word, is_held, is_posed, is_some_word, is_value_named, may_fetch, or_no, shape_of, sources_hold, target_at, tests, unless, uses, uses_address, uses_rs1, uses_rs2, value_at}
 use Rattle.leaf_link.specs.Kinds.{always, branch_goes, far_is_target, forks, is_vector, near_is_target, retires, retires_when, traps, traps_when, vector_alone, vector_at}
 use Rattle.leaf_link.specs.Controls.{access_in, csr_ways, grants, is_denied, is_legal_write, is_old, is_old_value, is_read_old, operand_in, return_ways, writes_in}
 use Rattle.leaf_link.specs.Answers.{values_in}
 use Rattle.leaf_link.specs.AllWays.{ways_of}
-use Rattle.leaf_link.specs.Internal.Problems.{cases_over}
+use Rattle.leaf_link.specs.Problems.{cases_over}
 use Rattle.leaf_stand.specs.declared.stand.Stand.{Stand}
 use Rattle.leaf_stand.specs.Kinds.{kind_of}
 use Rattle.leaf_stand.specs.Posed.{FitsSame, all_cases, allows, data_ways, has_accesses, is_data, is_posable, is_posed_at, stand_cases, stand_ways, ways_at}

@@ -1,5 +1,4 @@
 -- What only contracts between parts of the code, and proofs, speak of.
-pub mod Sets
 pub mod Ways
 pub mod FirstCases
 pub mod Cuts

@@ -5,4 +5,5 @@ pub mod Kinds
 pub mod Posed
 pub mod DataRows
 pub mod Laws
+pub mod Sets
 pub mod Internal

@@ -1,8 +1,7 @@
 -- The relations of a case.
-use Rattle.std.specs.Prelude.{◌≡◌, ℕ, ◌<◌, ◌^◌, Bool, true, false, ◌&&◌, ◌||◌, not, List, [], ◌∷◌, ◌++◌, Option, Some, None}
+use Rattle.std.specs.Prelude.{◌≡◌, ℕ, Bool, true, false, ◌&&◌, ◌||◌, not, List, [], ◌∷◌, ◌++◌, Option, Some, None}
 use Rattle.rv_isa.specs.declared.operation.Op.{Op}
-use Rattle.rv_isa.specs.Arithmetic.{is_branch}
-use Rattle.rv_hart.specs.Machine.{is_taken}
+use Rattle.rv_isa.specs.Arithmetic.{is_branch, is_taken}
 use Rattle.tpl_ast.specs.declared.template.Atom.{Atom}
 use Rattle.tpl_ast.specs.declared.template.Atom.TheVariants as atoms
 use Rattle.tpl_ast.specs.declared.template.Var.{Var}
@@ -20,7 +19,7 @@ use Rattle.leaf_stand.specs.declared.stand.Stand.{Stand}
 use Rattle.leaf_stand.specs.declared.way.Aim.{Aim}
 use Rattle.leaf_stand.specs.declared.way.Aim.TheVariants.{Anywhere, Aligned, Misaligned}
 use Rattle.leaf_stand.specs.declared.way.Way.{Way}
-use Rattle.leaf_stand.specs.Internal.Sets.{IsSetOf}
+use Rattle.data_goals.specs.Goals.{IsCut}
 use Rattle.leaf_stand.specs.Stands.{also_by, outcome_at, shape_at, turn_of}
 
 -- ATOMS
@@ -149,17 +148,13 @@ abbrev pub target_rel : ℕ → Option (List ℕ) → List Rel
 target_rel pc None = []
 target_rel pc (Some set) = rels.Target pc set ∷ []
 
-abbrev pub IsTargetSet : (ℕ → Bool) → Option (List ℕ) → Type 0
-IsTargetSet test None = (v : ℕ) → v < 2 ^ 32 → test v ≡ true
-IsTargetSet test (Some set) = IsSetOf test set
-
 -- what a leaf and a way ask of the target
 abbrev pub target_test : Stand → List Atom → Bool → Aim → ℕ → Bool
 target_test s leaf used aim v = unless used (is_aimed aim v && all_tests (turn_of s) leaf vars.Target v)
 
 pub record AddsTargets (s : Stand) (leaf : List Atom) (used : Bool) (aim : Aim) (old new : List Rel) : Type 0 where
   pub set : Option (List ℕ)
-  pub is : IsTargetSet (target_test s leaf used aim) set
+  pub is : IsCut (target_test s leaf used aim) set
   pub none : used ≡ false → set ≡ None
   pub added : new ≡ old ++ target_rel s.pc set
 

@@ -6,7 +6,7 @@ ghost use Rattle.tpl_ast.specs.Leaves.{same_var};
 ghost use Rattle.tpl_admit.specs.Truth.{is_shared};
 ghost use Rattle.leaf_link.specs.Cases.{all_judged, all_tests, is_judged, is_value_named, tests};
 ghost use Rattle.leaf_stand.specs.Relations.{are_between, is_between, speak_of, speaks_of};
-ghost use Rattle.leaf_stand.specs.Internal.Sets.{IsSetOf};
+ghost use Rattle.data_bytes.specs.Sets.{IsSetOf};
 ghost use Rattle.leaf_stand.specs.Stands.{set_named, shape_at, turn_of, value_named};
 
 use crate::formats::Spans;

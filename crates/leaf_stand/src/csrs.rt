@@ -4,7 +4,7 @@ ghost use Rattle.std.specs.Prelude.{◌≡◌, IfOk};
 ghost use Rattle.rv_hart.specs.Privileged.{lazy_address};
 ghost use Rattle.leaf_link.specs.Controls.{is_old};
 ghost use Rattle.leaf_link.specs.Turns.{may_be_old};
-ghost use Rattle.leaf_stand.specs.Internal.Sets.{IsSetOf};
+ghost use Rattle.data_bytes.specs.Sets.{IsSetOf};
 ghost use Rattle.leaf_stand.specs.Stands.{turn_of};
 
 use crate::formats::Spans;

@@ -4,7 +4,7 @@ ghost use Rattle.std.specs.Prelude.{◌≡◌, false, IfOk, OnOk};
 ghost use Rattle.tpl_ast.specs.Leaves.{same_var};
 ghost use Rattle.leaf_link.specs.Cases.{all_tests};
 ghost use Rattle.leaf_stand.specs.Internal.Cuts.{AddsCut, AreCuts, var_of};
-ghost use Rattle.leaf_stand.specs.Internal.Sets.{IsSetOf};
+ghost use Rattle.data_bytes.specs.Sets.{IsSetOf};
 ghost use Rattle.leaf_stand.specs.Stands.{turn_of};
 
 use crate::atoms::speak_of;

@@ -3,12 +3,12 @@
 ghost use Rattle.std.specs.Prelude.{◌≡◌, ℕ, ◌<◌, ◌^◌, ◌&&◌, false, nat_lt, length, IfOk};
 ghost use Rattle.std.specs.Int.{IsPowerOfTwo};
 ghost use Rattle.rv_isa.specs.Table.{row_of};
-ghost use Rattle.leaf_link.specs.Values.{has_address};
 ghost use Rattle.rv_isa.specs.Numbers.{op_number};
 ghost use Rattle.leaf_link.specs.Cases.{all_judged, all_tests, in_word, or_no, unless};
 ghost use Rattle.tpl_ast.specs.Leaves.{same_var};
 ghost use Rattle.leaf_link.specs.Kinds.{is_vector};
-ghost use Rattle.leaf_stand.specs.Internal.Sets.{AreDomains, IsSetOf, in_spans};
+ghost use Rattle.data_bytes.specs.Sets.{IsSetOf};
+ghost use Rattle.leaf_stand.specs.Sets.{AreDomains, in_spans};
 ghost use Rattle.leaf_stand.specs.Posed.{allows, is_posed_at};
 ghost use Rattle.leaf_stand.specs.Stands.{also_at, domain_at, old_at, open_at, shape_at, turn_of};
 

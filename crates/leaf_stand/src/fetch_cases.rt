@@ -5,7 +5,8 @@ ghost use Rattle.fd_prob.specs.Fitting.{IsCase};
 ghost use Rattle.fd_prob.specs.declared.slot.TheConstants.{SLOTS};
 ghost use Rattle.leaf_link.specs.Firsts.{IsDomain};
 ghost use Rattle.leaf_stand.specs.Internal.FirstCases.{IsFetchFirstCase, fetch_first_at};
-ghost use Rattle.leaf_stand.specs.Internal.Sets.{AreEach, IsSetOf};
+ghost use Rattle.data_bytes.specs.Sets.{IsSetOf};
+ghost use Rattle.leaf_stand.specs.Sets.{AreEach};
 
 use crate::formats::Spans;
 use crate::stand::Stand;

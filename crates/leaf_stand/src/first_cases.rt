@@ -9,7 +9,7 @@ ghost use Rattle.leaf_link.specs.Cases.{all_tests, or_no};
 ghost use Rattle.leaf_link.specs.Firsts.{IsDomain, in_first_word, is_modelled};
 ghost use Rattle.fd_prob.specs.Fitting.{IsCase};
 ghost use Rattle.leaf_stand.specs.Internal.FirstCases.{AreFirstDomains, IsFirstCase, first_at, first_entries};
-ghost use Rattle.leaf_stand.specs.Internal.Sets.{IsSetOf};
+ghost use Rattle.data_bytes.specs.Sets.{IsSetOf};
 ghost use Rattle.leaf_stand.specs.Stands.{turn_of};
 
 use crate::formats::Spans;

@@ -6,7 +6,7 @@ ghost use Rattle.rv_isa.specs.Table.{row_of};
 ghost use Rattle.fd_prob.specs.Slots.{slot_number};
 ghost use Rattle.leaf_link.specs.Cases.{field_of, in_format, is_imm, or_no};
 ghost use Rattle.rv_isa.specs.Numbers.{op_number};
-ghost use Rattle.leaf_stand.specs.Internal.Sets.{in_spans};
+ghost use Rattle.leaf_stand.specs.Sets.{in_spans};
 
 use fd_prob::Slot;
 use rv_isa::{Instr, Op};

@@ -3,7 +3,7 @@
 ghost use Rattle.std.specs.Prelude.{◌≡◌};
 ghost use Rattle.leaf_link.specs.Cases.{uses, uses_address, uses_condition, uses_rs1, uses_rs2};
 ghost use Rattle.leaf_link.specs.Firsts.{has_old};
-ghost use Rattle.leaf_link.specs.Values.{has_address};
+ghost use Rattle.rv_isa.specs.Fields.{has_address};
 ghost use Rattle.rv_isa.specs.Table.{row_of};
 ghost use Rattle.tpl_ast.specs.Leaves.{same_var, var_number};
 ghost use Rattle.leaf_stand.specs.Stands.{outcome_at, shape_at};

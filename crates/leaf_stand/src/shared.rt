@@ -4,7 +4,7 @@ ghost use Rattle.std.specs.Prelude.{◌≡◌, ℕ, ◌+◌, ◌-◌, ◌%◌, �
 ghost use Rattle.std.specs.List.{list_any};
 ghost use Rattle.tpl_admit.specs.Truth.{is_shared, record_touches, touches, trace_touches};
 ghost use Rattle.tpl_admit.specs.Variables.{is_data};
-ghost use Rattle.leaf_stand.specs.Internal.Sets.{IsSetOf};
+ghost use Rattle.data_bytes.specs.Sets.{IsSetOf};
 ghost use Rattle.leaf_stand.specs.Shared.{AddsSpans, traces_of};
 
 use dom_set::{OutOfMemory, Set, set_laws};

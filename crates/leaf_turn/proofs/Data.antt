@@ -35,7 +35,7 @@ use Rattle.rv_mem.specs.declared.words.Seen.TheVariants as seens
 use Rattle.rv_mem.specs.Seen.{is_known, is_there, is_untouched, known_word}
 use Rattle.data_bytes.specs.declared.memory.DataBytes.{DataBytes}
 use Rattle.data_bytes.specs.Bytes.{AreDataBytes}
-use Rattle.data_bytes.specs.Frames.{in_frames}
+use Rattle.rv_mem.specs.Frames.{in_frames}
 use Rattle.data_bytes.specs.Sets.{IsSetOf}
 use Rattle.data_bytes.specs.declared.starts.DataAccess.TheVariants.{Load as Reads, Store as Writes}
 use Rattle.data_ways.specs.Ways.{AreDataWays, IsDataGround}

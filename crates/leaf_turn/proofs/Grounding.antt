@@ -28,7 +28,8 @@ use Rattle.tpl_admit.specs.Races.{footprints_of}
 use Rattle.part_machine.specs.Whole.{Bare, hart_of, records_of}
 use Rattle.part_state.specs.Meaning.{IsTest}
 use Rattle.leaf_link.specs.Firsts.{data_pairs}
-use Rattle.leaf_link.specs.Turns.{Turn, in_frames, is_free_entry}
+use Rattle.rv_mem.specs.Frames.{in_frames}
+use Rattle.leaf_link.specs.Turns.{Turn, is_free_entry}
 use Rattle.leaf_link.specs.Cases.{all_tests, is_some_word, is_value_named, tests}
 use Rattle.tpl_admit.specs.Truth.{is_shared}
 use Rattle.leaf_stand.specs.declared.stand.Stand.{Stand}

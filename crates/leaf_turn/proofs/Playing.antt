@@ -20,7 +20,7 @@ use Rattle.leaf_link.specs.Answers.{values_in}
 use Rattle.leaf_link.specs.Faults.{fault_values}
 use Rattle.leaf_link.specs.Fetches.{fetch_values}
 use Rattle.leaf_link.specs.Placing.{IsInstruction, ValuesAreInstructions, is_second, place_value, PlacesHaveValues}
-use Rattle.leaf_link.specs.Internal.Problems.{key_of}
+use Rattle.leaf_link.specs.Problems.{key_of}
 use Rattle.leaf_link.specs.Turns.{Turn}
 use Rattle.leaf_link.specs.Values.{Values, instr_in}
 use Rattle.turn_laws.specs.Entered.{FetchCandidatesAreWalked}

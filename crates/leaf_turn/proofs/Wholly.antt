@@ -1,5 +1,5 @@
 -- The answer of a leaf on a test, from that of its stand.
-use Rattle.std.proofs.Common.{◌≡◌, ℕ, ◌<◌, ◌^◌, ◌+◌, ◌⊎◌, List, [], ◌∷◌, ◌++◌, refl, sym, ap, ◌∙◌, subst, inl, inr}
+use Rattle.std.proofs.Common.{◌≡◌, ℕ, ◌<◌, ◌^◌, ◌+◌, List, [], ◌∷◌, ◌++◌, refl, sym, ap, ◌∙◌, subst, inl, inr}
 use Rattle.std.specs.List.{AllByRecursion}
 use Rattle.std.specs.Prelude.{IfSome}
 use Rattle.dom_set.specs.Elements.{is_in}
@@ -7,6 +7,7 @@ use Rattle.leaf_link.specs.Reaching.{HasPages}
 use Rattle.rv_csr.specs.declared.access.CsrAccess.{CsrAccess}
 use Rattle.rv_script.specs.Folds.{Entry}
 use Rattle.rv_script.specs.Lists.{HasItem}
+use Rattle.rv_script.proofs.Items.{has_either}
 use Rattle.foot_map.specs.declared.touch.Touch.{Touch}
 use Rattle.tpl_ast.specs.declared.template.Atom.{Atom}
 use Rattle.tpl_ast.specs.declared.template.Wish.{Wish}
@@ -80,15 +81,8 @@ associate : (xs ys zs : List Atom) → (xs ++ ys) ++ zs ≡ xs ++ (ys ++ zs)
 associate [] ys zs = refl
 associate (x ∷ xs) ys zs = ap (λ (l : List Atom). x ∷ l) (associate xs ys zs)
 
-one_of : (xs ys : List Atom) (atom : Atom) → HasItem (xs ++ ys) atom → HasItem xs atom ⊎ HasItem ys atom
-one_of [] ys atom i = inr i
-one_of (x ∷ xs) ys atom i = elim i [
-  | inl same ↦ inl (inl same)
-  | inr later ↦ elim (one_of xs ys atom later) [ inl h ↦ inl (inr h) | inr h ↦ inr h ]
-]
-
 both_plain : (xs ys : List Atom) → ArePlain xs → ((atom : Atom) → HasItem ys atom → IsPlain atom) → (atom : Atom) → HasItem (xs ++ ys) atom → IsPlain atom
-both_plain xs ys h k atom i = elim (one_of xs ys atom i) [ inl j ↦ h atom j | inr j ↦ k atom j ]
+both_plain xs ys h k atom i = elim (has_either xs ys atom i) [ inl j ↦ h atom j | inr j ↦ k atom j ]
 
 judged_more : (t : Turn) (pa : ℕ) (draws : List ℕ) (nodes position : ℕ) (biases : List (List Atom)) (before after : Taken) → AllPlain biases → AreJudged t pa draws nodes position biases before after → AreMore before.atoms after.atoms
 judged_more t pa draws nodes position [] before after plain judged = record { more = []; is = ap (λ (k : Taken). k.atoms) judged ∙ nothing_behind before.atoms; plain = λ atom i. absurd i }

@@ -24,7 +24,7 @@ use Rattle.part_state.specs.State.{State, Test, tests}
 use Rattle.leaf_link.specs.Values.{Values, instr_in, new_places}
 use Rattle.leaf_link.specs.Candidates.{IsCandidate, accesses_in}
 use Rattle.leaf_link.specs.Placing.{IsInstruction}
-use Rattle.leaf_link.specs.Internal.Problems.{key_of}
+use Rattle.leaf_link.specs.Problems.{key_of}
 use Rattle.leaf_link.specs.Ways.{AreWords, IsFetched}
 use Rattle.turn_laws.specs.Ahead.{AreVectors}
 use Rattle.turn_laws.specs.Given.{AreListed, CanGive, Setting, all_given, known_at, turn_at}

@@ -28,7 +28,7 @@ use Rattle.leaf_link.specs.FetchRows.{AreFetchRows, FetchRow}
 use Rattle.leaf_link.specs.Turns.{Turn, is_first_form, is_free_entry, is_second_form}
 use Rattle.leaf_link.specs.Values.{Values, given_by}
 use Rattle.leaf_stand.specs.declared.stand.Stand.{Stand}
-use Rattle.leaf_stand.specs.Internal.Sets.{IsSetOf}
+use Rattle.data_bytes.specs.Sets.{IsSetOf}
 use Rattle.leaf_stand.specs.Stands.{csr_held}
 use Rattle.turn_laws.specs.Ahead.{AreVectors}
 use Rattle.turn_laws.specs.Entered.{IsWalked, walk_script}

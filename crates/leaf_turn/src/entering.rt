@@ -39,7 +39,7 @@ use part_state::Part;
 use rv_csr::Priv;
 use rv_script::{Place, Role};
 use std::alloc::Global;
-use sv_walk::{Kind, View, Walk, WalkEnd, walk};
+use sv_walk::{Kind, View, Walk, WalkEnd, is_translated, walk};
 use tpl_ast::Template;
 use turn_laws::{entries_are_next, given_places_are_known, places_are_next};
 
@@ -69,13 +69,6 @@ pub fn data_view(part: &Part, hart: u8) -> View
         sum: state.csrs.sum(),
         mxr: state.csrs.mxr(),
     }
-}
-
-/// Whether addresses are translated (Privileged, 4.1.11).
-pub fn is_translated(view: View) -> bool
-    ensures { result ≡ is_translated view }
-{
-    !matches!(view.privilege, Priv::M) && view.satp >= 0x8000_0000
 }
 
 /// The physical address of the root entry of an address (Privileged, 4.3.2).

@@ -17,7 +17,8 @@ ghost use Rattle.data_bytes.specs.Sets.{IsSetOf};
 ghost use Rattle.data_goals.specs.Grounds.{HasAccesses, is_walked};
 ghost use Rattle.leaf_link.specs.Cases.{or_no};
 ghost use Rattle.leaf_link.specs.Reaching.{HasPages};
-ghost use Rattle.leaf_link.specs.Turns.{Turn, in_frames, is_first_form, is_second_form};
+ghost use Rattle.rv_mem.specs.Frames.{in_frames};
+ghost use Rattle.leaf_link.specs.Turns.{Turn, is_first_form, is_second_form};
 ghost use Rattle.turn_laws.specs.Given.{Setting, turn_at};
 ghost use Rattle.leaf_turn.specs.Built.{lets_data};
 ghost use Rattle.leaf_turn.specs.Data.{IsDataAt, is_read};
@@ -26,7 +27,7 @@ ghost use Rattle.leaf_turn.specs.Grounds.{AreNamesOf, IsSettingOf};
 
 use crate::OutOfMemory;
 use crate::built::lets_data;
-use crate::entering::{data_view, fetch_view, forms_of, is_translated};
+use crate::entering::{data_view, fetch_view, forms_of};
 use crate::known::known_is_words;
 use crate::stand::bare_stand;
 use data_bytes::{DataAccess, data_bytes};
@@ -37,7 +38,7 @@ use fetch_ways::{EntryForms, Forms, entry_forms};
 use leaf_pose::Name;
 use part_state::Part;
 use std::alloc::Global;
-use sv_walk::{Kind, View, walk};
+use sv_walk::{Kind, View, is_translated, walk};
 use tpl_ast::{Atom, Template, Var, Wish};
 
 /// The bytes of page table entries, each by its first and its last one.

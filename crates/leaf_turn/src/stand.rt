@@ -8,7 +8,7 @@ ghost use Rattle.leaf_link.specs.Firsts.{data_pairs};
 ghost use Rattle.tpl_admit.specs.Races.{footprints_of};
 ghost use Rattle.part_machine.specs.Whole.{records_of};
 ghost use Rattle.part_state.specs.State.{here};
-ghost use Rattle.leaf_link.specs.Turns.{in_frames};
+ghost use Rattle.rv_mem.specs.Frames.{in_frames};
 ghost use Rattle.dom_set.specs.Elements.{is_in};
 ghost use Rattle.leaf_link.specs.Cases.{all_tests, is_some_word};
 ghost use Rattle.leaf_stand.specs.Shared.{traces_of};

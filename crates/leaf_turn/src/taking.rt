@@ -14,7 +14,7 @@ ghost use Rattle.leaf_turn.specs.Answers.{AreGiven, AreKept, IsPlayable, IsStill
 ghost use Rattle.leaf_link.specs.FetchPlacing.{entry_value};
 
 use crate::OutOfMemory;
-use crate::entering::{data_view, is_translated, root_address};
+use crate::entering::{data_view, root_address};
 use crate::known::known_is_near;
 use fd_prob::{Assignment, Slot};
 use part_state::{Part, Probe};
@@ -22,7 +22,7 @@ use rv_hart::Record;
 use rv_isa::{Instr, OPS, codec_laws, encode};
 use rv_mem::{Seen, Words};
 use rv_script::Place;
-use sv_walk::{is_invalid, is_pointer};
+use sv_walk::{is_invalid, is_pointer, is_translated};
 use turn_laws::{given_places_are_known, places_are_next, played_steps_are_next};
 
 /// The instruction of an answer.

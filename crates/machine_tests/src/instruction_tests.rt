@@ -1,7 +1,7 @@
 // Instructions that retire, and what a step lacks. The tables are as `cases` reads them.
 use crate::cases::assert_cases;
 use crate::fixtures::{BEYOND, DATA, NEXT, NUMBER, hart_with};
-use rv_hart::{Csrs, Hart, Mem, Priv, Seen, Stepped, Words, branch_law, look, step, step_law};
+use rv_hart::{Csrs, Hart, Mem, Priv, Seen, Stepped, Words, look, step, step_law};
 use std::process::Abort;
 use std::test::Fail;
 use step_rows::{RAM, Told, retired, told_by};
@@ -37,7 +37,6 @@ fn a_new_hart_knows_x0_alone(rt: HostRuntime) {
 
 #[test]
 fn the_laws_are_called() {
-    branch_law();
     step_law();
 }
 

@@ -1,5 +1,5 @@
 -- Clashes of one access, of the accesses up to one, and of all.
-use Rattle.std.proofs.Common.{◌≡◌, ℕ, ◌+◌, ◌/◌, ◌<◌, ◌≤◌, ◌⊎◌, Bool, true, ◌&&◌, ◌||◌, eqb, leb, ltb, List, [], ◌∷◌, ◌++◌, length, take, get_or, Option, Some, None, refl, sym, ap, ◌∙◌, subst, inl, inr, arith}
+use Rattle.std.proofs.Common.{◌≡◌, ℕ, ◌+◌, ◌/◌, ◌<◌, ◌≤◌, ◌⊎◌, Bool, true, ◌&&◌, ◌||◌, eqb, leb, ltb, List, [], ◌∷◌, ◌++◌, length, take, get_or, Option, Some, None, sym, ap, ◌∙◌, subst, inl, inr, arith}
 use Rattle.std.specs.Option.{IfSome, IfNone}
 use Rattle.std.specs.List.{list_any}
 use Rattle.std.proofs.lemmas.Bool.{and_parts, and_from, or_cases, or_left, or_right, eqb-true, eq-eqb, leb-true, le-leb, ltb-true, lt-ltb, true≢false}
@@ -10,6 +10,7 @@ use Rattle.rv_script.specs.declared.access.Role.{Role}
 use Rattle.rv_script.specs.declared.access.Role.TheVariants.{Fetch}
 use Rattle.rv_script.specs.Bytes.{covers}
 use Rattle.rv_script.specs.Lists.{HasItem}
+use Rattle.rv_script.proofs.Items.{has_first, has_old_or_last, has_last}
 use Rattle.rv_hart.specs.Effects.{IsInWord}
 use Rattle.foot_map.specs.declared.clash.Clash.{Clash}
 use Rattle.foot_map.specs.declared.touch.Touch.{Touch}
@@ -143,25 +144,6 @@ least_more feet hart xs i d x a b o within la lb one upto none =
 abbrev pub IsAmongClash : Feet → ℕ → List Access → List Access → Clash → Type 0
 IsAmongClash feet hart xs ys c = (x : Access) × HasItem ys x × IsAccessClash feet hart xs x c
 
--- what stands in a list with one item more
-item_cases : (xs : List Access) (x y : Access) → HasItem (xs ++ x ∷ []) y → HasItem xs y ⊎ (x ≡ y)
-item_cases [] x y (inl h) = inr h
-item_cases [] x y (inr h) = absurd h
-item_cases (z ∷ zs) x y (inl h) = inl (inl h)
-item_cases (z ∷ zs) x y (inr h) = elim (item_cases zs x y h) [
-  | inl old ↦ inl (inr old)
-  | inr new ↦ inr new
-]
-
-item_old : (xs : List Access) (x y : Access) → HasItem xs y → HasItem (xs ++ x ∷ []) y
-item_old [] x y h = absurd h
-item_old (z ∷ zs) x y (inl h) = inl h
-item_old (z ∷ zs) x y (inr h) = inr (item_old zs x y h)
-
-item_new : (xs : List Access) (x : Access) → HasItem (xs ++ x ∷ []) x
-item_new [] x = inl refl
-item_new (z ∷ zs) x = inr (item_new zs x)
-
 -- with one access more
 pub least_next : (feet : Feet) (hart : ℕ) (xs : List Access) (i : ℕ) (d : Access) (a b o : Option Clash) → i < length xs
     → IsLeastWith (IsAmongClash feet hart xs (take i xs)) a → IsLeastWith (IsAccessClash feet hart xs (get_or xs i d)) b
@@ -177,16 +159,16 @@ least_next feet hart xs i d a b o within la lb one upto none =
     more = take_more xs i d within
 
     split : (c : Clash) → IsAmongClash feet hart xs (take (i + 1) xs) c → IsAmongClash feet hart xs (take i xs) c ⊎ IsAccessClash feet hart xs x c
-    split c clash = elim (item_cases (take i xs) x clash.0 (subst (λ (ys : List Access). HasItem ys clash.0) more clash.1)) [
+    split c clash = elim (has_old_or_last (take i xs) x clash.0 (subst (λ (ys : List Access). HasItem ys clash.0) more clash.1)) [
       | inl early ↦ inl (clash.0, early, clash.2)
       | inr here ↦ inr (subst (λ (z : Access). IsAccessClash feet hart xs z c) (sym here) clash.2)
     ]
 
     old : (c : Clash) → IsAmongClash feet hart xs (take i xs) c → IsAmongClash feet hart xs (take (i + 1) xs) c
-    old c clash = (clash.0, subst (λ (ys : List Access). HasItem ys clash.0) (sym more) (item_old (take i xs) x clash.0 clash.1), clash.2)
+    old c clash = (clash.0, subst (λ (ys : List Access). HasItem ys clash.0) (sym more) (has_first (take i xs) (x ∷ []) clash.0 clash.1), clash.2)
 
     new : (c : Clash) → IsAccessClash feet hart xs x c → IsAmongClash feet hart xs (take (i + 1) xs) c
-    new c clash = (x, subst (λ (ys : List Access). HasItem ys x) (sym more) (item_new (take i xs) x), clash)
+    new c clash = (x, subst (λ (ys : List Access). HasItem ys x) (sym more) (has_last (take i xs) x), clash)
 
 -- those of all accesses are the step's
 least_all : (feet : Feet) (hart : ℕ) (xs ys : List Access) (o : Option Clash) → ys ≡ xs → IsLeastWith (IsAmongClash feet hart xs ys) o → IsLeastWith (IsStepClash feet hart xs) o

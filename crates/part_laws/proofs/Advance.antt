@@ -14,6 +14,7 @@ use Rattle.rv_script.specs.Folds.{Sight, asked_of, result_of, accesses_of}
 use Rattle.rv_script.specs.Laws.{IsSeenAlike, IsSame}
 use Rattle.rv_script.specs.Memory.{memory_after}
 use Rattle.rv_script.proofs.Local.{seen_value, local}
+use Rattle.rv_script.proofs.Items.{has_first, has_second}
 use Rattle.foot_map.specs.Races.{IsRaceFree}
 use Rattle.rv_hart.specs.declared.record.Change.{Change}
 use Rattle.rv_hart.specs.declared.record.Record.{Record}
@@ -28,7 +29,7 @@ use Rattle.tpl_admit.specs.Races.{footprint_of, footprints_of}
 use Rattle.tpl_admit.specs.System.{System, replaced}
 use Rattle.tpl_admit.specs.Validity.{in_turn}
 use Rattle.rv_hart.proofs.Entries.{planned_accesses, entry_access}
-use Rattle.tpl_admit.proofs.Memory.{byte_of, Fits, AllFit, HoldsWords, has_left, has_right, memory_after_at, memory_after_words, in_turn_one, in_turn_more}
+use Rattle.tpl_admit.proofs.Memory.{byte_of, Fits, AllFit, HoldsWords, memory_after_at, memory_after_words, in_turn_one, in_turn_more}
 use Rattle.tpl_admit.proofs.Systems.{at_same, at_other}
 use Rattle.part_laws.specs.Partial.{Held, Partial, Begins, End, Runs, is_held, IsReached, IsAlone, IsPartialTest, known_by, held_after, words_after, with_record, advanced, IsNext}
 use Rattle.part_laws.specs.Laws.{AdvanceLaw}
@@ -188,9 +189,9 @@ is_free p k r free =
     let xs : List Access = r.accesses in
     let did : ℕ → List Access = footprints_of (with_record k r p.records) in
     let mine : (x : Access) → HasItem (footprints_of p.records k) x → HasItem (did k) x =
-    λ x h. subst (λ (ys : List Access). HasItem ys x) (sym (own_records p k r)) (has_left (footprints_of p.records k) xs x h) in
+    λ x h. subst (λ (ys : List Access). HasItem ys x) (sym (own_records p k r)) (has_first (footprints_of p.records k) xs x h) in
     let next : (x : Access) → HasItem xs x → HasItem (did k) x =
-    λ x h. subst (λ (ys : List Access). HasItem ys x) (sym (own_records p k r)) (has_right (footprints_of p.records k) xs x h) in
+    λ x h. subst (λ (ys : List Access). HasItem ys x) (sym (own_records p k r)) (has_second (footprints_of p.records k) xs x h) in
     let others : (j : ℕ) → j ≢ k → (x : Access) → HasItem (footprints_of p.records j) x → HasItem (did j) x =
     λ j ne x h. subst (λ (ys : List Access). HasItem ys x) (sym (other_records p k r j ne)) h in
     record {

@@ -8,13 +8,14 @@ use Rattle.rv_script.specs.declared.place.Place.TheVariants.{Reg, Csr, Word}
 use Rattle.rv_script.specs.Lists.{HasItem}
 use Rattle.rv_script.specs.Bytes.{word_address}
 use Rattle.rv_script.specs.Memory.{memory_after}
+use Rattle.rv_script.proofs.Items.{has_either}
 use Rattle.rv_csr.specs.Table.{csr_key}
 use Rattle.rv_hart.specs.declared.record.Record.{Record}
 use Rattle.rv_hart.specs.Whole.{WholeHart, sight_of, Step, hart_after}
 use Rattle.tpl_admit.specs.Solo.{IsRight, Solo, solo, solo_on, is_set, knows_also, AreInitialised, knows_after, SoloStep}
 use Rattle.tpl_admit.specs.Races.{footprint_of}
 use Rattle.rv_hart.proofs.Entries.{step_word}
-use Rattle.tpl_admit.proofs.Memory.{has_cases, memory_after_append}
+use Rattle.tpl_admit.proofs.Memory.{memory_after_append}
 use Rattle.part_laws.specs.Partial.{End, Runs}
 
 -- the end after one step more
@@ -55,7 +56,7 @@ runs_given words knows h m (r ∷ rs) e runs x i =
     let s : Step = runs.0 in
     let ih = runs_given words (knows_also s.writes knows) (hart_after s h) (memory_after s.did.accesses m) rs e runs.2 x in
     let word : x.addr / 4 ≡ word_address x.addr / 4 = omega arith in
-    elim (has_cases r.accesses (footprint_of rs) x i) [
+    elim (has_either r.accesses (footprint_of rs) x i) [
       | inl here ↦ rw word (runs.1.set (Word (word_address x.addr)) (step_word h.fixed (sight_of h.file m) s runs.1.step x (subst (λ (q : Record). HasItem q.accesses x) (sym runs.1.did) here)))
       | inr later ↦ ih later
     ]

@@ -10,7 +10,7 @@ use Rattle.part_machine.specs.Whole.{Bare, bare, Whole, named, no_hart, HasHart,
 use Rattle.part_machine.specs.Undo.{undone, IsWithin}
 use Rattle.part_machine.specs.Internal.Places.{IsPlaceEntry}
 use Rattle.part_machine.proofs.Undoing.{same_whole}
-use Rattle.part_machine.proofs.Fronts.{front_append}
+use Rattle.part_machine.proofs.ButLast.{but_last_append}
 
 -- ---- lists
 
@@ -73,7 +73,7 @@ word_back addr v w w' is untouched =
     ∙ same_whole (undone (Word addr) (word_given addr v w)) w (record {
       ram = refl;
       first = refl;
-      words = front_append w.words (addr / 4, v);
+      words = but_last_append w.words (addr / 4, v);
       traces = refl;
       harts = refl;
       memory = λ i. elim (cases_Bool (eqb i (addr / 4))) [

@@ -1,5 +1,5 @@
 pub mod Noting
-pub mod Fronts
+pub mod ButLast
 pub mod Undoing
 pub mod Changes
 pub mod Stepping

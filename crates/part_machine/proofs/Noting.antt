@@ -12,7 +12,7 @@ use Rattle.foot_map.specs.declared.touch.Touch.{Touch}
 use Rattle.foot_map.proofs.Orders.{same_role_is}
 use Rattle.foot_map.specs.Touches.{has, has_bit, is_part, is_masked, same_role, IsAdded, IsMaskOfNew, IsRemoved}
 use Rattle.part_machine.specs.declared.notes.Note.{Note}
-use Rattle.part_machine.specs.Internal.Notes.{Feet, any_masked, taken_out, touched, with_seen, put_back, IsKnownAt}
+use Rattle.part_machine.specs.Notes.{Feet, any_masked, taken_out, touched, with_seen, put_back, IsKnownAt}
 
 pub split_at : {A : Type 0} (xs : List A) (i : ℕ) (x : A) → i < length xs → x ≡ get_or xs i x → drop i xs ≡ x ∷ drop (i + 1) xs
 split_at {A} xs i x within is = drop_more xs i x within ∙ ap (λ (y : A). y ∷ drop (i + 1) xs) (sym is)

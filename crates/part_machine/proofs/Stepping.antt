@@ -18,7 +18,7 @@ use Rattle.rv_hart.specs.Changes.{csrs_after, privilege_after}
 use Rattle.rv_hart.specs.Machine.{script}
 use Rattle.rv_hart.specs.Registers.{written}
 use Rattle.rv_hart.specs.View.{known, fixed_of, shown, pc_after, regs_after, control_in, accesses_in}
-use Rattle.part_machine.specs.Internal.Notes.{IsKnownAt}
+use Rattle.part_machine.specs.Notes.{IsKnownAt}
 use Rattle.part_machine.specs.Whole.{Bare, bare, known_in, fixed_in, next_in, bare_after}
 
 -- the hart after a step

@@ -1,4 +1,2 @@
 -- What only contracts between parts of the code, and proofs, speak of.
-pub mod Notes
-pub mod Fronts
 pub mod Places

@@ -1,3 +1,5 @@
 pub mod Whole
 pub mod Undo
+pub mod Notes
+pub mod ButLast
 pub mod Internal

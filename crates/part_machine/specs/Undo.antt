@@ -7,8 +7,8 @@ use Rattle.foot_map.specs.Touches.{has}
 use Rattle.part_machine.specs.declared.entry.Entry.{Entry}
 use Rattle.part_machine.specs.declared.entry.Entry.TheVariants.{Place, Word, Step, Name, Choice, Wish}
 use Rattle.part_machine.specs.declared.running.Running.{Running}
-use Rattle.part_machine.specs.Internal.Fronts.{front}
-use Rattle.part_machine.specs.Internal.Notes.{with_seen, put_back, taken_out, IsKnownAt, IsWithinWord}
+use Rattle.part_machine.specs.ButLast.{but_last}
+use Rattle.part_machine.specs.Notes.{with_seen, put_back, taken_out, IsKnownAt, IsWithinWord}
 use Rattle.part_machine.specs.Whole.{bare, Whole, History}
 
 -- the running machine as a whole
@@ -29,16 +29,16 @@ whole_of m = record {
 -- the whole before the change of an entry
 abbrev pub undone : Entry → Whole → Whole
 undone (Place k first now) w = record w { first = slice_set w.first k (bare first); harts = slice_set w.harts k (bare now) }
-undone (Word addr) w = record w { words = front w.words; memory = with_seen (addr / 4) Untouched w.memory }
+undone (Word addr) w = record w { words = but_last w.words; memory = with_seen (addr / 4) Untouched w.memory }
 undone (Step k now notes) w = record w {
-  traces = slice_set w.traces k (front (slice_index_or w.traces k []));
+  traces = slice_set w.traces k (but_last (slice_index_or w.traces k []));
   harts = slice_set w.harts k (bare now);
   memory = put_back notes w.memory;
   feet = taken_out k notes w.feet;
 }
 undone (Name name) w = record w { names = slice_set w.names name None }
-undone Choice w = record w { choices = front w.choices }
-undone Wish w = record w { dropped = front w.dropped }
+undone Choice w = record w { choices = but_last w.choices }
+undone Wish w = record w { dropped = but_last w.dropped }
 
 -- the entry can be undone
 abbrev pub IsWithin : Entry → Whole → Type 0

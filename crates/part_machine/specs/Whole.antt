@@ -22,7 +22,7 @@ use Rattle.rv_hart.specs.Machine.{script}
 use Rattle.rv_hart.specs.Registers.{written}
 use Rattle.rv_hart.specs.View.{known_by}
 use Rattle.rv_hart.specs.Whole.{record_of}
-use Rattle.part_machine.specs.Internal.Notes.{Feet, touched, with_seen}
+use Rattle.part_machine.specs.Notes.{Feet, touched, with_seen}
 
 -- a hart by its values
 pub record Bare : Type 0 where

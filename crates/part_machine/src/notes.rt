@@ -5,7 +5,7 @@ ghost use Rattle.rv_mem.specs.Part.{part_at};
 ghost use Rattle.rv_mem.specs.declared.words.Seen.TheVariants.{Known};
 ghost use Rattle.rv_hart.specs.Effects.{IsInWord};
 ghost use Rattle.foot_map.specs.Touches.{has};
-ghost use Rattle.part_machine.specs.Internal.Notes.{AreNotes, IsKnownAt, IsWithinWord, put_back, taken_out, with_seen};
+ghost use Rattle.part_machine.specs.Notes.{AreNotes, IsKnownAt, IsWithinWord, put_back, taken_out, with_seen};
 
 use crate::OutOfMemory;
 use arrayvec::ArrayVec;

@@ -10,13 +10,13 @@ ghost use Rattle.rv_hart.specs.Changes.{IsSoundWrite};
 ghost use Rattle.rv_hart.specs.Clauses.{IsFitRecord};
 ghost use Rattle.rv_hart.specs.Effects.{IsInWord, seen_after};
 ghost use Rattle.foot_map.specs.Touches.{has};
-ghost use Rattle.part_machine.specs.Internal.Notes.{AreNotes, IsKnownAt, with_seen};
+ghost use Rattle.part_machine.specs.Notes.{AreNotes, IsKnownAt, with_seen};
 ghost use Rattle.part_machine.specs.Whole.{next_in, next_of, stepped, IsReady, bare_after, record_in, prepared, bare, named, chosen, with_dropped, register_given, csr_given, word_given, with_register, with_csr, hart_of, no_hart, HasHart, IsCsrUntouched};
 ghost use Rattle.rv_csr.specs.Table.{is_legal_at};
 ghost use Rattle.rv_csr.specs.State.{is_untouched};
 ghost use Rattle.rv_mem.specs.declared.words.Seen.TheVariants.{Known};
 ghost use Rattle.part_machine.specs.Internal.Places.{IsPlaceEntry};
-ghost use Rattle.part_machine.specs.Internal.Fronts.{front};
+ghost use Rattle.part_machine.specs.ButLast.{but_last};
 ghost use Rattle.part_machine.specs.Undo.{undone, whole_of, IsWithin};
 
 use crate::OutOfMemory;
@@ -60,7 +60,7 @@ pub fn copy_of(hart: &Hart) -> Hart
 
 /// Takes the last one away.
 fn drop_last<T: Drop>(items: &mut Vec<T>)
-    ensures { items.new.items ≡ front items.old.items }
+    ensures { items.new.items ≡ but_last items.old.items }
 {
     items.pop();
 }
@@ -68,7 +68,7 @@ fn drop_last<T: Drop>(items: &mut Vec<T>)
 /// Takes the last record of a hart away.
 fn drop_record(traces: &mut Vec<Trace>, hart: u8)
     requires { hart < length traces.old.items }
-    ensures { traces.new.items ≡ slice_set traces.old.items hart (front (slice_index_or traces.old.items hart [])) }
+    ensures { traces.new.items ≡ slice_set traces.old.items hart (but_last (slice_index_or traces.old.items hart [])) }
 {
     traces[hart as usize].pop();
 }

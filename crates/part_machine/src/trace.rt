@@ -1,6 +1,6 @@
 // The records of a hart.
 ghost use Rattle.std.specs.Prelude.{◌≡◌, [], ◌∷◌, ◌++◌, OnOk, OnErr};
-ghost use Rattle.part_machine.specs.Internal.Fronts.{front};
+ghost use Rattle.part_machine.specs.ButLast.{but_last};
 
 use crate::OutOfMemory;
 use rv_hart::Record;
@@ -47,7 +47,7 @@ impl Trace {
 
     /// Takes the last record away.
     pub fn pop(&mut self)
-        ensures { self.new ≡ front self.old }
+        ensures { self.new ≡ but_last self.old }
     {
         self.records.pop();
     }

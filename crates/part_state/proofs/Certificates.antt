@@ -22,7 +22,7 @@ use Rattle.tpl_admit.specs.declared.certificate.Cert.{Cert}
 use Rattle.tpl_admit.specs.Starts.{no_state, lookup}
 use Rattle.tpl_ast.specs.States.{ArePlaces, AreStartWords, IsState, IsWord, is_in_ram}
 use Rattle.tpl_admit.specs.WellFormed.{IsWellFormed}
-use Rattle.part_machine.specs.Internal.Notes.{IsKnownAt}
+use Rattle.part_machine.specs.Notes.{IsKnownAt}
 use Rattle.part_machine.specs.Whole.{Bare, Whole, given, no_hart}
 use Rattle.part_laws.specs.Laws.{IsStateOf, IsMade}
 use Rattle.part_told.specs.Finishing.{told_state}

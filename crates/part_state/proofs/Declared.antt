@@ -9,7 +9,7 @@ use Rattle.rv_hart.specs.declared.hart.Hart.{Hart}
 use Rattle.tpl_ast.specs.declared.template.HartDecl.{HartDecl}
 use Rattle.tpl_admit.specs.Starts.{no_state}
 use Rattle.tpl_ast.specs.States.{IsState}
-use Rattle.given_start.specs.Internal.Knowledge.{known_at}
+use Rattle.given_start.specs.Knowledge.{known_at}
 use Rattle.part_machine.specs.Whole.{Bare, bare, no_hart}
 use Rattle.part_state.specs.Beginning.{IsHartOf, AreHartsOf, start_in}
 

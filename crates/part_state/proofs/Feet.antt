@@ -8,12 +8,12 @@ use Rattle.rv_script.specs.declared.access.Access.{Access}
 use Rattle.rv_script.specs.declared.access.Role.{Role}
 use Rattle.rv_script.specs.Lists.{HasItem}
 use Rattle.rv_script.specs.Bytes.{covers}
+use Rattle.rv_script.proofs.Items.{has_either, has_first, has_second}
 use Rattle.rv_hart.specs.Effects.{IsInWord}
 use Rattle.foot_map.specs.Touches.{is_part, same_role}
 use Rattle.foot_map.specs.Order.{rank}
 use Rattle.foot_map.proofs.Orders.{same_role_is}
-use Rattle.tpl_admit.proofs.Memory.{has_left, has_right, has_cases}
-use Rattle.part_machine.specs.Internal.Notes.{Feet, touched}
+use Rattle.part_machine.specs.Notes.{Feet, touched}
 use Rattle.part_state.specs.Meaning.{IsFootOf}
 
 -- one of the bytes that an access adds
@@ -62,16 +62,16 @@ pub record IsMore (k : ℕ) (xs : List Access) (did did' : ℕ → List Access) 
 
 pub keeps : (k : ℕ) (xs : List Access) (did did' : ℕ → List Access) → IsMore k xs did did' → (j : ℕ) (x : Access) → HasItem (did j) x → HasItem (did' j) x
 keeps k xs did did' m j x i = elim (cases_eq j k) [
-  | inl same ↦ subst (λ (l : ℕ). HasItem (did' l) x) (sym same) (subst (λ (ys : List Access). HasItem ys x) (sym m.here) (has_left (did k) xs x (subst (λ (l : ℕ). HasItem (did l) x) same i)))
+  | inl same ↦ subst (λ (l : ℕ). HasItem (did' l) x) (sym same) (subst (λ (ys : List Access). HasItem ys x) (sym m.here) (has_first (did k) xs x (subst (λ (l : ℕ). HasItem (did l) x) same i)))
   | inr other ↦ subst (λ (ys : List Access). HasItem ys x) (sym (m.there j other)) i
 ]
 
 pub adds : (k : ℕ) (xs : List Access) (did did' : ℕ → List Access) → IsMore k xs did did' → (x : Access) → HasItem xs x → HasItem (did' k) x
-adds k xs did did' m x i = subst (λ (ys : List Access). HasItem ys x) (sym m.here) (has_right (did k) xs x i)
+adds k xs did did' m x i = subst (λ (ys : List Access). HasItem ys x) (sym m.here) (has_second (did k) xs x i)
 
 pub was : (k : ℕ) (xs : List Access) (did did' : ℕ → List Access) → IsMore k xs did did' → (j : ℕ) (x : Access) → HasItem (did' j) x → HasItem (did j) x ⊎ ((j ≡ k) × HasItem xs x)
 was k xs did did' m j x i = elim (cases_eq j k) [
-  | inl same ↦ elim (has_cases (did k) xs x (subst (λ (ys : List Access). HasItem ys x) m.here (subst (λ (l : ℕ). HasItem (did' l) x) same i))) [
+  | inl same ↦ elim (has_either (did k) xs x (subst (λ (ys : List Access). HasItem ys x) m.here (subst (λ (l : ℕ). HasItem (did' l) x) same i))) [
     | inl old ↦ inl (subst (λ (l : ℕ). HasItem (did l) x) (sym same) old)
     | inr new ↦ inr (same, new)
   ]
@@ -83,7 +83,7 @@ pub foot_more : (k : ℕ) (xs : List Access) (feet : Feet) (did did' : ℕ → L
 foot_more k xs feet did did' words foot here there b h r = (
   λ t. elim (or_cases (feet b h r) _ t) [
     | inl old ↦ (let x = (foot b h r).0 old in (x.0, keeps k xs did did' (record { here = here; there = there }) h x.0 x.1, x.2, x.3))
-    | inr new ↦ (let x = any_part k xs b h r words new in (x.0, subst (λ (j : ℕ). HasItem (did' j) x.0) x.2.hart (subst (λ (ys : List Access). HasItem ys x.0) (sym here) (has_right (did k) xs x.0 x.1)), x.2.role, x.2.byte))
+    | inr new ↦ (let x = any_part k xs b h r words new in (x.0, subst (λ (j : ℕ). HasItem (did' j) x.0) x.2.hart (subst (λ (ys : List Access). HasItem ys x.0) (sym here) (has_second (did k) xs x.0 x.1)), x.2.role, x.2.byte))
   ],
   λ x. elim (was k xs did did' (record { here = here; there = there }) h x.0 x.1) [
     | inl old ↦ or_left (feet b h r) _ ((foot b h r).1 (x.0, old, x.2, x.3))

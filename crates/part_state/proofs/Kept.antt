@@ -12,7 +12,7 @@ use Rattle.part_machine.specs.Whole.{Whole, given, named, chosen, with_dropped}
 use Rattle.part_machine.specs.Undo.{undone}
 use Rattle.part_state.specs.Meaning.{IsTest}
 use Rattle.part_state.specs.Internal.Parts.{AreTests}
-use Rattle.part_machine.proofs.Fronts.{front_append}
+use Rattle.part_machine.proofs.ButLast.{but_last_append}
 
 reversed : (log : List Entry) (e : Entry) → reverse (log ++ e ∷ []) ≡ e ∷ reverse log
 reversed log e = reverse-append log (e ∷ [])
@@ -40,10 +40,10 @@ pub test_dropped : (d : Dropped) (w : Whole) → IsTest w → IsTest (with_dropp
 test_dropped d w test = record { first = test.first; traces = test.traces; fit_first = test.fit_first; fit = test.fit; number_first = test.number_first; number = test.number; there = test.there; small = test.small; test = test.test; foot = test.foot }
 
 pub choice_back : (way : ℕ) (w : Whole) → undone Choice (chosen way w) ≡ w
-choice_back way w = ap (λ (ns : List ℕ). let v : Whole = record w { choices = ns } in v) (front_append w.choices way)
+choice_back way w = ap (λ (ns : List ℕ). let v : Whole = record w { choices = ns } in v) (but_last_append w.choices way)
 
 pub wish_back : (d : Dropped) (w : Whole) → undone Wish (with_dropped d w) ≡ w
-wish_back d w = ap (λ (ds : List Dropped). let v : Whole = record w { dropped = ds } in v) (front_append w.dropped d)
+wish_back d w = ap (λ (ds : List Dropped). let v : Whole = record w { dropped = ds } in v) (but_last_append w.dropped d)
 
 -- an untouched word was not given
 pub word_fresh : (addr : ℕ) (w : Whole) → IsTest w → w.memory (addr / 4) ≡ Untouched → given w.words (addr / 4) ≡ None

@@ -23,7 +23,7 @@ use Rattle.rv_hart.specs.Fixed.{Fixed}
 use Rattle.rv_hart.specs.Machine.{script}
 use Rattle.tpl_admit.specs.Races.{footprint_of}
 use Rattle.tpl_admit.specs.System.{replaced}
-use Rattle.part_machine.specs.Internal.Notes.{with_seen}
+use Rattle.part_machine.specs.Notes.{with_seen}
 use Rattle.part_machine.proofs.Given.{given_more}
 use Rattle.part_laws.specs.Partial.{Held, Partial, IsPartialTest, with_value, with_place, place_started, word_started, held_after, words_after, advanced, IsNext}
 use Rattle.part_machine.specs.Whole.{Bare, Whole, given, no_hart, first_of, hart_of, records_of, fixed_in, next_of, record_in, bare_after, stepped, with_register, register_given, with_csr, csr_given, IsCsrUntouched, word_given, HasHart}

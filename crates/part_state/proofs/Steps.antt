@@ -15,11 +15,11 @@ use Rattle.rv_hart.specs.declared.record.Record.{Record}
 use Rattle.rv_hart.specs.Effects.{seen_word_after, seen_accessed, seen_after}
 use Rattle.part_machine.specs.declared.notes.Note.{Note}
 use Rattle.part_machine.specs.declared.entry.Entry.TheVariants.{Step}
-use Rattle.part_machine.specs.Internal.Fronts.{front}
-use Rattle.part_machine.specs.Internal.Notes.{with_seen, put_back, taken_out, IsKnownAt, IsWordOf, AreNotes}
+use Rattle.part_machine.specs.ButLast.{but_last}
+use Rattle.part_machine.specs.Notes.{with_seen, put_back, taken_out, IsKnownAt, IsWordOf, AreNotes}
 use Rattle.part_machine.specs.Whole.{bare, Whole, no_hart, hart_of, records_of, record_in, bare_after, stepped, HasHart}
 use Rattle.part_machine.specs.Undo.{undone, IsWithin}
-use Rattle.part_machine.proofs.Fronts.{front_append}
+use Rattle.part_machine.proofs.ButLast.{but_last_append}
 use Rattle.part_machine.proofs.Undoing.{same_whole}
 use Rattle.part_machine.proofs.Changes.{set_back}
 
@@ -81,13 +81,13 @@ step_back k xs c w w' now ns is notes now_is has =
     let s : Whole = stepped k xs c w in
     let feet : (b h : ℕ) (q : Role) → taken_out k ns s.feet b h q ≡ w.feet b h q = λ b h q. ap (λ (v : Whole). taken_out k ns v.feet b h q) (sym is) ∙ notes.undone b h q in
     let got : get_or (set w.traces k (rs ++ r ∷ [])) k [] ≡ rs ++ r ∷ [] = get_or-set_same w.traces k (rs ++ r ∷ []) [] has.trace in
-    let fore : front (get_or (set w.traces k (rs ++ r ∷ [])) k []) ≡ rs = ap (λ (q : List Record). front q) got ∙ front_append rs r in
+    let fore : but_last (get_or (set w.traces k (rs ++ r ∷ [])) k []) ≡ rs = ap (λ (q : List Record). but_last q) got ∙ but_last_append rs r in
     ap (λ (v : Whole). undone (Step k now ns) v) is
     ∙ same_whole (undone (Step k now ns) s) w (record {
       ram = refl;
       first = refl;
       words = refl;
-      traces = set_back w.traces k (rs ++ r ∷ []) (front (get_or (set w.traces k (rs ++ r ∷ [])) k [])) [] fore;
+      traces = set_back w.traces k (rs ++ r ∷ []) (but_last (get_or (set w.traces k (rs ++ r ∷ [])) k [])) [] fore;
       harts = set_back w.harts k (bare_after c (hart_of k w)) (bare now) no_hart now_is;
       memory = memory_back ns xs w.memory notes.places notes.words;
       feet = feet;

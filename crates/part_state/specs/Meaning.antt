@@ -11,7 +11,7 @@ use Rattle.rv_script.specs.declared.access.Access.{Access}
 use Rattle.rv_script.specs.declared.access.Role.{Role}
 use Rattle.rv_script.specs.Lists.{HasItem}
 use Rattle.rv_script.specs.Bytes.{covers}
-use Rattle.part_machine.specs.Internal.Notes.{Feet}
+use Rattle.part_machine.specs.Notes.{Feet}
 use Rattle.rv_script.specs.declared.place.Place.{Place}
 use Rattle.rv_script.specs.declared.place.Place.TheVariants.{Reg, Csr, Word}
 use Rattle.rv_script.specs.Folds.{Answer.Does as DoesSo}

@@ -12,7 +12,7 @@ use Rattle.foot_map.specs.Touches.{same_role}
 use Rattle.rv_hart.specs.declared.record.Record.{Record}
 use Rattle.tpl_admit.specs.declared.dropped.Dropped.{Dropped}
 use Rattle.tpl_admit.specs.Races.{footprint_of}
-use Rattle.part_machine.specs.Internal.Notes.{Feet}
+use Rattle.part_machine.specs.Notes.{Feet}
 use Rattle.part_machine.specs.Whole.{Bare, Whole, given, History}
 
 -- RAM; each hart at the start; the words that were given, as pairs of number and value in the order in which they were, and the same words with the

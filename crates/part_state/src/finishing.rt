@@ -6,7 +6,7 @@ ghost use Rattle.rv_mem.specs.Seen.{known_word};
 ghost use Rattle.part_told.specs.Finishing.{known_from, told_state};
 ghost use Rattle.part_told.specs.Words.{IsWithinRam, ListsWords};
 ghost use Rattle.tpl_ast.specs.States.{IsState, IsWord};
-ghost use Rattle.part_machine.specs.Internal.Notes.{IsKnownAt};
+ghost use Rattle.part_machine.specs.Notes.{IsKnownAt};
 ghost use Rattle.part_machine.specs.Undo.{whole_of};
 ghost use Rattle.part_machine.specs.Whole.{given, bare};
 ghost use Rattle.part_state.specs.Told.{Tells};

@@ -165,10 +165,11 @@ impl Part {
         self.inner.mark()
     }
 
-    /// Goes back to the test that stands at this number, counted from 0. It takes no memory.
+    /// Goes back to the test that stands at this number, counted from 0: it and the earlier ones stand as they did, and those
+    /// behind it are gone. It takes no memory.
     pub fn rollback(&mut self, mark: usize)
         requires { mark ≤ length self.old.earlier }
-        ensures { tests self.new ≡ take (mark + 1) (tests self.old) }
+        ensures back { tests self.new ≡ take (mark + 1) (tests self.old) }
     {
         self.inner.rollback(mark);
     }

@@ -3,7 +3,7 @@ use Rattle.std.specs.Prelude.{◌≡◌, ℕ, ◌+◌, ◌*◌, ◌/◌, ◌%◌
 use Rattle.rv_mem.specs.declared.words.Seen.{Seen}
 use Rattle.rv_mem.specs.Ram.{in_ram}
 use Rattle.tpl_admit.specs.Starts.{lookup}
-use Rattle.part_machine.specs.Internal.Notes.{IsKnownAt}
+use Rattle.part_machine.specs.Notes.{IsKnownAt}
 use Rattle.part_machine.specs.Whole.{given}
 
 -- an aligned word, which is known

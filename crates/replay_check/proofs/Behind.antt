@@ -1,5 +1,5 @@
 -- The accesses of records, one after another.
-use Rattle.std.proofs.Common.{◌≡◌, ℕ, zero, suc, ◌+◌, ◌<◌, ◌⊎◌, true, false, eqb, Option, Some, None, List, [], ◌∷◌, ◌++◌, length, take, get_or, refl, sym, ap, ◌∙◌, subst, inl, inr, arith, append_assoc}
+use Rattle.std.proofs.Common.{◌≡◌, ℕ, zero, suc, ◌+◌, ◌<◌, true, false, eqb, Option, Some, None, List, [], ◌∷◌, ◌++◌, length, take, get_or, refl, sym, ap, ◌∙◌, subst, inl, inr, arith, append_assoc}
 use Rattle.std.proofs.Math.Path.{fun_ext}
 use Rattle.std.proofs.lemmas.Bool.{cases_Bool, cases_eq, cases_lt, eq-eqb, ne_eqb, lt-ltb, le-ltb}
 use Rattle.std.proofs.lemmas.List.{append-nil, take_more, get_or_past, get_or_default}
@@ -9,6 +9,7 @@ use Rattle.std.proofs.lemmas.List.Elements.{All-get_or}
 use Rattle.std.proofs.lemmas.Option.{same_Some}
 use Rattle.rv_script.specs.declared.access.Access.{Access}
 use Rattle.rv_script.specs.Lists.{HasItem}
+use Rattle.rv_script.proofs.Items.{has_either, has_first, has_second}
 use Rattle.rv_hart.specs.declared.record.Record.{Record}
 use Rattle.rv_hart.specs.Effects.{IsInWord}
 use Rattle.foot_map.specs.Touches.{IsInWord as IsInWordAt}
@@ -45,24 +46,10 @@ front_has (y ∷ xs) zero x has = absurd has
 front_has (y ∷ xs) (suc n) x (inl here) = inl here
 front_has (y ∷ xs) (suc n) x (inr there) = inr (front_has xs n x there)
 
-in_either : (xs ys : List Access) (x : Access) → HasItem (xs ++ ys) x → HasItem xs x ⊎ HasItem ys x
-in_either [] ys x at = inr at
-in_either (y ∷ xs) ys x (inl here) = inl (inl here)
-in_either (y ∷ xs) ys x (inr there) = elim (in_either xs ys x there) [ inl here ↦ inl (inr here) | inr later ↦ inr later ]
-
-in_left : (xs ys : List Access) (x : Access) → HasItem xs x → HasItem (xs ++ ys) x
-in_left [] ys x at = absurd at
-in_left (y ∷ xs) ys x (inl here) = inl here
-in_left (y ∷ xs) ys x (inr there) = inr (in_left xs ys x there)
-
-in_right : (xs ys : List Access) (x : Access) → HasItem ys x → HasItem (xs ++ ys) x
-in_right [] ys x at = at
-in_right (y ∷ xs) ys x at = inr (in_right xs ys x at)
-
 -- fewer accesses of the same hart
 pub fewer : (did : ℕ → List Access) (k : ℕ) (xs ys : List Access) → ((x : Access) → HasItem xs x → HasItem ys x) → (j : ℕ) (x : Access) → HasItem (with_accesses did k xs j) x → HasItem (with_accesses did k ys j) x
 fewer did k xs ys sub j x = elim (cases_Bool (eqb j k)) [
-  | inl here ↦ rw here (λ has. elim (in_either (did k) xs x has) [ inl before ↦ in_left (did k) ys x before | inr now ↦ in_right (did k) ys x (sub x now) ])
+  | inl here ↦ rw here (λ has. elim (has_either (did k) xs x has) [ inl before ↦ has_first (did k) ys x before | inr now ↦ has_second (did k) ys x (sub x now) ])
   | inr other ↦ rw other (λ has. has)
 ]
 

@@ -28,7 +28,7 @@ use Rattle.tpl_admit.specs.Solo.{Solo, solo, solo_run, knows_after, AreRight}
 use Rattle.tpl_admit.specs.Validity.{in_turn, EndsAsPrinted, MemoryEndsAsPrinted}
 use Rattle.tpl_admit.specs.WellFormed.{IsWellFormed}
 use Rattle.replay_check.specs.Failures.{GoesWrong, HartIsRight, HartGoesWrong}
-use Rattle.given_start.specs.Internal.Knowledge.{known_at, known_of, knows_of, fixed_now, whole_of}
+use Rattle.given_start.specs.Knowledge.{known_at, known_of, knows_of, fixed_now, whole_of}
 use Rattle.given_start.proofs.Aligned.{frames_aligned}
 use Rattle.replay_check.specs.Internal.Memory.{IsStart, ShowsOf}
 use Rattle.replay_check.specs.Internal.Replay.{TakesAll, StraysAt, EndsAs, IsFixedTold}

@@ -7,6 +7,7 @@ use Rattle.rv_isa.specs.Encoding.{IsInRange}
 use Rattle.rv_isa.specs.Reading.{decoded}
 use Rattle.rv_isa.specs.Table.{row_of}
 use Rattle.rv_isa.proofs.Codec.{encoded_read, fitting_in_range}
+use Rattle.rv_isa.specs.Arithmetic.{is_taken}
 use Rattle.rv_csr.specs.declared.access.CsrAccess.{CsrAccess}
 use Rattle.rv_csr.specs.declared.access.CsrAccess.TheVariants.{Granted, Denied, Outside as NotModelled}
 use Rattle.rv_csr.specs.declared.cause.Cause.{Cause}
@@ -26,7 +27,7 @@ use Rattle.sv_walk.specs.declared.entry.Kind.{Kind}
 use Rattle.sv_walk.specs.declared.entry.View.{View}
 use Rattle.sv_walk.specs.Entry.{is_invalid, is_pointer, is_reserved, is_unaligned, is_closed}
 use Rattle.sv_walk.specs.Translation.{Reached, At, Fails, is_in_ram, second_address, from_pointer, from_root, is_translated, root_address, translated}
-use Rattle.rv_hart.specs.Machine.{fetch_view, data_view, arriving, at_address, jumped, upper_row, upper_pc_row, jump_row, jump_register_row, is_taken, branch_row, size_of, reached, load_at, load_row, store_at, store_row, immediate_row, register_row, fence_row, effect, instruction, fetched_at, script}
+use Rattle.rv_hart.specs.Machine.{fetch_view, data_view, arriving, at_address, jumped, upper_row, upper_pc_row, jump_row, jump_register_row, branch_row, size_of, reached, load_at, load_row, store_at, store_row, immediate_row, register_row, fence_row, effect, instruction, fetched_at, script}
 use Rattle.rv_hart.specs.Privileged.{trap, reads_csr, old_value, write_csr, csr_exchanged, csr_granted, csr_accessed, csr_row, csr_immediate_row, mret_row, is_withheld, sret_row, address_fence_row}
 use Rattle.rv_hart.specs.Whole.{WholeHart, sight_of}
 

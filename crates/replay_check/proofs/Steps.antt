@@ -33,7 +33,7 @@ use Rattle.rv_hart.specs.Clauses.{Has, stepped_by, first_needed, IsMachineStep, 
 use Rattle.tpl_ast.specs.declared.template.Region.{Region}
 use Rattle.tpl_admit.specs.Starts.{zero_elsewhere}
 use Rattle.tpl_admit.specs.Solo.{is_set, AreSet}
-use Rattle.given_start.specs.Internal.Knowledge.{known_at, known_of, knows_of, fixed_now, whole_of}
+use Rattle.given_start.specs.Knowledge.{known_at, known_of, knows_of, fixed_now, whole_of}
 use Rattle.replay_check.specs.Internal.Memory.{Shows}
 use Rattle.replay_check.specs.Internal.Replay.{IsSameRecord, Takes, Strays}
 use Rattle.given_start.proofs.Knowledge.{wholes, known_zero, known_small, known_csr, known_between}

@@ -12,7 +12,7 @@ use Rattle.tpl_ast.specs.declared.template.Region.{Region}
 use Rattle.tpl_admit.specs.Races.{footprint_of}
 use Rattle.tpl_admit.specs.Solo.{Solo, solo, solo_on, knows_also, AreInitialised, knows_after, SoloStep, IsRight, AreRight}
 use Rattle.replay_check.specs.Failures.{IsWrong, GoesWrong}
-use Rattle.given_start.specs.Internal.Knowledge.{knows_of, whole_of}
+use Rattle.given_start.specs.Knowledge.{knows_of, whole_of}
 use Rattle.replay_check.specs.Internal.Memory.{Shows, AreInWords}
 use Rattle.replay_check.specs.Internal.Replay.{Takes, Strays, TakesAll, StraysAt}
 use Rattle.replay_check.proofs.Shown.{shown_same, shown_after, after_both}

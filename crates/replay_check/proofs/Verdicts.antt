@@ -1,9 +1,10 @@
 -- What the parts of a check say of the certificate.
-use Rattle.std.proofs.Common.{◌≡◌, ℕ, zero, suc, ◌+◌, ◌<◌, ◌≤◌, Bool, true, false, nat_eq, nat_lt, if◌then◌else◌, List, [], ◌∷◌, ◌++◌, length, take, ◌⊎◌, refl, sym, ap, ◌∙◌, subst, inl, inr, arith}
+use Rattle.std.proofs.Common.{◌≡◌, ℕ, zero, suc, ◌+◌, ◌<◌, ◌≤◌, Bool, true, false, nat_eq, nat_lt, if◌then◌else◌, List, [], ◌∷◌, length, take, refl, sym, ap, ◌∙◌, subst, inl, inr, arith}
 use Rattle.std.proofs.lemmas.Bool.{cases_order, cases_lt, lt-ltb, le-ltb, ne_eqb}
 use Rattle.std.proofs.lemmas.List.{get_or_past}
 use Rattle.rv_script.specs.declared.access.Access.{Access}
 use Rattle.rv_script.specs.Lists.{HasItem}
+use Rattle.rv_script.proofs.Items.{has_either, has_first, has_second}
 use Rattle.foot_map.specs.Races.{IsRaceFree}
 use Rattle.foot_map.proofs.Races.{fewer}
 use Rattle.rv_hart.specs.declared.record.Record.{Record}
@@ -14,7 +15,7 @@ use Rattle.tpl_admit.specs.Validity.{IsHartValid, IsValid, MemoryEndsAsPrinted}
 use Rattle.tpl_admit.specs.Admission.{Admits}
 use Rattle.tpl_admit.specs.WellFormed.{IsWellFormed}
 use Rattle.tpl_admit.specs.Unmet.{IsLeastFailure}
-use Rattle.replay_check.specs.Failures.{HartIsRight, HartGoesWrong, AllAreRight, AllEndAsTold, FailsInStep, FailsAtEnd, did_before, RacesFrom, FailsInRace, IsFirstFailure}
+use Rattle.replay_check.specs.Failures.{HartIsRight, HartGoesWrong, AllAreRight, AllEndAsPrinted, FailsInStep, FailsAtEnd, did_before, RacesFrom, FailsInRace, IsFirstFailure}
 use Rattle.tpl_admit.proofs.Failures.{admitted_never, one_least}
 use Rattle.replay_check.specs.Internal.Memory.{AreInWords}
 use Rattle.replay_check.specs.Internal.Replay.{EndsOtherwise, IsReplayed}
@@ -48,7 +49,7 @@ first_end c hart step right other is = inr (inl (record {
   step_is = is;
 }))
 
-pub first_of_memory : (c : Cert) (hart : ℕ) → AllAreRight c → AllEndAsTold c → (MemoryEndsAsPrinted c → ⊥) → hart ≡ length c.start → IsFirstFailure c 4 hart 0
+pub first_of_memory : (c : Cert) (hart : ℕ) → AllAreRight c → AllEndAsPrinted c → (MemoryEndsAsPrinted c → ⊥) → hart ≡ length c.start → IsFirstFailure c 4 hart 0
 first_of_memory c hart right ends wrong is = inr (inr (inl (record {
   steps = right;
   ends = ends;
@@ -89,20 +90,6 @@ never_wrong c k kind step right wrong = right_never (word_of c) (is_given (start
 
 -- ---- races
 
-has_left : (xs ys : List Access) (x : Access) → HasItem xs x → HasItem (xs ++ ys) x
-has_left [] ys x at = absurd at
-has_left (y ∷ xs) ys x (inl here) = inl here
-has_left (y ∷ xs) ys x (inr there) = inr (has_left xs ys x there)
-
-has_right : (xs ys : List Access) (x : Access) → HasItem ys x → HasItem (xs ++ ys) x
-has_right [] ys x at = at
-has_right (y ∷ xs) ys x at = inr (has_right xs ys x at)
-
-has_either : (xs ys : List Access) (x : Access) → HasItem (xs ++ ys) x → HasItem xs x ⊎ HasItem ys x
-has_either [] ys x at = inr at
-has_either (y ∷ xs) ys x (inl here) = inl (inl here)
-has_either (y ∷ xs) ys x (inr there) = elim (has_either xs ys x there) [ inl first ↦ inl (inr first) | inr second ↦ inr second ]
-
 -- what the first records did, more of them did too
 took_more : (rs : List Record) (n n' : ℕ) (x : Access) → n ≤ n' → HasItem (footprint_of (take n rs)) x → HasItem (footprint_of (take n' rs)) x
 took_more [] n zero x up at = absurd (none n at)
@@ -114,16 +101,16 @@ took_more rs zero n' x up at = absurd at
 took_more rs (suc n) zero x up at = absurd (omega (arith, up))
 took_more [] (suc n) (suc n') x up at = absurd at
 took_more (r ∷ rs) (suc n) (suc n') x up at = elim (has_either r.accesses (footprint_of (take n rs)) x at) [
-  | inl here ↦ has_left r.accesses (footprint_of (take n' rs)) x here
-  | inr later ↦ has_right r.accesses (footprint_of (take n' rs)) x (took_more rs n n' x (omega (arith, up)) later)
+  | inl here ↦ has_first r.accesses (footprint_of (take n' rs)) x here
+  | inr later ↦ has_second r.accesses (footprint_of (take n' rs)) x (took_more rs n n' x (omega (arith, up)) later)
 ]
 
 took_all : (rs : List Record) (n : ℕ) (x : Access) → HasItem (footprint_of (take n rs)) x → HasItem (footprint_of rs) x
 took_all rs zero x at = absurd at
 took_all [] (suc n) x at = absurd at
 took_all (r ∷ rs) (suc n) x at = elim (has_either r.accesses (footprint_of (take n rs)) x at) [
-  | inl here ↦ has_left r.accesses (footprint_of rs) x here
-  | inr later ↦ has_right r.accesses (footprint_of rs) x (took_all rs n x later)
+  | inl here ↦ has_first r.accesses (footprint_of rs) x here
+  | inr later ↦ has_second r.accesses (footprint_of rs) x (took_all rs n x later)
 ]
 
 -- what was done before a record is part of all that was done

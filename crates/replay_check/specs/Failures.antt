@@ -44,8 +44,8 @@ HartGoesWrong c k kind step = GoesWrong (word_of c) (is_given (start_of c k)) (f
 abbrev pub AllAreRight : Cert → Type 0
 AllAreRight c = (k : ℕ) → k < length c.start → HartIsRight c k
 
-abbrev pub AllEndAsTold : Cert → Type 0
-AllEndAsTold c = (k : ℕ) → k < length c.start → EndsAsPrinted c k
+abbrev pub AllEndAsPrinted : Cert → Type 0
+AllEndAsPrinted c = (k : ℕ) → k < length c.start → EndsAsPrinted c k
 
 -- a step goes wrong, and none of an earlier hart
 pub record FailsInStep (c : Cert) (kind hart step : ℕ) : Type 0 where
@@ -65,7 +65,7 @@ pub record FailsAtEnd (c : Cert) (kind hart step : ℕ) : Type 0 where
 -- memory alone ends otherwise
 pub record FailsInMemory (c : Cert) (kind hart step : ℕ) : Type 0 where
   pub steps : AllAreRight c
-  pub ends : AllEndAsTold c
+  pub ends : AllEndAsPrinted c
   pub kind_is : kind ≡ 4
   pub wrong : MemoryEndsAsPrinted c → ⊥
   pub hart_is : hart ≡ length c.start
@@ -87,7 +87,7 @@ pub record RacesFrom (c : Cert) (hart step : ℕ) : Type 0 where
 -- all that is right, and the accesses race from this record on, harts in ascending order
 pub record FailsInRace (c : Cert) (kind hart step : ℕ) : Type 0 where
   pub steps : AllAreRight c
-  pub ends : AllEndAsTold c
+  pub ends : AllEndAsPrinted c
   pub memory : MemoryEndsAsPrinted c
   pub kind_is : kind ≡ 5
   pub from : RacesFrom c hart step
@@ -95,7 +95,7 @@ pub record FailsInRace (c : Cert) (kind hart step : ℕ) : Type 0 where
 -- all that is right, and the template doesn't admit the trace
 pub record FailsTemplate (c : Cert) (kind hart step : ℕ) : Type 0 where
   pub steps : AllAreRight c
-  pub ends : AllEndAsTold c
+  pub ends : AllEndAsPrinted c
   pub memory : MemoryEndsAsPrinted c
   pub race_free : IsRaceFree (footprints_of (trace_of c))
   pub kind_is : kind ≡ 6

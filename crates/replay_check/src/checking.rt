@@ -9,7 +9,7 @@ ghost use Rattle.tpl_admit.specs.WellFormed.{IsWellFormed};
 ghost use Rattle.tpl_ast.specs.States.{IsState};
 ghost use Rattle.tpl_admit.specs.Validity.{in_turn, IsValid, EndsAsPrinted, MemoryEndsAsPrinted};
 ghost use Rattle.rv_system.specs.Faithfulness.{IsFaithful};
-ghost use Rattle.replay_check.specs.Failures.{HartIsRight, HartGoesWrong, AllAreRight, AllEndAsTold, FailsInStep, IsFirstFailure};
+ghost use Rattle.replay_check.specs.Failures.{HartIsRight, HartGoesWrong, AllAreRight, AllEndAsPrinted, FailsInStep, IsFirstFailure};
 ghost use Rattle.replay_check.specs.declared.verdict.Verdict.TheVariants.{Yes, No};
 ghost use Rattle.replay_check.specs.Internal.Memory.{Shows, ShowsOf, WhereShown, AreInWords};
 ghost use Rattle.replay_check.specs.Internal.Replay.{AllEndAs, EndsAs, EndsOtherwise, IsFixedTold, IsReplayed};
@@ -165,7 +165,7 @@ fn all_alone(alloc: Global, cert: &Cert) -> Result<Result<Vec<Hart>, Failure>, O
 fn other_end(cert: &Cert, harts: &[Hart]) -> Option<u8>
     requires well_formed { IsWellFormed cert.now }
     requires ends { AllEndAs cert.now harts.now }
-    ensures none { result ≡ None → AllEndAsTold cert.now }
+    ensures none { result ≡ None → AllEndAsPrinted cert.now }
     ensures some { (k : ℕ) → result ≡ Some k → EndsOtherwise cert.now k }
 {
     for k in 0..cert.start.len() as u8 {

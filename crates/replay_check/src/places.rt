@@ -5,7 +5,7 @@ ghost use Rattle.rv_csr.specs.State.{lazy_value_at};
 ghost use Rattle.rv_csr.specs.Table.{address_of, csr_key};
 ghost use Rattle.tpl_admit.specs.Starts.{lookup};
 ghost use Rattle.tpl_ast.specs.States.{ArePlaces};
-ghost use Rattle.given_start.specs.Internal.Knowledge.{known_of};
+ghost use Rattle.given_start.specs.Knowledge.{known_of};
 ghost use Rattle.replay_check.specs.Internal.Memory.{is_ascending};
 
 use crate::lookup::value_of;

@@ -5,8 +5,8 @@ use Rattle.std.proofs.lemmas.List.Folds.{list_any_at}
 use Rattle.std.proofs.lemmas.Option.{get_or_from_slice_get, slice_get_within}
 use Rattle.rv_mem.specs.declared.words.Seen.{Seen}
 use Rattle.dom_set.specs.Counting.{one}
-use Rattle.row_parts.specs.Internal.Times.{times_by}
-use Rattle.row_parts.specs.Internal.Classes.{same, any_seen, times_seen, EachOnce}
+use Rattle.row_parts.specs.Times.{times_by}
+use Rattle.row_parts.specs.Classes.{same, any_seen, times_seen, EachOnce}
 use Rattle.row_parts.specs.Rows.{End, when}
 use Rattle.row_parts.specs.Items.{by_items, by_kind}
 use Rattle.row_parts.proofs.SeenOnce.{same_is, same_self}

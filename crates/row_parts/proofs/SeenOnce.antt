@@ -4,7 +4,7 @@ use Rattle.std.proofs.lemmas.Bool.{eq-eqb}
 use Rattle.rv_mem.specs.declared.words.Seen.{Seen}
 use Rattle.rv_mem.specs.declared.words.Seen.TheVariants.{Known, Untouched, Vacant}
 use Rattle.dom_set.specs.Counting.{one}
-use Rattle.row_parts.specs.Internal.Classes.{same, any_seen, times_seen}
+use Rattle.row_parts.specs.Classes.{same, any_seen, times_seen}
 use Rattle.row_parts.proofs.Lists.{Equals, once_pushed, rest_kept}
 
 pub same_is : (a b : Seen) → same a b ≡ true → a ≡ b

@@ -6,7 +6,7 @@ use Rattle.std.proofs.lemmas.List.Folds.{list_any-append}
 use Rattle.dom_set.specs.Counting.{one}
 use Rattle.dom_set.specs.Elements.{is_in, is_within}
 use Rattle.row_parts.specs.declared.alike.Group.{Group}
-use Rattle.row_parts.specs.Internal.Times.{times_by}
+use Rattle.row_parts.specs.Times.{times_by}
 use Rattle.row_parts.specs.Rows.{when}
 use Rattle.row_parts.specs.Items.{by_items}
 use Rattle.row_parts.specs.Alike.{Ends, times_held, LeadAlike, IsAlike, by_groups, by_word}

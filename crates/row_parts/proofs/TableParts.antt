@@ -3,7 +3,7 @@ use Rattle.std.proofs.Common.{◌≡◌, ℕ, ◌+◌, ◌-◌, ◌*◌, ◌/◌
 use Rattle.std.proofs.lemmas.Nat.{pow-add}
 use Rattle.row_parts.specs.declared.classes.Level.{Level}
 use Rattle.row_parts.specs.declared.classes.Level.TheVariants.{Root, Second}
-use Rattle.row_parts.specs.Internal.Classes.{low_bit}
+use Rattle.row_parts.specs.Classes.{low_bit}
 use Rattle.row_parts.proofs.Cuts.{low_aligned}
 
 sized : (bits low : ℕ) → low ≤ bits → 2 ^ bits ≡ 2 ^ (bits - low) * 2 ^ low

@@ -3,7 +3,7 @@ use Rattle.std.specs.Prelude.{◌≡◌, ℕ, Bool, true, List, [], Option, Some
 use Rattle.std.specs.List.{list_any}
 use Rattle.dom_set.specs.Elements.{is_in}
 use Rattle.row_parts.specs.declared.alike.Group.{Group}
-use Rattle.row_parts.specs.Internal.Times.{times_by}
+use Rattle.row_parts.specs.Times.{times_by}
 use Rattle.row_parts.specs.Rows.{End, is_of, when}
 use Rattle.row_parts.specs.Items.{by_items}
 

@@ -2,7 +2,7 @@
 use Rattle.std.specs.Prelude.{◌≡◌, ℕ, ◌+◌, ◌*◌, ◌/◌, ◌^◌, ◌==◌, Bool, ◌||◌, List}
 use Rattle.std.specs.List.{list_any}
 use Rattle.dom_set.specs.Counting.{one}
-use Rattle.row_parts.specs.Internal.Times.{times_by}
+use Rattle.row_parts.specs.Times.{times_by}
 use Rattle.row_parts.specs.declared.forms.Forms.{Forms}
 
 -- a pointer to the table in a frame: its page number with V alone (Privileged, 4.3.1)

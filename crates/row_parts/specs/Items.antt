@@ -1,7 +1,7 @@
 -- The ends of the items that pass a test.
 use Rattle.std.specs.Prelude.{◌≡◌, ℕ, Bool, List, [], ◌∷◌, ◌++◌, Some, slice_get}
 use Rattle.rv_mem.specs.declared.words.Seen.{Seen}
-use Rattle.row_parts.specs.Internal.Classes.{same}
+use Rattle.row_parts.specs.Classes.{same}
 use Rattle.row_parts.specs.Rows.{End, when}
 
 abbrev pub by_items : {X : Type 0} → (X → Bool) → List X → (X → List End) → List End

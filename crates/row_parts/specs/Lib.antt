@@ -4,4 +4,6 @@ pub mod Reached
 pub mod Items
 pub mod Alike
 pub mod Gaps
+pub mod Classes
+pub mod Times
 pub mod Internal

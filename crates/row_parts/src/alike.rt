@@ -1,11 +1,11 @@
 // New entries that lead to the same ends, together.
 ghost use Rattle.std.specs.Prelude.{◌≡◌, ◌==◌, ℕ, ◌+◌, ◌≤◌, Bool, Option, All, length, OnOk, IfOk};
 ghost use Rattle.dom_set.specs.Counting.{one};
-ghost use Rattle.dom_set.specs.Elements.{is_in, is_within};
 ghost use Rattle.row_parts.specs.Forms.{IsOnce, times_in};
 ghost use Rattle.row_parts.specs.Alike.{times_held, LeadAlike, IsAlike, by_groups, by_word};
 
-use dom_set::{OutOfMemory, Set, set_laws};
+use crate::numbers::set_of;
+use dom_set::{OutOfMemory, Set};
 use std::alloc::Global;
 
 /// What new entries lead to.
@@ -27,28 +27,6 @@ pub struct Group {
     /// One of them.
     pub entry: u32,
     pub values: Set,
-}
-
-/// Each number of a list, as a range.
-#[tactic(auto, using(crate::proofs::Sharing::single_pushed))]
-fn singles(alloc: Global, values: &[u32]) -> Result<Vec<(u32, u32)>, OutOfMemory>
-    ensures { IfOk result (λ rs. (w : ℕ) → is_within rs.items w ≡ is_in values.now w) }
-{
-    let mut ranges = Vec::new(alloc);
-    for value in values {
-        ranges.push((*value, *value))?;
-    }
-    Ok(ranges)
-}
-
-/// The numbers of a list.
-fn set_of(alloc: Global, values: &[u32]) -> Result<Set, OutOfMemory>
-    ensures { IfOk result (λ s. (w : ℕ) → is_in s w ≡ is_in values.now w) }
-{
-    set_laws();
-    let ranges = singles(alloc, values)?;
-    let set = Set::from_ranges(alloc, &ranges, 1)?;
-    Ok(set)
 }
 
 /// Puts a value with those that are like an entry, or with the others.

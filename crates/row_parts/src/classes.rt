@@ -3,7 +3,7 @@ ghost use Rattle.std.specs.Prelude.{true, false, ◌≡◌, ℕ, ◌+◌, ◌*�
 ghost use Rattle.row_parts.specs.declared.blocks.Cover.TheVariants.{All, Nothing, Some as SomePass};
 ghost use Rattle.rv_mem.specs.declared.words.Seen.{Seen};
 ghost use Rattle.dom_set.specs.Counting.{one};
-ghost use Rattle.row_parts.specs.Internal.Classes.{low_bit, same, seen_at, has_class, any_seen, times_seen, TableOf, EachOnce};
+ghost use Rattle.row_parts.specs.Classes.{low_bit, same, seen_at, has_class, any_seen, times_seen, TableOf, EachOnce};
 ghost use Rattle.row_parts.specs.Items.{GivesEach};
 
 use crate::blocks::{Choice, Cover, power};
@@ -150,7 +150,7 @@ impl<'a> ClassPart<'a> {
 
 impl<'a> Choice for ClassPart<'a> {
     ghost use Rattle.std.specs.Prelude.{◌/◌, ◌^◌};
-    ghost use Rattle.row_parts.specs.Internal.Classes.{has_class, low_bit};
+    ghost use Rattle.row_parts.specs.Classes.{has_class, low_bit};
 
     ghost test = { λ p y. has_class p.table.now p.seen (y / 2 ^ low_bit p.level) };
 

@@ -1,5 +1,5 @@
 // The forms of new page table entries.
-ghost use Rattle.std.specs.Prelude.{◌≡◌, ℕ, ◌≤◌, ◌||◌, ◌==◌, Bool, IfOk, OnOk};
+ghost use Rattle.std.specs.Prelude.{◌≡◌, ℕ, ◌^◌, ◌<◌, ◌≤◌, ◌||◌, ◌==◌, All, Bool, IfOk, OnOk};
 ghost use Rattle.dom_set.specs.Counting.{one};
 ghost use Rattle.dom_set.specs.Elements.{is_in};
 ghost use Rattle.row_parts.specs.Forms.{is_first, is_second, is_pointer_to, with_flag, is_superpage_in, is_page_in, times_in, IsOnce};
@@ -116,3 +116,10 @@ impl Forms {
         once(alloc, &values)
     }
 }
+
+/// Does nothing. Its contract says that frames and flag bytes are what their types can hold.
+pub fn form_law(tables: &[u32], pool: &[u32], flags: &[u8])
+    ensures tables { All (λ t. t < 2 ^ 32) tables.now }
+    ensures pool { All (λ p. p < 2 ^ 32) pool.now }
+    ensures flags { All (λ b. b < 256) flags.now }
+{}

@@ -1,7 +1,7 @@
 // Sets of addresses that lie in one page.
 ghost use Rattle.std.specs.Prelude.{◌≡◌, ℕ, ◌/◌, ◌^◌, ◌<◌, true, IfOk, IfSome};
 ghost use Rattle.dom_set.specs.Elements.{is_in};
-ghost use Rattle.row_parts.specs.Internal.Classes.{has_index};
+ghost use Rattle.row_parts.specs.Classes.{has_index};
 
 use crate::row::is_empty;
 use dom_set::{OutOfMemory, Set, set_laws};

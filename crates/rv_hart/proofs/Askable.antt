@@ -43,7 +43,7 @@ use Rattle.rv_hart.specs.Effects.{IsAccess}
 use Rattle.rv_hart.specs.Fixed.{Fixed}
 use Rattle.rv_hart.specs.Machine.{arriving, at_address, data_view, effect, fetch_view, fetched_at, instruction, jumped, load_at, load_from, reached, script, size_of, store_at, store_to, upper_row, upper_pc_row, jump_row, fence_row}
 use Rattle.rv_hart.specs.Privileged.{address_fence_row, csr_accessed, csr_exchanged, csr_granted, csr_immediate_row, is_withheld, lazy_address, mret_row, old_value, sret_row, trap, write_csr}
-use Rattle.rv_hart.specs.Internal.Rests.{after_access, ask_if, asks_rs1, csr_access, in_parts, rest}
+use Rattle.rv_hart.specs.Rests.{after_access, ask_if, asks_rs1, csr_access, in_parts, rest}
 use Rattle.rv_hart.specs.Whole.{sight_of}
 use Rattle.rv_hart.proofs.Forms.{effect_in_parts}
 

@@ -20,7 +20,7 @@ use Rattle.rv_hart.specs.declared.record.Change.{Change}
 use Rattle.rv_hart.specs.Asked.{AsksRegisters, IsInFile}
 use Rattle.rv_hart.specs.Fixed.{Fixed}
 use Rattle.rv_hart.specs.Machine.{arriving, at_address, fetch_view, fetched_at, instruction, script}
-use Rattle.rv_hart.specs.Internal.Rests.{ask_if, asks_rs1, in_parts, rest}
+use Rattle.rv_hart.specs.Rests.{ask_if, asks_rs1, in_parts, rest}
 use Rattle.rv_hart.proofs.Forms.{effect_in_parts, rest_between, trap_between}
 
 late_question : (q : Question) → is_apt q ≡ true → 5 ≤ question_number q → IsInFile q

@@ -20,7 +20,7 @@ use Rattle.rv_hart.specs.declared.record.Control.TheVariants.{Mret, Sret}
 use Rattle.rv_hart.specs.Fixed.{Fixed}
 use Rattle.rv_hart.specs.Machine.{arriving, at_address, data_view, fence_row, jump_row, jumped, load_at, load_from, reached, store_at, store_to, upper_pc_row, upper_row}
 use Rattle.rv_hart.specs.Privileged.{address_fence_row, is_withheld, lazy_address, went, csr_accessed, csr_exchanged, csr_granted, csr_immediate_row, mret_row, old_value, refused, retired, sret_row, trap, write_csr}
-use Rattle.rv_hart.specs.Internal.Rests.{after_access, csr_access, rest}
+use Rattle.rv_hart.specs.Rests.{after_access, csr_access, rest}
 use Rattle.rv_script.proofs.Results.{Ends, ends_then}
 
 -- the change has this word
@@ -103,7 +103,7 @@ rest_has (R opcode funct3 funct7) f word i a b = refl
 rest_has (Shift opcode funct3 funct7) f word i a b = refl
 rest_has (I opcode funct3) f word i a b = if_has word (eqb opcode 0x13) _ _ refl (if_has word (eqb opcode 0x03) _ _ (load_has f word i _) (jumped_has f word _ _))
 rest_has (S opcode funct3) f word i a b = store_has f word i _ b
-rest_has (B opcode funct3) f word i a b = if_has word (Rattle.rv_hart.specs.Machine.is_taken i.op a b) _ _ (jumped_has f word None _) refl
+rest_has (B opcode funct3) f word i a b = if_has word (Rattle.rv_isa.specs.Arithmetic.is_taken i.op a b) _ _ (jumped_has f word None _) refl
 rest_has (CsrRow opcode funct3) f word i a b = access_has f word i (csr_access f i) a
 rest_has (U opcode) f word i a b = if_has word (eqb opcode 0x37) _ _ refl (if_has word (eqb opcode 0x17) _ Outside refl tt)
 rest_has (J opcode) f word i a b = if_has word (eqb opcode 0x6f) _ Outside (jumped_has f word _ _) tt

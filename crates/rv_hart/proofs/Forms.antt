@@ -23,7 +23,7 @@ use Rattle.sv_walk.specs.declared.entry.Kind.TheVariants.{Fetch as ForFetch, Loa
 use Rattle.sv_walk.specs.declared.entry.View.{View}
 use Rattle.sv_walk.specs.Translation.{Reached, At, Fails, translated, root_label, second_label}
 use Rattle.rv_script.specs.Labels.{label_number, Between}
-use Rattle.rv_hart.specs.Internal.Rests.{ask_if, is_granted, csr_access, asks_rs1, after_access, rest, in_parts}
+use Rattle.rv_hart.specs.Rests.{ask_if, is_granted, csr_access, asks_rs1, after_access, rest, in_parts}
 use Rattle.rv_script.proofs.Plays.{lower, between_then}
 use Rattle.sv_walk.proofs.Orders.{if_between, translated_between}
 

@@ -1,5 +1,4 @@
 pub mod Shifts
-pub mod Branches
 pub mod Prefixes
 pub mod Steps
 pub mod Stores

@@ -1,10 +1,8 @@
 -- What a step on known places says of whole harts and memories. The words that end in With are of a step that sees sights, and a place whose
 -- word has one counts as known; the same words without With are of the step without sights.
-use Rattle.std.specs.Prelude.{◌≡◌, ◌↔◌, ℕ, ◌%◌, ◌^◌, ◌<◌, ◌≤◌, Bool, true, false, ◌&&◌, ◌||◌, nat_lt, All, IsTrue, IsSome, List, length, Option, Some, None}
+use Rattle.std.specs.Prelude.{◌≡◌, ℕ, ◌%◌, ◌^◌, ◌<◌, ◌≤◌, Bool, true, false, ◌&&◌, ◌||◌, nat_lt, All, IsSome, List, length, Option, Some, None}
 use Rattle.std.specs.List.{AllByRecursion}
 use Rattle.std.specs.Option.{option_or, unwrap_or, is_some}
-use Rattle.rv_isa.specs.declared.operation.Op.{Op}
-use Rattle.rv_isa.specs.Arithmetic.{IsTaken}
 use Rattle.rv_csr.specs.declared.privilege.Priv.{Priv}
 use Rattle.rv_csr.specs.Causes.{is_cause}
 use Rattle.rv_csr.specs.State.{CsrValues}
@@ -30,7 +28,7 @@ use Rattle.rv_hart.specs.Changes.{IsSoundChange, IsSoundWrite}
 use Rattle.rv_hart.specs.Asked.{is_lazy}
 use Rattle.rv_hart.specs.Effects.{IsAccess, IsInWord}
 use Rattle.rv_hart.specs.Fixed.{Fixed}
-use Rattle.rv_hart.specs.Machine.{script, is_taken}
+use Rattle.rv_hart.specs.Machine.{script}
 use Rattle.rv_hart.specs.Sighted.{no_sights, sighted, told_with, seen_with, step_seen_of}
 use Rattle.rv_hart.specs.Whole.{WholeHart, value_at, sight_of, Step, step_by, step_of, needed_places, hart_after}
 
@@ -178,10 +176,6 @@ pub record Takes (f : Fixed) (known : Known) (h : WholeHart) (words : ℕ → �
 abbrev pub ToldAreTaken : Type 0
 ToldAreTaken = (f : Fixed) (known : Known) (h : WholeHart) (words : ℕ → ℕ) (accesses : List Access) (c : Change) → Has f known h words
     → answer_on known (script f) ≡ DoesSo accesses c → Takes f known h words accesses c
-
--- a branch is taken where its condition holds (Unprivileged, 2.5.2)
-abbrev pub TakenAreTaken : Type 0
-TakenAreTaken = (op : Op) (x y : ℕ) → IsTrue (is_taken op x y) ↔ IsTaken op x y
 
 -- sights that show what memory holds change nothing
 abbrev pub TrueSightsShowTheStep : Type 0

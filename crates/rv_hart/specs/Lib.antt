@@ -12,4 +12,5 @@ pub mod Asked
 pub mod Local
 pub mod Operations
 pub mod CsrRows
+pub mod Rests
 pub mod Internal

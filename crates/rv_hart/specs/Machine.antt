@@ -1,11 +1,11 @@
 -- The machine: what one instruction asks and does.
-use Rattle.std.specs.Prelude.{ℕ, ◌+◌, ◌-◌, ◌%◌, ◌^◌, Bool, false, not, nat_eq, nat_le, nat_lt, int_lt, if◌then◌else◌, Option, Some, None}
+use Rattle.std.specs.Prelude.{ℕ, ◌+◌, ◌-◌, ◌%◌, ◌^◌, nat_eq, if◌then◌else◌, Option, Some, None}
 use Rattle.rv_isa.specs.declared.instruction.Instr.{Instr}
 use Rattle.rv_isa.specs.declared.operation.Op.{Op}
-use Rattle.rv_isa.specs.declared.operation.Op.TheVariants.{Beq, Bne, Blt, Bge, Bltu, Bgeu, Lb, Lh, Lbu, Lhu, Sb, Sh}
+use Rattle.rv_isa.specs.declared.operation.Op.TheVariants.{Lb, Lh, Lbu, Lhu, Sb, Sh}
 use Rattle.rv_isa.specs.declared.table.Row.{Row}
 use Rattle.rv_isa.specs.declared.table.Row.TheVariants.{R, I, Shift, S, B, U, J, Csr, CsrImmediate, FenceSets, AddressFence, Fixed as Whole, DefinedIllegal}
-use Rattle.rv_isa.specs.Arithmetic.{alu_result, signed}
+use Rattle.rv_isa.specs.Arithmetic.{alu_result, is_taken}
 use Rattle.rv_isa.specs.Encoding.{sign_extended}
 use Rattle.rv_isa.specs.Reading.{decoded}
 use Rattle.rv_isa.specs.Table.{row_of}
@@ -68,16 +68,6 @@ unfoldable pub jump_register_row : Fixed → ℕ → Instr → Script Change
 jump_register_row f word i = do
   a ← register FromRs1 i.rs1
   jumped f word (rd_told i.rd (following f.pc)) (even ((a + i.imm) % 2 ^ 32))
-
--- whether a branch goes to its target
-abbrev pub is_taken : Op → ℕ → ℕ → Bool
-is_taken Beq x y = nat_eq x y
-is_taken Bne x y = not (nat_eq x y)
-is_taken Blt x y = int_lt (signed x) (signed y)
-is_taken Bge x y = not (int_lt (signed x) (signed y))
-is_taken Bltu x y = nat_lt x y
-is_taken Bgeu x y = nat_le y x
-is_taken _ x y = false
 
 -- a branch (Unprivileged, 2.5.2)
 unfoldable pub branch_row : Fixed → ℕ → Instr → Script Change

@@ -1,15 +1,9 @@
 // Laws of the machine.
 ghost use Rattle.rv_hart.specs.CsrRows.{CsrRowsAgree};
 ghost use Rattle.rv_hart.specs.Asked.{AsksInOrder, AsksPlaces, AsksRegisters, NeedsPlaces};
-ghost use Rattle.rv_hart.specs.Clauses.{IsSightless, TakenAreTaken, ToldAreTaken, TrueSightsShowTheStep};
+ghost use Rattle.rv_hart.specs.Clauses.{IsSightless, ToldAreTaken, TrueSightsShowTheStep};
 ghost use Rattle.rv_hart.specs.Local.{LocalByBytes};
 ghost use Rattle.rv_hart.specs.Operations.{RowsHaveEffects};
-
-/// Does nothing. Its contract says that the machine takes a branch exactly where the branch's condition holds.
-#[tactic(auto, using(crate::proofs::Branches::taken_are_taken))]
-pub fn branch_law()
-    ensures { TakenAreTaken }
-{}
 
 /// Does nothing. Its contract says that a step that is told on what is known is that of each whole hart and memory that have it,
 /// and needs no place that isn't known.

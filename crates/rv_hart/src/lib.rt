@@ -15,9 +15,10 @@ mod sights;
 mod stepping;
 mod storing;
 
+pub use data::size_of;
 pub use hart::Hart;
 pub use laws::{
-    branch_law, csr_law, local_law, no_sights_law, question_law, row_law, step_law, true_sights_law,
+    csr_law, local_law, no_sights_law, question_law, row_law, step_law, true_sights_law,
 };
 pub use record::{Change, Control, Outcome, Record, Stepped};
 pub use rv_csr::{Csrs, Priv};

@@ -6,7 +6,7 @@ ghost use Rattle.rv_isa.specs.Reading.{decoded};
 ghost use Rattle.rv_isa.specs.Table.{row_of};
 ghost use Rattle.rv_isa.specs.Encoding.{IsInRange};
 ghost use Rattle.rv_mem.specs.Seen.{is_there};
-ghost use Rattle.rv_hart.specs.Machine.{instruction, immediate_row, register_row, upper_row, upper_pc_row, jump_row, jump_register_row, branch_row, load_row, load_from, store_row, store_to, fence_row, is_taken, jumped, size_of, load_at, store_at, effect};
+ghost use Rattle.rv_hart.specs.Machine.{instruction, immediate_row, register_row, upper_row, upper_pc_row, jump_row, jump_register_row, branch_row, load_row, load_from, store_row, store_to, fence_row, jumped, size_of, load_at, store_at, effect};
 ghost use Rattle.rv_hart.specs.Changes.{IsSoundWrite};
 ghost use Rattle.rv_hart.specs.Sighted.{answer_seen, sighted};
 ghost use Rattle.rv_hart.specs.View.{known, fixed_of, looked};
@@ -96,15 +96,6 @@ fn jump_register<M: Sighted>(h: &Hart, m: &M, word: u32, i: &Instr, log: &Access
     }
 }
 
-/// Whether a branch goes to its target.
-#[tactic(auto, using(crate::proofs::Branches::decided))]
-fn decide(op: Op, a: u32, b: u32) -> bool
-    requires { IsTrue (is_branch op) }
-    ensures { result ≡ is_taken op a b }
-{
-    taken(op, a, b)
-}
-
 /// A branch.
 #[tactic(auto, using(crate::proofs::Prefixes::prefixed_none), unfolding(crate::specs::Machine::branch_row))]
 fn branch<M: Sighted>(h: &Hart, m: &M, word: u32, i: &Instr, log: &Accesses) -> Looked
@@ -119,7 +110,7 @@ fn branch<M: Sighted>(h: &Hart, m: &M, word: u32, i: &Instr, log: &Accesses) -> 
     let Some(b) = h.register(i.rs2) else {
         return Looked::Missing(Place::Reg(i.rs2));
     };
-    if decide(i.op, a, b) {
+    if taken(i.op, a, b) {
         jump(h, m, word, None, h.pc.wrapping_add(i.imm), log)
     } else {
         Looked::Does(retire(h.pc, word, None))

@@ -1,5 +1,5 @@
 -- What instructions compute of the values of registers. A word is a number below 2 ^ 32.
-use Rattle.std.specs.Prelude.{◌≡◌, ◌≢◌, ℕ, ◌+◌, ◌-◌, ◌*◌, ◌/◌, ◌%◌, ◌^◌, ◌<◌, ◌≤◌, ℤ, pos, ◌*ℤ◌, ◌<ℤ◌, ◌≤ℤ◌, Bool, false, ◌==◌, if◌then◌else◌, nat_lt, int_lt, int_div, int_rem, bit_and, bit_or, bit_xor}
+use Rattle.std.specs.Prelude.{ℕ, ◌+◌, ◌-◌, ◌*◌, ◌/◌, ◌%◌, ◌^◌, ℤ, pos, ◌*ℤ◌, Bool, false, not, ◌==◌, if◌then◌else◌, nat_eq, nat_le, nat_lt, int_lt, int_div, int_rem, bit_and, bit_or, bit_xor}
 use Rattle.std.specs.Int.{w32, w64, cast_signed, cast_unsigned, int_shr}
 use Rattle.rv_isa.specs.declared.operation.Op.{Op}
 use Rattle.rv_isa.specs.declared.operation.Op.TheVariants.{Beq, Bne, Blt, Bge, Bltu, Bgeu, Addi, Slti, Sltiu, Xori, Ori, Andi, Slli, Srli, Srai, Add, Sub, Sll, Slt, Sltu, Xor, Srl, Sra, Or, And, Mul, Mulh, Mulhsu, Mulhu, Div, Divu, Rem, Remu}
@@ -97,12 +97,12 @@ alu_result Rem x y = if y == 0 then x else word (int_rem (signed x) (signed y))
 alu_result Remu x y = if y == 0 then x else x % y
 alu_result _ x y = 0
 
--- when a branch goes to its target (Unprivileged, 2.5.2)
-abbrev pub IsTaken : Op → ℕ → ℕ → Type 0
-IsTaken Beq x y = x ≡ y
-IsTaken Bne x y = x ≢ y
-IsTaken Blt x y = signed x <ℤ signed y
-IsTaken Bge x y = signed y ≤ℤ signed x
-IsTaken Bltu x y = x < y
-IsTaken Bgeu x y = y ≤ x
-IsTaken _ x y = ⊥
+-- whether a branch goes to its target, by the values of rs1 and rs2 (Unprivileged, 2.5.2)
+abbrev pub is_taken : Op → ℕ → ℕ → Bool
+is_taken Beq x y = nat_eq x y
+is_taken Bne x y = not (nat_eq x y)
+is_taken Blt x y = int_lt (signed x) (signed y)
+is_taken Bge x y = not (int_lt (signed x) (signed y))
+is_taken Bltu x y = nat_lt x y
+is_taken Bgeu x y = nat_le y x
+is_taken _ x y = false

@@ -1,5 +1,5 @@
 -- Which fields a row's format has, and which registers its operations read.
-use Rattle.std.specs.Prelude.{Bool, true, false, ◌==◌}
+use Rattle.std.specs.Prelude.{Bool, true, false, ◌||◌, ◌==◌}
 use Rattle.rv_isa.specs.declared.table.Row.{Row}
 use Rattle.rv_isa.specs.declared.table.Row.TheVariants.{R, I, Shift, S, B, U, J, Csr, CsrImmediate, AddressFence, Fixed, FenceSets, DefinedIllegal}
 
@@ -139,6 +139,10 @@ is_store (FenceSets opcode funct3) = false
 is_store (AddressFence opcode funct3 funct7) = false
 is_store (Fixed word) = false
 is_store DefinedIllegal = false
+
+-- the opcodes LOAD and STORE: the operation accesses data at a virtual address (Unprivileged, 2.6)
+abbrev pub has_address : Row → Bool
+has_address row = is_load row || is_store row
 
 -- the opcode JAL (Unprivileged, 2.5.1)
 abbrev pub is_jump : Row → Bool

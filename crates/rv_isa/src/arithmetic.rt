@@ -1,7 +1,7 @@
 //! What instructions compute of the values of registers.
 
-ghost use Rattle.std.specs.Prelude.{◌≡◌, ◌↔◌, IsTrue};
-ghost use Rattle.rv_isa.specs.Arithmetic.{alu_result, is_alu, is_branch, IsTaken, signed};
+ghost use Rattle.std.specs.Prelude.{◌≡◌, IsTrue};
+ghost use Rattle.rv_isa.specs.Arithmetic.{alu_result, is_alu, is_branch, is_taken, signed};
 
 use crate::operation::Op;
 
@@ -85,7 +85,7 @@ fn remainder(x: u32, y: u32) -> u32
 /// that of rs2.
 pub fn taken(op: Op, x: u32, y: u32) -> bool
     requires { IsTrue (is_branch op) }
-    ensures { IsTrue result ↔ IsTaken op x y }
+    ensures { result ≡ is_taken op x y }
 {
     match op {
         Op::Beq => x == y,

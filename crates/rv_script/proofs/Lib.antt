@@ -4,3 +4,4 @@ pub mod Local
 pub mod Binds
 pub mod Plays
 pub mod Results
+pub mod Items

@@ -1,5 +1,5 @@
 -- Bytes of words: little-endian, four to an aligned word (Unprivileged, 1.4).
-use Rattle.std.specs.Prelude.{ℕ, ◌+◌, ◌-◌, ◌/◌, ◌%◌, ◌^◌, Bool, true, false, ◌&&◌, nat_eq, nat_le, nat_lt}
+use Rattle.std.specs.Prelude.{ℕ, zero, suc, ◌+◌, ◌-◌, ◌/◌, ◌%◌, ◌^◌, Bool, true, false, ◌&&◌, ◌||◌, nat_eq, nat_le, nat_lt}
 use Rattle.rv_script.specs.declared.access.Access.{Access}
 use Rattle.rv_script.specs.declared.access.Role.{Role}
 use Rattle.rv_script.specs.declared.access.Role.TheVariants.{Fetch, Walk, Load, Store}
@@ -26,3 +26,8 @@ is_look Fetch = true
 is_look Walk = true
 is_look Load = true
 is_look Store = false
+
+-- the test holds of one of so many bytes from an address on
+abbrev pub any_byte : ℕ → ℕ → (ℕ → Bool) → Bool
+any_byte zero addr test = false
+any_byte (suc n) addr test = test addr || any_byte n (addr + 1) test

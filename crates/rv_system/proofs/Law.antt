@@ -8,6 +8,7 @@ use Rattle.rv_script.specs.declared.place.Place.TheVariants.{Word}
 use Rattle.rv_script.specs.Lists.{HasItem}
 use Rattle.rv_script.specs.Bytes.{word_address}
 use Rattle.rv_script.specs.Memory.{memory_after}
+use Rattle.rv_script.proofs.Items.{has_either}
 use Rattle.rv_hart.specs.declared.record.Record.{Record}
 use Rattle.rv_hart.specs.Whole.{WholeHart, sight_of, Step, step_of, hart_after}
 use Rattle.tpl_admit.specs.declared.certificate.Cert.{Cert}
@@ -20,7 +21,7 @@ use Rattle.tpl_admit.specs.Validity.{in_turn, IsHartValid, IsSound}
 use Rattle.tpl_ast.specs.declared.template.Region.{Region}
 use Rattle.rv_system.specs.Faithfulness.{IsFinished, IsFaithful}
 use Rattle.rv_hart.proofs.Entries.{step_word}
-use Rattle.tpl_admit.proofs.Memory.{HoldsWords, has_cases, in_turn_none, in_turn_agree, in_turn_at, in_turn_apart}
+use Rattle.tpl_admit.proofs.Memory.{HoldsWords, in_turn_none, in_turn_agree, in_turn_at, in_turn_apart}
 use Rattle.rv_system.proofs.Orders.{End, Ends, Goes, Alone, Setting, Good, Keeps, Whole, whole_run}
 
 -- what a hart does alone, as a chain
@@ -56,7 +57,7 @@ goes_given words end [] knows h m g x i = absurd i
 goes_given words end (r ∷ rs) knows h m g x i =
     let ih = goes_given words end rs (knows_also g.0.writes knows) (hart_after g.0 h) (memory_after g.0.did.accesses m) g.4 x in
     let word : x.addr / 4 ≡ word_address x.addr / 4 = omega arith in
-    elim (has_cases r.accesses (footprint_of rs) x i) [
+    elim (has_either r.accesses (footprint_of rs) x i) [
       | inl here ↦ rw word (g.3 (Word (word_address x.addr)) (step_word h.fixed (sight_of h.file m) g.0 g.1 x (subst (λ (q : Record). HasItem q.accesses x) (sym g.2) here)))
       | inr later ↦ ih later
     ]

@@ -11,6 +11,7 @@ use Rattle.rv_script.specs.Folds.{Entry, Sight, asked_of, result_of, accesses_of
 use Rattle.rv_script.specs.Laws.{IsSeenAlike}
 use Rattle.rv_script.specs.Memory.{memory_after}
 use Rattle.rv_script.proofs.Local.{seen_value}
+use Rattle.rv_script.proofs.Items.{has_first, has_second}
 use Rattle.rv_hart.specs.declared.record.Record.{Record}
 use Rattle.rv_hart.specs.Fixed.{Fixed}
 use Rattle.rv_hart.specs.Machine.{script}
@@ -23,7 +24,7 @@ use Rattle.tpl_admit.specs.Solo.{AreSet, is_set, knows_also}
 use Rattle.tpl_admit.specs.Validity.{in_turn}
 use Rattle.tpl_admit.proofs.Systems.{at_same, at_other}
 use Rattle.rv_hart.proofs.Entries.{step_local, planned_accesses, entry_access, entry_place}
-use Rattle.tpl_admit.proofs.Memory.{byte_of, Fits, HoldsWords, has_left, has_right, memory_after_at, memory_after_words, memory_after_append, in_turn_one, in_turn_more, file_after_same, file_after_other}
+use Rattle.tpl_admit.proofs.Memory.{byte_of, Fits, HoldsWords, memory_after_at, memory_after_words, memory_after_append, in_turn_one, in_turn_more, file_after_same, file_after_other}
 
 -- where a hart ends
 pub record End : Type 0 where
@@ -175,13 +176,13 @@ within w s alone k r rs i e = elim (cases_lt k w.count) [ inl l ↦ l | inr g �
 
 -- what a hart did, and what it does next, is in its trace
 pub in_past : (w : Setting) (s : System) (alone : ℕ → Alone) → Keeps w s alone → (j : ℕ) → j < w.count → (x : Access) → HasItem (alone j).did x → HasItem (footprint_of (w.traces j)) x
-in_past w s alone i j l x h = subst (λ (xs : List Access). HasItem xs x) (i.each j l).whole (has_left (alone j).did (footprint_of (alone j).left) x h)
+in_past w s alone i j l x h = subst (λ (xs : List Access). HasItem xs x) (i.each j l).whole (has_first (alone j).did (footprint_of (alone j).left) x h)
 
 pub in_next : (w : Setting) (s : System) (alone : ℕ → Alone) → Keeps w s alone → (k : ℕ) → k < w.count → (r : Record) (rs : List Record) → (alone k).left ≡ r ∷ rs
     → (x : Access) → HasItem r.accesses x → HasItem (footprint_of (w.traces k)) x
 in_next w s alone i k l r rs e x h =
     subst (λ (xs : List Access). HasItem xs x) (sym (ap (λ (left : List Record). (alone k).did ++ footprint_of left) e) ∙ (i.each k l).whole)
-    (has_right (alone k).did (footprint_of (r ∷ rs)) x (has_left r.accesses (footprint_of rs) x h))
+    (has_second (alone k).did (footprint_of (r ∷ rs)) x (has_first r.accesses (footprint_of rs) x h))
 
 -- accesses of two harts fit
 fit : (traces : ℕ → List Record) → IsRaceFree (footprints_of traces) → (j k : ℕ) → j ≢ k → (x y : Access) → HasItem (footprint_of (traces j)) x → HasItem (footprint_of (traces k)) y → Fits x y

@@ -23,7 +23,7 @@ use Rattle.tpl_ast.specs.States.{is_in_ram}
 use Rattle.tpl_admit.specs.declared.certificate.Cert.{Cert}
 use Rattle.tpl_admit.specs.Starts.{first_system, start_of}
 use Rattle.tpl_admit.specs.WellFormed.{IsWellFormed}
-use Rattle.given_start.specs.Internal.Knowledge.{fixed_now}
+use Rattle.given_start.specs.Knowledge.{fixed_now}
 use Rattle.given_start.specs.Internal.Regions.{AreAligned}
 use Rattle.given_start.proofs.Aligned.{frames_aligned}
 use Rattle.given_start.proofs.Knowledge.{known_small, known_csr}

@@ -32,7 +32,7 @@ use Rattle.rv_hart.specs.View.{known, fixed_of}
 use Rattle.rv_hart.specs.Whole.{WholeHart, Step, hart_after, value_at}
 use Rattle.tpl_ast.specs.States.{is_key}
 use Rattle.tpl_admit.specs.System.{System}
-use Rattle.given_start.specs.Internal.Knowledge.{known_of, knows_of}
+use Rattle.given_start.specs.Knowledge.{known_of, knows_of}
 use Rattle.given_start.proofs.Knowledge.{known_small, known_csr}
 use Rattle.given_start.proofs.Lazy.{lazy_of}
 use Rattle.rv_system.specs.Runs.{moved_by, next_of, record_in}

@@ -7,7 +7,7 @@ use Rattle.rv_hart.specs.Clauses.{Has}
 use Rattle.rv_hart.specs.View.{known, fixed_of}
 use Rattle.tpl_ast.specs.States.{is_key}
 use Rattle.tpl_admit.specs.System.{System}
-use Rattle.given_start.specs.Internal.Knowledge.{knows_of}
+use Rattle.given_start.specs.Knowledge.{knows_of}
 
 -- each register and lazy CSR of each hart has a value
 abbrev pub AreAllKnown : List Hart → Type 0

@@ -4,7 +4,7 @@ ghost use Rattle.std.specs.List.{list_all, list_any};
 ghost use Rattle.std.specs.Option.{unwrap_or};
 ghost use Rattle.tpl_ast.specs.declared.template.Region.{Region as ARegion};
 ghost use Rattle.tpl_ast.specs.States.{is_key, is_legal_place, IsState};
-ghost use Rattle.given_start.specs.Internal.Knowledge.{known_of, fixed_now};
+ghost use Rattle.given_start.specs.Knowledge.{known_of, fixed_now};
 ghost use Rattle.rv_system.specs.Internal.Starting.{IsFilledHart};
 
 use given_start::hart_in;

@@ -6,7 +6,7 @@ use Rattle.std.proofs.lemmas.Nat.{and_le_l, and_le_r}
 use Rattle.std.specs.Int.Bits.{and_step}
 use mir.Val.{bool_byte}
 use Rattle.set_pieces.specs.declared.pattern.Pattern.{Pattern}
-use Rattle.set_pieces.specs.Internal.Counting.{one, total}
+use Rattle.set_pieces.specs.Counting.{one, total}
 use Rattle.set_pieces.specs.Internal.Patterns.{matches}
 use Rattle.set_pieces.proofs.Totals.{total_none, total_next, total_same, total_add, total_most}
 

@@ -7,7 +7,7 @@ use Rattle.std.proofs.lemmas.Nat.Bits.{and_pow, shr_and_one, bit_at_and, bit_at_
 use Rattle.std.proofs.Math.Pow.{pow_mono}
 use Rattle.std.specs.Int.{bit_at, w32, trailing_ones}
 use Rattle.std.specs.Int.Bits.{bit_xor, and_self, and_zero_l, and_zero_r, or_zero_r, xor_zero_r}
-use Rattle.set_pieces.specs.Internal.Counting.{one}
+use Rattle.set_pieces.specs.Counting.{one}
 
 abbrev at : ℕ → ℕ → ℕ
 at i n = bit_at n i

@@ -4,7 +4,7 @@ use Rattle.std.specs.Int.Bits.{bit_and, and_self}
 use Rattle.std.proofs.lemmas.Bool.{cases_lt, eqb-true, eq-eqb, leb-true, le-leb, lt-leb, lt-ltb, ltb-true, and_parts, and_from, false_from_ne_true, false≢true}
 use Rattle.std.proofs.lemmas.Bool.Decides.{nat_tests}
 use Rattle.std.proofs.lemmas.Nat.{and_assoc, and_mask}
-use Rattle.set_pieces.specs.Internal.Counting.{one, total}
+use Rattle.set_pieces.specs.Counting.{one, total}
 use Rattle.set_pieces.specs.declared.pattern.Pattern.{Pattern}
 use Rattle.set_pieces.specs.Internal.Patterns.{matches_below}
 use Rattle.set_pieces.proofs.Low.{same_tests, mod_down}

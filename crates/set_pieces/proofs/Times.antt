@@ -4,7 +4,7 @@ use Rattle.std.proofs.lemmas.Bool.{cases_lt, lt-ltb, false_from_ne_true}
 use Rattle.std.proofs.lemmas.List.{drop_more, drop_all, take-append-drop}
 use Rattle.std.proofs.lemmas.List.Folds.{list_any-append}
 use Rattle.set_pieces.specs.declared.piece.Piece.{Piece}
-use Rattle.set_pieces.specs.Internal.Counting.{one, total}
+use Rattle.set_pieces.specs.Counting.{one, total}
 use Rattle.set_pieces.specs.Internal.Pieces.{in_piece, holds, times, IsApart}
 use Rattle.set_pieces.proofs.Without.{in_ends}
 use Rattle.set_pieces.proofs.Totals.{total_same, total_add, total_zero, total_most}

@@ -1,7 +1,7 @@
 -- Sums over the numbers below one.
 use Rattle.std.proofs.Common.{◌≡◌, ℕ, zero, suc, ◌+◌, ◌<◌, ◌≤◌, inl, inr, refl, arith}
 use Rattle.std.proofs.lemmas.Bool.{cases_lt, cases_eq}
-use Rattle.set_pieces.specs.Internal.Counting.{total}
+use Rattle.set_pieces.specs.Counting.{total}
 
 pub total_none : (f : ℕ → ℕ) → total f 0 ≡ 0
 unfolding total

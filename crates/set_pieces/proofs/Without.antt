@@ -6,7 +6,7 @@ use Rattle.set_pieces.specs.declared.pattern.Pattern.{Pattern}
 use Rattle.set_pieces.specs.declared.piece.Piece.{Piece}
 use Rattle.set_pieces.specs.declared.run.Run.{Run}
 use Rattle.set_pieces.specs.Internal.Patterns.{matches, is_matched}
-use Rattle.set_pieces.specs.Internal.Counting.{one, total}
+use Rattle.set_pieces.specs.Counting.{one, total}
 use Rattle.set_pieces.specs.Internal.Runs.{in_run, is_in_run}
 use Rattle.set_pieces.specs.Internal.Pieces.{in_piece, is_held}
 use Rattle.set_pieces.proofs.Pieces.{passes, and_all}

@@ -1,5 +1,4 @@
 -- What only contracts between parts of the code, and proofs, speak of.
-pub mod Counting
 pub mod Patterns
 pub mod Runs
 pub mod Pieces

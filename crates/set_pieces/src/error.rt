@@ -1,8 +1,8 @@
-// What calls that make a set fail with.
+// What calls that take memory fail with.
 use std::alloc::{AllocError, AllocFailed};
 use thiserror::Error;
 
-/// There is no memory for the set that was asked for.
+/// There is no memory for what was asked for.
 #[derive(Clone, Copy, Debug, PartialEq, Eq, Error)]
 #[error("out of memory")]
 pub struct OutOfMemory;

@@ -1,6 +1,6 @@
 // Pieces of the words of which the bits under a mask are a number of a piece.
 ghost use Rattle.std.specs.Prelude.{◌≡◌, ℕ, ◌+◌, ◌%◌, ◌^◌, ◌<◌, ◌≤◌, ◌&&◌, false, not, nat_lt, nat_le, bit_and, IfSome, MatchOption, OnOk};
-ghost use Rattle.set_pieces.specs.Internal.Counting.{one};
+ghost use Rattle.set_pieces.specs.Counting.{one};
 ghost use Rattle.set_pieces.specs.Internal.Patterns.{is_matched, matches};
 ghost use Rattle.set_pieces.specs.Internal.Runs.{in_run, is_in_run};
 ghost use Rattle.set_pieces.specs.Internal.Pieces.{in_piece, times};

@@ -1,6 +1,6 @@
 // Pieces moved by a distance, modulo 2^32.
 ghost use Rattle.std.specs.Prelude.{◌≡◌, ℕ, ◌+◌, ◌-◌, ◌%◌, ◌^◌, ◌<◌, ◌&&◌, not, OnOk};
-ghost use Rattle.set_pieces.specs.Internal.Counting.{one};
+ghost use Rattle.set_pieces.specs.Counting.{one};
 ghost use Rattle.set_pieces.specs.Internal.Patterns.{matches};
 ghost use Rattle.set_pieces.specs.Internal.Runs.{in_run, is_in_run};
 ghost use Rattle.set_pieces.specs.Internal.Pieces.{in_piece, times};

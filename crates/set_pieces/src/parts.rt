@@ -1,6 +1,6 @@
 // What two pieces have in common, and what one leaves of another.
 ghost use Rattle.std.specs.Prelude.{◌≡◌, ℕ, ◌+◌, ◌^◌, ◌&&◌, not, OnOk};
-ghost use Rattle.set_pieces.specs.Internal.Counting.{one, total};
+ghost use Rattle.set_pieces.specs.Counting.{one, total};
 ghost use Rattle.set_pieces.specs.Internal.Patterns.{is_matched, matches};
 ghost use Rattle.set_pieces.specs.Internal.Runs.{in_run, is_in_run};
 ghost use Rattle.set_pieces.specs.Internal.Pieces.{in_piece, is_held, times};

@@ -13,7 +13,7 @@ pub struct Pattern {
 
 impl Pattern {
     ghost use Rattle.std.specs.Prelude.{◌≡◌, ℕ, ◌+◌, ◌-◌, ◌*◌, ◌/◌, ◌%◌, ◌^◌, ◌<◌, ◌≤◌, ◌↔◌, ◌&&◌, true, false, not, bit_and, IfSome, IsNone, IsTrue};
-    ghost use Rattle.set_pieces.specs.Internal.Counting.{one, total};
+    ghost use Rattle.set_pieces.specs.Counting.{one, total};
     ghost use Rattle.set_pieces.specs.Internal.Patterns.{is_matched, matches, matches_below, IsStep};
     ghost use Rattle.set_pieces.specs.Ends.{IsLastTo};
 
@@ -85,7 +85,7 @@ impl Pattern {
         }
     }
 
-    /// The first number from the given one up that matches.
+    /// The first number from the given one up that matches; it may be 2^32 or more.
     pub fn next_from(self, from: u64) -> u64
         requires { from ≤ 2 ^ 32 }
         ensures matching { matches self result ≡ true }

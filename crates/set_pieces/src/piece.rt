@@ -1,6 +1,6 @@
 // Runs but for the numbers that a second pattern matches.
 ghost use Rattle.std.specs.Prelude.{◌≡◌, ℕ, ◌-◌, ◌+◌, ◌%◌, ◌^◌, ◌<◌, ◌≤◌, ◌&&◌, ◌||◌, true, false, not, nat_lt, nat_le, bit_and, IfSome, IsNone};
-ghost use Rattle.set_pieces.specs.Internal.Counting.{one, total};
+ghost use Rattle.set_pieces.specs.Counting.{one, total};
 ghost use Rattle.set_pieces.specs.Internal.Patterns.{is_matched, matches, matches_below, IsStep};
 ghost use Rattle.set_pieces.specs.Ends.{HasPage, IsFirstFrom, IsLast, AreEnds};
 ghost use Rattle.set_pieces.specs.Internal.Runs.{in_run, is_in_run};
@@ -76,7 +76,7 @@ impl Piece {
         }
     }
 
-    /// The numbers of the run that the hole doesn't match, if there are any.
+    /// The numbers of the run that the hole doesn't match. None only where there is none.
     pub fn of(run: Run, hole: Option<Pattern>) -> Option<Piece>
         ensures { (x : ℕ) → is_held result x ≡ (in_run run x && not (is_matched hole x)) }
     {

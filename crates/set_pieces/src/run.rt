@@ -16,7 +16,7 @@ pub struct Run {
 
 impl Run {
     ghost use Rattle.std.specs.Prelude.{◌≡◌, ℕ, ◌+◌, ◌-◌, ◌%◌, ◌^◌, ◌<◌, ◌≤◌, ◌&&◌, ◌==◌, true, false, not, nat_lt, nat_le, bit_and, IfSome, IsNone};
-    ghost use Rattle.set_pieces.specs.Internal.Counting.{one, total};
+    ghost use Rattle.set_pieces.specs.Counting.{one, total};
     ghost use Rattle.set_pieces.specs.Internal.Patterns.{matches, matches_below, IsStep};
     ghost use Rattle.set_pieces.specs.Internal.Runs.{in_span, in_run, is_in_run, HoldsSome};
     ghost use Rattle.set_pieces.specs.Ends.{HasPage, IsFirstFrom, IsLast, AreEnds};

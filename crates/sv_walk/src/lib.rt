@@ -12,4 +12,4 @@ pub use entries::Entries;
 pub use entry::{
     EntryFlag, Kind, View, is_closed, is_invalid, is_pointer, is_reserved, is_unaligned,
 };
-pub use walking::walk;
+pub use walking::{is_translated, walk};

@@ -119,7 +119,7 @@ fn walk_root<M: Words>(
 }
 
 /// Whether translation holds.
-fn is_translated(v: View) -> bool
+pub fn is_translated(v: View) -> bool
     ensures { result ≡ is_translated v }
 {
     !matches!(v.privilege, Priv::M) && v.satp >= 0x8000_0000

@@ -8,7 +8,7 @@ use Rattle.tpl_admit.specs.declared.admission.Unmet.{Unmet}
 use Rattle.tpl_admit.specs.declared.certificate.Cert.{Cert}
 use Rattle.tpl_admit.specs.Admission.{trace_in}
 use Rattle.tpl_admit.specs.Admitting.{failures_of}
-use Rattle.replay_check.specs.Failures.{AllAreRight, AllEndAsTold, HartGoesWrong, HartIsRight, IsFirstFailure}
+use Rattle.replay_check.specs.Failures.{AllAreRight, AllEndAsPrinted, HartGoesWrong, HartIsRight, IsFirstFailure}
 use Rattle.tpl_admit.specs.Validity.{EndsAsPrinted}
 use Rattle.tpl_admit.specs.Laws.{with_template}
 use Rattle.tpl_admit.specs.Solo.{solo_run, knows_after}
@@ -34,7 +34,7 @@ end_same c t ram k end = record {
 steps_same : (c : Cert) (t : Template) → c.template.ram ≡ t.ram → AllAreRight c → AllAreRight (with_template c t)
 steps_same c t ram all = λ k within. right_same c t ram k (all k within)
 
-ends_same : (c : Cert) (t : Template) → c.template.ram ≡ t.ram → AllEndAsTold c → AllEndAsTold (with_template c t)
+ends_same : (c : Cert) (t : Template) → c.template.ram ≡ t.ram → AllEndAsPrinted c → AllEndAsPrinted (with_template c t)
 ends_same c t ram all = λ k within. end_same c t ram k (all k within)
 
 pub failure_same : LinesTellExpansions → (c : Cert) (t : Template) → said_by c.template ≡ said_by t → (kind hart step : ℕ) → IsFirstFailure c kind hart step → IsFirstFailure (with_template c t) kind hart step

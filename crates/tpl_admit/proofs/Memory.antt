@@ -1,5 +1,5 @@
 -- What several harts do to one memory.
-use Rattle.std.proofs.Common.{◌≡◌, ◌≢◌, ℕ, zero, suc, ◌+◌, ◌-◌, ◌*◌, ◌/◌, ◌%◌, ◌^◌, ◌<◌, Bool, true, false, cond, eqb, List, [], ◌∷◌, ◌++◌, Option, Some, None, refl, sym, ap, ◌∙◌, subst, inl, inr, ◌⊎◌, ◌||◌, arith}
+use Rattle.std.proofs.Common.{◌≡◌, ◌≢◌, ℕ, zero, suc, ◌+◌, ◌-◌, ◌*◌, ◌/◌, ◌%◌, ◌^◌, ◌<◌, Bool, true, false, cond, eqb, List, [], ◌∷◌, ◌++◌, Option, Some, None, refl, sym, ap, ◌∙◌, subst, inl, inr, ◌||◌, arith}
 use Rattle.std.specs.Option.{is_some, unwrap_or}
 use Rattle.std.proofs.Math.Path.{fun_ext}
 use Rattle.std.proofs.lemmas.Bool.{cases_Bool, cases_eq, ne_eqb, false_from_ne_true}
@@ -27,19 +27,6 @@ AllFit xs ys = (x y : Access) → HasItem xs x → HasItem ys y → Fits x y
 -- each value is a word
 abbrev pub HoldsWords : (ℕ → ℕ) → Type 0
 HoldsWords words = (n : ℕ) → words n < 2 ^ 32
-
--- membership in a list made of two
-pub has_left : (xs ys : List Access) (x : Access) → HasItem xs x → HasItem (xs ++ ys) x
-has_left [] ys x h = absurd h
-has_left (y ∷ xs) ys x h = elim h [ inl e ↦ inl e | inr t ↦ inr (has_left xs ys x t) ]
-
-pub has_right : (xs ys : List Access) (x : Access) → HasItem ys x → HasItem (xs ++ ys) x
-has_right [] ys x h = h
-has_right (y ∷ xs) ys x h = inr (has_right xs ys x h)
-
-pub has_cases : (xs ys : List Access) (x : Access) → HasItem (xs ++ ys) x → HasItem xs x ⊎ HasItem ys x
-has_cases [] ys x h = inr h
-has_cases (y ∷ xs) ys x h = elim h [ inl e ↦ inl (inl e) | inr t ↦ elim (has_cases xs ys x t) [ inl a ↦ inl (inr a) | inr b ↦ inr b ] ]
 
 stored_byte_below : (x : Access) (n w i : ℕ) → stored_byte x n w i < 256
 stored_byte_below x n w i =

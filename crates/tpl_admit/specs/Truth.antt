@@ -3,10 +3,9 @@ use Rattle.std.specs.Prelude.{ℕ, ◌+◌, ◌-◌, ◌%◌, Bool, false, not, 
 use Rattle.std.specs.List.{list_any}
 use Rattle.dom_set.specs.Elements.{is_in}
 use Rattle.rv_isa.specs.declared.instruction.Instr.{Instr}
-use Rattle.rv_isa.specs.Arithmetic.{is_branch}
+use Rattle.rv_isa.specs.Arithmetic.{is_branch, is_taken}
 use Rattle.rv_script.specs.declared.access.Access.{Access}
 use Rattle.rv_hart.specs.declared.record.Record.{Record}
-use Rattle.rv_hart.specs.Machine.{is_taken}
 use Rattle.tpl_ast.specs.declared.template.Atom.{Atom}
 use Rattle.tpl_ast.specs.declared.template.Atom.TheVariants as atoms
 use Rattle.tpl_admit.specs.Variables.{Moment, data_address, first_register, instruction_in, is_data, second_register, value_of}

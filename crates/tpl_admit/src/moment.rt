@@ -1,9 +1,8 @@
 // The values of variables on a record, and which atoms are true of it.
-ghost use Rattle.std.specs.Prelude.{◌≡◌, ◌+◌, ◌<◌, IsTrue, None, length, slice_index_or};
+ghost use Rattle.std.specs.Prelude.{◌≡◌, ◌+◌, ◌<◌, None, length, slice_index_or};
 ghost use Rattle.std.specs.List.{list_any};
 ghost use Rattle.rv_isa.specs.Arithmetic.{is_branch};
 ghost use Rattle.rv_isa.specs.Fields.{reads_rs1, reads_rs2};
-ghost use Rattle.rv_hart.specs.Machine.{is_taken};
 ghost use Rattle.tpl_admit.specs.Internal.Moments.{moment};
 ghost use Rattle.tpl_admit.specs.Starts.{lookup};
 ghost use Rattle.tpl_admit.specs.Truth.{are_different, are_same, condition_on, holds, is_among, is_apart, is_shared, is_some_false, is_some_true, record_touches, touches, trace_touches};
@@ -131,15 +130,6 @@ fn is_some_false(value: Option<bool>) -> bool
     ensures { result ≡ is_some_false value }
 {
     !value.unwrap_or(true)
-}
-
-/// Whether a branch goes to its target.
-#[tactic(auto, using(rv_hart::proofs::Branches::decided))]
-fn decide(op: Op, a: u32, b: u32) -> bool
-    requires { IsTrue (is_branch op) }
-    ensures { result ≡ is_taken op a b }
-{
-    taken(op, a, b)
 }
 
 /// Whether an access to data has a byte in the block of 64 bytes that holds an address.
@@ -338,7 +328,7 @@ impl<'m> Moment<'m> {
         let a = self.first_register()?;
         let b = self.second_register()?;
         if i.op.is_branch() {
-            Some(decide(i.op, a, b))
+            Some(taken(i.op, a, b))
         } else {
             None
         }

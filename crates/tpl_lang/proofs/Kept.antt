@@ -11,17 +11,17 @@ use Rattle.tpl_ast.specs.declared.template.Item.TheOpen as layers
 use Rattle.tpl_ast.specs.declared.template.Item.TheViews.{roll-Item}
 use Rattle.tpl_ast.specs.Bodies.{BodyLine, Leaf, FetchFault, EnterSeq, EnterRepeat, EnterChoose, EnterWay, LabelOf, Leave, joined, lines_in, lines_of_body, lines_of_item, lines_of_ways, HartLines, hart_lines}
 use Rattle.tpl_ast.specs.Lengths.{length_in, length_of_body, length_of_harts, length_of_item, longest_of, saturated, sum_of}
-use Rattle.tpl_lang.specs.Known.{Alternative, Block, Choice, Open, Sequence, Times, Whole}
+use Rattle.tpl_lang.specs.Known.{Alternative, Block, Choice, OpenedBlock, Sequence, Times, Whole}
 use Rattle.tpl_lang.specs.Statements.{add_length, closing, opened_as}
 use Rattle.tpl_ast.proofs.Proved.{Proved, items_back, items_of, proved}
 
 -- ---- lines counted one after another, with the blocks that are open
 
-abbrev pub left : List Open → List Open
+abbrev pub left : List OpenedBlock → List OpenedBlock
 left [] = []
 left (o ∷ os) = closing o.block o.length os
 
-abbrev pub counted : BodyLine → List Open → List Open
+abbrev pub counted : BodyLine → List OpenedBlock → List OpenedBlock
 counted (Leaf line wishes) os = add_length 1 os
 counted (FetchFault line causes) os = add_length 1 os
 counted EnterSeq os = opened_as Sequence ∷ os
@@ -31,19 +31,19 @@ counted (EnterWay weight) os = opened_as (Alternative weight) ∷ os
 counted (LabelOf name) os = add_length 0 os
 counted Leave os = left os
 
-abbrev pub counted_all : List BodyLine → List Open → List Open
+abbrev pub counted_all : List BodyLine → List OpenedBlock → List OpenedBlock
 counted_all [] os = os
 counted_all (l ∷ lines) os = counted_all lines (counted l os)
 
-pub counted_both : (xs ys : List BodyLine) (os : List Open) → counted_all (xs ++ ys) os ≡ counted_all ys (counted_all xs os)
+pub counted_both : (xs ys : List BodyLine) (os : List OpenedBlock) → counted_all (xs ++ ys) os ≡ counted_all ys (counted_all xs os)
 counted_both [] ys os = refl
 counted_both (x ∷ xs) ys os = counted_both xs ys (counted x os)
 
 -- a body that nothing stands in yet
-abbrev pub begun : List Open
+abbrev pub begun : List OpenedBlock
 begun = opened_as Whole ∷ []
 
-abbrev pub kept_length : List Open → ℕ
+abbrev pub kept_length : List OpenedBlock → ℕ
 kept_length [] = 0
 kept_length (o ∷ os) = o.length
 
@@ -99,26 +99,26 @@ longest_saturated a n s l = elim (split s) [
 
 -- ---- and in an open block
 
-abbrev pub made : Block → ℕ → Open
+abbrev pub made : Block → ℕ → OpenedBlock
 made block n = record { block = block; length = n; ways = 0; weighted = false }
 
-abbrev pub choice : ℕ → ℕ → Bool → Open
+abbrev pub choice : ℕ → ℕ → Bool → OpenedBlock
 choice n ways weighted = record { block = Choice; length = n; ways = ways; weighted = weighted }
 
-add_saturated : (n : ℕ) (os : List Open) → add_length (saturated n) os ≡ add_length n os
+add_saturated : (n : ℕ) (os : List OpenedBlock) → add_length (saturated n) os ≡ add_length n os
 add_saturated n [] = refl
 add_saturated n (o ∷ os) = ap (λ (m : ℕ). record { block = o.block; length = m; ways = o.ways; weighted = o.weighted } ∷ os) (saturated_inner o.length n)
 
-add_longest : (n s l : ℕ) (os : List Open) → add_length (1 + max (max n (saturated s)) l) os ≡ add_length (1 + max n (max s l)) os
+add_longest : (n s l : ℕ) (os : List OpenedBlock) → add_length (1 + max (max n (saturated s)) l) os ≡ add_length (1 + max n (max s l)) os
 add_longest n s l [] = refl
 add_longest n s l (o ∷ os) = ap (λ (m : ℕ). record { block = o.block; length = m; ways = o.ways; weighted = o.weighted } ∷ os) (longest_saturated o.length n s l)
 
 -- ---- the lines of an item add its length
 
 abbrev pub IsCounted : Item → Type 0
-IsCounted i = (os : List Open) → counted_all (lines_of_item i) os ≡ add_length (length_of_item i) os
+IsCounted i = (os : List OpenedBlock) → counted_all (lines_of_item i) os ≡ add_length (length_of_item i) os
 
-items_counted : (es : List (Proved IsCounted)) (block : Block) (n : ℕ) → n ≤ 2 ^ 64 - 1 → (os : List Open)
+items_counted : (es : List (Proved IsCounted)) (block : Block) (n : ℕ) → n ≤ 2 ^ 64 - 1 → (os : List OpenedBlock)
     → counted_all (lines_of_body (items_of es)) (made block n ∷ os) ≡ made block (saturated (n + length_of_body (items_of es))) ∷ os
 items_counted [] block n h os = ap (λ (m : ℕ). made block m ∷ os) (omega (arith, h))
 items_counted (e ∷ es) block n h os =
@@ -127,19 +127,19 @@ items_counted (e ∷ es) block n h os =
     ∙ items_counted es block (saturated (n + length_of_item e.0)) (saturated_within (n + length_of_item e.0)) os
     ∙ ap (λ (m : ℕ). made block m ∷ os) (saturated_more n (length_of_item e.0) (length_of_body (items_of es)))
 
-from_nothing : (es : List (Proved IsCounted)) (block : Block) (os : List Open) → counted_all (lines_of_body (items_of es)) (opened_as block ∷ os) ≡ made block (saturated (length_of_body (items_of es))) ∷ os
+from_nothing : (es : List (Proved IsCounted)) (block : Block) (os : List OpenedBlock) → counted_all (lines_of_body (items_of es)) (opened_as block ∷ os) ≡ made block (saturated (length_of_body (items_of es))) ∷ os
 from_nothing es block os = items_counted es block 0 (omega arith) os ∙ ap (λ (m : ℕ). made block (saturated m) ∷ os) (omega arith)
 
 -- a block with these items
-block_counted : (es : List (Proved IsCounted)) (block : Block) (os : List Open) → counted_all (lines_of_body (items_of es) ++ Leave ∷ []) (opened_as block ∷ os) ≡ closing block (saturated (length_of_body (items_of es))) os
+block_counted : (es : List (Proved IsCounted)) (block : Block) (os : List OpenedBlock) → counted_all (lines_of_body (items_of es) ++ Leave ∷ []) (opened_as block ∷ os) ≡ closing block (saturated (length_of_body (items_of es))) os
 block_counted es block os =
     counted_both (lines_of_body (items_of es)) (Leave ∷ []) (opened_as block ∷ os)
     ∙ ap left (from_nothing es block os)
 
-seq_counted : (es : List (Proved IsCounted)) (os : List Open) → counted_all (lines_of_body (items_of es) ++ Leave ∷ []) (opened_as Sequence ∷ os) ≡ add_length (length_of_body (items_of es)) os
+seq_counted : (es : List (Proved IsCounted)) (os : List OpenedBlock) → counted_all (lines_of_body (items_of es) ++ Leave ∷ []) (opened_as Sequence ∷ os) ≡ add_length (length_of_body (items_of es)) os
 seq_counted es os = block_counted es Sequence os ∙ add_saturated (length_of_body (items_of es)) os
 
-repeat_counted : (times : ℕ) (es : List (Proved IsCounted)) (os : List Open) → counted_all (lines_of_body (items_of es) ++ Leave ∷ []) (opened_as (Times times) ∷ os) ≡ add_length (times * max 1 (length_of_body (items_of es))) os
+repeat_counted : (times : ℕ) (es : List (Proved IsCounted)) (os : List OpenedBlock) → counted_all (lines_of_body (items_of es) ++ Leave ∷ []) (opened_as (Times times) ∷ os) ≡ add_length (times * max 1 (length_of_body (items_of es))) os
 repeat_counted times es os =
     block_counted es (Times times) os
     ∙ ap (λ (m : ℕ). add_length m os) (times_saturated times (length_of_body (items_of es)))
@@ -149,7 +149,7 @@ repeat_counted times es os =
 ways_counted : (g : ℕ × Vec Item Global → ℕ × Vec (List BodyLine) Global) (k : ℕ × Vec Item Global → ℕ × Vec ℕ Global) (h : ℕ × Vec (Proved IsCounted) Global → ℕ × Vec Item Global)
     → ((v : ℕ × Vec Item Global) → (g v).1.items ≡ map lines_of_item v.1.items) → ((v : ℕ × Vec Item Global) → (k v).1.items ≡ map length_of_item v.1.items)
     → ((w : ℕ × Vec (Proved IsCounted) Global) → (h w).1.items ≡ items_of w.1.items)
-    → (ws : List (ℕ × Vec (Proved IsCounted) Global)) (n ways : ℕ) (weighted : Bool) (os : List Open)
+    → (ws : List (ℕ × Vec (Proved IsCounted) Global)) (n ways : ℕ) (weighted : Bool) (os : List OpenedBlock)
     → left (counted_all (lines_of_ways (map g (map h ws))) (choice n ways weighted ∷ os)) ≡ add_length (1 + max n (longest_of (map k (map h ws)))) os
 ways_counted g k h lines lengths items [] n ways weighted os =
     add_saturated (n + 1) os
@@ -159,7 +159,7 @@ ways_counted g k h lines lengths items (w ∷ ws) n ways weighted os =
     let weight : ℕ = (g (h w)).0 in
     let size : ℕ = length_of_body (items_of w.1.items) in
     let longest : ℕ = longest_of (map k (map h ws)) in
-    let stack : List Open = opened_as (Alternative weight) ∷ choice n ways weighted ∷ os in
+    let stack : List OpenedBlock = opened_as (Alternative weight) ∷ choice n ways weighted ∷ os in
     let inner : (g (h w)).1.items ≡ map lines_of_item (items_of w.1.items) = lines (h w) ∙ ap (map lines_of_item) (items w) in
     let sizes : sum_of (k (h w)).1.items ≡ size = ap sum_of (lengths (h w) ∙ ap (map length_of_item) (items w)) in
     ap left (
@@ -173,14 +173,14 @@ ways_counted g k h lines lengths items (w ∷ ws) n ways weighted os =
 choice_counted : (g : ℕ × Vec Item Global → ℕ × Vec (List BodyLine) Global) (k : ℕ × Vec Item Global → ℕ × Vec ℕ Global) (h : ℕ × Vec (Proved IsCounted) Global → ℕ × Vec Item Global)
     → ((v : ℕ × Vec Item Global) → (g v).1.items ≡ map lines_of_item v.1.items) → ((v : ℕ × Vec Item Global) → (k v).1.items ≡ map length_of_item v.1.items)
     → ((w : ℕ × Vec (Proved IsCounted) Global) → (h w).1.items ≡ items_of w.1.items)
-    → (ws : List (ℕ × Vec (Proved IsCounted) Global)) (os : List Open)
+    → (ws : List (ℕ × Vec (Proved IsCounted) Global)) (os : List OpenedBlock)
     → counted_all (lines_of_ways (map g (map h ws)) ++ Leave ∷ []) (opened_as Choice ∷ os) ≡ add_length (1 + longest_of (map k (map h ws))) os
 choice_counted g k h lines lengths items ws os =
     counted_both (lines_of_ways (map g (map h ws))) (Leave ∷ []) (opened_as Choice ∷ os)
     ∙ ways_counted g k h lines lengths items ws 0 0 false os
     ∙ ap (λ (m : ℕ). add_length (1 + m) os) (omega arith)
 
-counted_by : (z : Item-F Item) → ((os : List Open) → counted_all (lines_in (map-Item _ _ lines_of_item z)) os ≡ add_length (length_in (map-Item _ _ length_of_item z)) os) → IsCounted (roll-Item z)
+counted_by : (z : Item-F Item) → ((os : List OpenedBlock) → counted_all (lines_in (map-Item _ _ lines_of_item z)) os ≡ add_length (length_in (map-Item _ _ length_of_item z)) os) → IsCounted (roll-Item z)
 counted_by z same os =
     ap (λ (lines : List BodyLine). counted_all lines os) (fold-roll-Item (List BodyLine) lines_in z)
     ∙ same os
@@ -200,7 +200,7 @@ counted_item = ind-Item IsCounted step
 -- ---- bodies
 
 -- any items in an open block
-pub body_in_block : (items : List Item) (block : Block) (os : List Open) → counted_all (lines_of_body items) (opened_as block ∷ os) ≡ made block (saturated (length_of_body items)) ∷ os
+pub body_in_block : (items : List Item) (block : Block) (os : List OpenedBlock) → counted_all (lines_of_body items) (opened_as block ∷ os) ≡ made block (saturated (length_of_body items)) ∷ os
 body_in_block items block os = subst (λ (is : List Item). counted_all (lines_of_body is) (opened_as block ∷ os) ≡ made block (saturated (length_of_body is)) ∷ os) (items_back counted_item items) (from_nothing (proved counted_item items) block os)
 
 pub body_counted : (items : List Item) → lines_length (lines_of_body items) ≡ saturated (length_of_body items)

@@ -13,7 +13,7 @@ use Rattle.tpl_ast.specs.Bodies.{BodyLine, Leaf, FetchFault, EnterSeq, EnterRepe
 use Rattle.tpl_lang.specs.Laws.{IsReached, Before, Behind}
 use Rattle.tpl_ast.specs.Leaves.{atoms_of, is_name_below}
 use Rattle.tpl_ast.specs.Naming.{AreNamesInOrder, IsFreeLabel, count_in_head}
-use Rattle.tpl_lang.specs.Known.{Block, Whole, Sequence, Times, Choice, Alternative, Known, Open, Place, Head, Begin, Settings, Inside, Ended}
+use Rattle.tpl_lang.specs.Known.{Block, Whole, Sequence, Times, Choice, Alternative, Known, OpenedBlock, Place, Head, Begin, Settings, Inside, Ended}
 use Rattle.tpl_lang.specs.Statements.{add_length, add_way, after, all_values, closed_in, start_of, wish_of}
 use Rattle.tpl_lang.specs.Faults.{is_begin, is_ended, is_head, is_inside, is_last, is_settings, is_repeat, takes_items}
 use Rattle.tpl_lang.specs.Phrases.{Phrase, Ram, Pool, Tables, Flags, Vectors, Set, Name, Data, Hart, Start, Csr, Reg, Body, Do, Fault, Seq, Repeat, Choose, Way, Label, Close}
@@ -104,32 +104,32 @@ free_label x word =
 
 -- ---- where the text stands
 
-abbrev is_whole : Open → Bool
+abbrev is_whole : OpenedBlock → Bool
 is_whole o = elim (o.block) [
   | Whole ↦ true
   | _ ↦ false
 ]
 
 -- inside a body it is open, and else no line of one stands
-abbrev Standing : Place → List BodyLine → List Open → Type 0
+abbrev Standing : Place → List BodyLine → List OpenedBlock → Type 0
 Standing Inside body os = (list_any is_whole os ≡ true) × (os ≡ counted_all body begun)
 Standing _ body os = (body ≡ []) × (os ≡ [])
 
-stands_inside : (place : Place) (body : List BodyLine) (os : List Open) → is_inside place ≡ true → Standing place body os → (list_any is_whole os ≡ true) × (os ≡ counted_all body begun)
+stands_inside : (place : Place) (body : List BodyLine) (os : List OpenedBlock) → is_inside place ≡ true → Standing place body os → (list_any is_whole os ≡ true) × (os ≡ counted_all body begun)
 stands_inside Inside body os is h = h
 stands_inside Head body os is h = absurd (cc is)
 stands_inside Begin body os is h = absurd (cc is)
 stands_inside Settings body os is h = absurd (cc is)
 stands_inside Ended body os is h = absurd (cc is)
 
-inside_stands : (place : Place) (body : List BodyLine) (os : List Open) → is_inside place ≡ true → (list_any is_whole os ≡ true) × (os ≡ counted_all body begun) → Standing place body os
+inside_stands : (place : Place) (body : List BodyLine) (os : List OpenedBlock) → is_inside place ≡ true → (list_any is_whole os ≡ true) × (os ≡ counted_all body begun) → Standing place body os
 inside_stands Inside body os is h = h
 inside_stands Head body os is h = absurd (cc is)
 inside_stands Begin body os is h = absurd (cc is)
 inside_stands Settings body os is h = absurd (cc is)
 inside_stands Ended body os is h = absurd (cc is)
 
-stands_outside : (place : Place) (body : List BodyLine) (os : List Open) → is_inside place ≡ false → Standing place body os → (body ≡ []) × (os ≡ [])
+stands_outside : (place : Place) (body : List BodyLine) (os : List OpenedBlock) → is_inside place ≡ false → Standing place body os → (body ≡ []) × (os ≡ [])
 stands_outside Inside body os is h = absurd (cc is)
 stands_outside Head body os is h = h
 stands_outside Begin body os is h = h
@@ -137,43 +137,43 @@ stands_outside Settings body os is h = h
 stands_outside Ended body os is h = h
 
 -- where no block is open, no body is
-closed_outside : (place : Place) (body : List BodyLine) → Standing place body [] → (body ≡ []) × (◌≡◌ {A = List Open} [] [])
+closed_outside : (place : Place) (body : List BodyLine) → Standing place body [] → (body ≡ []) × (◌≡◌ {A = List OpenedBlock} [] [])
 closed_outside Inside body h = absurd (cc h.0)
 closed_outside Head body h = h
 closed_outside Begin body h = h
 closed_outside Settings body h = h
 closed_outside Ended body h = h
 
-open_inside : (place : Place) (body : List BodyLine) (o : Open) (os : List Open) → Standing place body (o ∷ os) → is_inside place ≡ true
+open_inside : (place : Place) (body : List BodyLine) (o : OpenedBlock) (os : List OpenedBlock) → Standing place body (o ∷ os) → is_inside place ≡ true
 open_inside Inside body o os h = refl
 open_inside Head body o os h = absurd (cc h.1)
 open_inside Begin body o os h = absurd (cc h.1)
 open_inside Settings body o os h = absurd (cc h.1)
 open_inside Ended body o os h = absurd (cc h.1)
 
-whole_longer : (n : ℕ) (os : List Open) → list_any is_whole os ≡ true → list_any is_whole (add_length n os) ≡ true
+whole_longer : (n : ℕ) (os : List OpenedBlock) → list_any is_whole os ≡ true → list_any is_whole (add_length n os) ≡ true
 whole_longer n [] h = h
 whole_longer n (o ∷ os) h = h
 
-whole_way : (w n : ℕ) (os : List Open) → list_any is_whole os ≡ true → list_any is_whole (add_way w n os) ≡ true
+whole_way : (w n : ℕ) (os : List OpenedBlock) → list_any is_whole os ≡ true → list_any is_whole (add_way w n os) ≡ true
 whole_way w n [] h = h
 whole_way w n (o ∷ os) h = h
 
 -- ---- what is known
 
-record NamingKept (place : Place) (names : List NameDecl) (harts : List HartLines) (body : List BodyLine) (os : List Open) : Type 0 where
+record NamingKept (place : Place) (names : List NameDecl) (harts : List HartLines) (body : List BodyLine) (os : List OpenedBlock) : Type 0 where
   standing : Standing place body os
   split : NamesSplit names
   bodies : Between (named_harts harts (count_in_head names)) (named_lines body begun) (length names)
 
 -- a line inside a body, and the names behind it
-line_ordered : (place : Place) (names : List NameDecl) (harts : List HartLines) (body : List BodyLine) (os : List Open) (l : BodyLine) (next : List NameDecl)
+line_ordered : (place : Place) (names : List NameDecl) (harts : List HartLines) (body : List BodyLine) (os : List OpenedBlock) (l : BodyLine) (next : List NameDecl)
     → is_inside place ≡ true → count_in_head next ≡ count_in_head names → NamesSplit next → named_line l os (length names) ≡ Some (length next) → list_any is_whole (counted l os) ≡ true
     → NamingKept place names harts body os → NamingKept place next harts (body ++ l ∷ []) (counted l os)
 line_ordered place names harts body os l next is head split own whole h =
     let at = stands_inside place body os is h.standing in
     let stack : counted l os ≡ counted_all (body ++ l ∷ []) begun = ap (counted l) at.1 ∙ sym (counted_both body (l ∷ []) begun) in
-    let there : named_line l (counted_all body begun) (length names) ≡ Some (length next) = subst (λ (st : List Open). named_line l st (length names) ≡ Some (length next)) at.1 own in
+    let there : named_line l (counted_all body begun) (length names) ≡ Some (length next) = subst (λ (st : List OpenedBlock). named_line l st (length names) ≡ Some (length next)) at.1 own in
     record {
       standing = inside_stands place (body ++ l ∷ []) (counted l os) is (whole, stack);
       split = split;
@@ -185,13 +185,13 @@ line_ordered place names harts body os l next is head split own whole h =
     }
 
 -- one that declares no name
-item_ordered : (place : Place) (names : List NameDecl) (harts : List HartLines) (body : List BodyLine) (os : List Open) (l : BodyLine)
+item_ordered : (place : Place) (names : List NameDecl) (harts : List HartLines) (body : List BodyLine) (os : List OpenedBlock) (l : BodyLine)
     → is_inside place ≡ true → named_line l os (length names) ≡ Some (length names) → (list_any is_whole os ≡ true → list_any is_whole (counted l os) ≡ true)
     → NamingKept place names harts body os → NamingKept place names harts (body ++ l ∷ []) (counted l os)
 item_ordered place names harts body os l is own whole h =
     line_ordered place names harts body os l names is refl h.split own (whole (stands_inside place body os is h.standing).0) h
 
-label_ordered : (place : Place) (names : List NameDecl) (harts : List HartLines) (body : List BodyLine) (os : List Open) (d : NameDecl)
+label_ordered : (place : Place) (names : List NameDecl) (harts : List HartLines) (body : List BodyLine) (os : List OpenedBlock) (d : NameDecl)
     → is_inside place ≡ true → list_any is_repeat os ≡ false → d.label ≡ true → IsFreeLabel d
     → NamingKept place names harts body os → NamingKept place (names ++ d ∷ []) harts (body ++ LabelOf (length names) ∷ []) (add_length 0 os)
 label_ordered place names harts body os d is free label values h =
@@ -201,7 +201,7 @@ label_ordered place names harts body os d is free label values h =
     (rw (itself, free) more) (whole_longer 0 os (stands_inside place body os is h.standing).0) h
 
 -- another place outside of bodies
-moved : (place there : Place) (names : List NameDecl) (harts : List HartLines) (body : List BodyLine) (os : List Open) (lines : List BodyLine) (blocks : List Open)
+moved : (place there : Place) (names : List NameDecl) (harts : List HartLines) (body : List BodyLine) (os : List OpenedBlock) (lines : List BodyLine) (blocks : List OpenedBlock)
     → body ≡ [] → lines ≡ [] → Standing there lines blocks → NamingKept place names harts body os → NamingKept there names harts lines blocks
 moved place there names harts body os lines blocks none nothing standing h = record {
   standing = standing;
@@ -242,7 +242,7 @@ ended_outside Begin is = absurd (cc is)
 ended_outside Settings is = absurd (cc is)
 
 -- a name of the head
-name_ordered : (place : Place) (names : List NameDecl) (harts : List HartLines) (body : List BodyLine) (os : List Open) (d : NameDecl) → is_head place ≡ true → eqb (length harts) 0 ≡ true → d.label ≡ false
+name_ordered : (place : Place) (names : List NameDecl) (harts : List HartLines) (body : List BodyLine) (os : List OpenedBlock) (d : NameDecl) → is_head place ≡ true → eqb (length harts) 0 ≡ true → d.label ≡ false
     → NamingKept place names harts body os → NamingKept place (names ++ d ∷ []) harts body os
 name_ordered place names harts body os d is first other h =
     let at = stands_outside place body os (head_outside place is) h.standing in
@@ -261,7 +261,7 @@ name_ordered place names harts body os d is first other h =
     }
 
 -- the brace that closes a body
-hart_ordered : (place : Place) (names : List NameDecl) (harts : List HartLines) (body : List BodyLine) (os : List Open) (g : HartLines) → g.body ≡ body
+hart_ordered : (place : Place) (names : List NameDecl) (harts : List HartLines) (body : List BodyLine) (os : List OpenedBlock) (g : HartLines) → g.body ≡ body
     → NamingKept place names harts body os → NamingKept Ended names (harts ++ g ∷ []) [] []
 hart_ordered place names harts body os g is h = record {
   standing = (refl, refl);
@@ -278,7 +278,7 @@ hart_ordered place names harts body os g is h = record {
 abbrev IsOrdered : Known → Type 0
 IsOrdered k = NamingKept k.place k.names k.harts k.body k.blocks
 
-closed_ordered : (k : Known) (os : List Open) → k.blocks ≡ os → NamingKept k.place k.names k.harts k.body os → IsOrdered (closed_in k os)
+closed_ordered : (k : Known) (os : List OpenedBlock) → k.blocks ≡ os → NamingKept k.place k.names k.harts k.body os → IsOrdered (closed_in k os)
 closed_ordered k [] blocks h =
     let at = closed_outside k.place k.body h.standing in
     moved k.place Head k.names k.harts k.body [] k.body k.blocks at.0 at.0 (at.0, blocks) h
@@ -348,7 +348,7 @@ reached_ordered (Behind k next line bytes last before is) = judged_ordered (judg
 
 -- ---- where a text may end
 
-closed_empty : (k : Known) (os : List Open) → os ≡ [] → k.body ≡ [] → (closed_in k os).body ≡ []
+closed_empty : (k : Known) (os : List OpenedBlock) → os ≡ [] → k.body ≡ [] → (closed_in k os).body ≡ []
 closed_empty k [] none h = h
 closed_empty k (o ∷ os) none h = absurd (cc none)
 

@@ -19,7 +19,7 @@ use Rattle.tpl_lang.specs.Faults.{is_large, is_no_register, body_length, is_begi
 use Rattle.tpl_lang.specs.Laws.{IsReached, Before, Behind, KeepsLengths}
 use Rattle.tpl_ast.specs.Lengths.{length_of_harts, saturated}
 use Rattle.tpl_lang.specs.Lines.{length_until, lines, stripped, to_first, uncommented}
-use Rattle.tpl_lang.specs.Known.{Block, Whole, Sequence, Times, Choice, Alternative, Known, Open, Place, Head, Begin, Settings, Inside, Ended, nothing}
+use Rattle.tpl_lang.specs.Known.{Block, Whole, Sequence, Times, Choice, Alternative, Known, OpenedBlock, Place, Head, Begin, Settings, Inside, Ended, nothing}
 use Rattle.tpl_lang.specs.Parsing.{Parses, Said, fault, parses, said, said_by, line_parsed, lines_parsed}
 use Rattle.tpl_lang.specs.Statements.{after, all_values, closed_in, start_of, with_hart}
 use Rattle.tpl_lang.specs.Phrases.{Phrase, Ram, Pool, Tables, Flags, Vectors, Set, Name, Data, Hart, Start, Csr, Reg, Body, Do, Fault as FaultPhrase, Seq, Repeat, Choose, Way, Label, Close}
@@ -81,7 +81,7 @@ record BodiesKept (names : ℕ) (harts : List HartLines) (body : List BodyLine) 
   ended : AllByRecursion (λ h. lines_fit names h.body begun ≡ true) harts
   running : lines_fit names body begun ≡ true
 
-line_more : (n m : ℕ) → n ≤ m → (l : BodyLine) (os : List Open) → line_fits n l os ≡ true → line_fits m l os ≡ true
+line_more : (n m : ℕ) → n ≤ m → (l : BodyLine) (os : List OpenedBlock) → line_fits n l os ≡ true → line_fits m l os ≡ true
 line_more n m le (Leaf line wishes) os h = leaf_more n m le wishes h
 line_more n m le (LabelOf name) os h = let low : name < m = omega (arith, le, ltb-true name n h) in grind (arith, nat_tests, low)
 line_more n m le (FetchFault line causes) os h = h
@@ -91,7 +91,7 @@ line_more n m le (EnterChoose line) os h = h
 line_more n m le (EnterWay weight) os h = h
 line_more n m le Leave os h = h
 
-lines_more : (n m : ℕ) → n ≤ m → (ls : List BodyLine) (os : List Open) → lines_fit n ls os ≡ true → lines_fit m ls os ≡ true
+lines_more : (n m : ℕ) → n ≤ m → (ls : List BodyLine) (os : List OpenedBlock) → lines_fit n ls os ≡ true → lines_fit m ls os ≡ true
 lines_more n m le [] os h = refl
 lines_more n m le (l ∷ ls) os h =
     let a = both_true (line_fits n l os) _ h in
@@ -106,67 +106,67 @@ names_longer names d = omega (arith, length-append names (d ∷ []))
 -- ---- harts
 
 -- how many harts have ended, and that the open blocks are those that the body's lines leave open
-abbrev Fits : Place → ℕ → List BodyLine → List Open → Type 0
+abbrev Fits : Place → ℕ → List BodyLine → List OpenedBlock → Type 0
 Fits Head n body os = (n ≤ 4) × (os ≡ [])
 Fits Inside n body os = (n ≤ 3) × (os ≡ counted_all body begun)
 Fits Ended n body os = (n ≤ 4) × (os ≡ []) × (1 ≤ n)
 Fits _ n body os = (n ≤ 3) × (os ≡ [])
 
-record HartsKept (place : Place) (harts : List HartLines) (total : ℕ) (body : List BodyLine) (os : List Open) : Type 0 where
+record HartsKept (place : Place) (harts : List HartLines) (total : ℕ) (body : List BodyLine) (os : List OpenedBlock) : Type 0 where
   fits : Fits place (length harts) body os
   most : total ≤ 8192
   totals : total ≡ saturated (lines_lengths harts)
 
-inside : (place : Place) (n : ℕ) (body : List BodyLine) (os : List Open) → is_inside place ≡ true → Fits place n body os → (n ≤ 3) × (os ≡ counted_all body begun)
+inside : (place : Place) (n : ℕ) (body : List BodyLine) (os : List OpenedBlock) → is_inside place ≡ true → Fits place n body os → (n ≤ 3) × (os ≡ counted_all body begun)
 inside Inside n body os is h = h
 inside Head n body os is h = absurd (cc is)
 inside Begin n body os is h = absurd (cc is)
 inside Settings n body os is h = absurd (cc is)
 inside Ended n body os is h = absurd (cc is)
 
-inside_fits : (place : Place) (n : ℕ) (body : List BodyLine) (os : List Open) → is_inside place ≡ true → (n ≤ 3) × (os ≡ counted_all body begun) → Fits place n body os
+inside_fits : (place : Place) (n : ℕ) (body : List BodyLine) (os : List OpenedBlock) → is_inside place ≡ true → (n ≤ 3) × (os ≡ counted_all body begun) → Fits place n body os
 inside_fits Inside n body os is h = h
 inside_fits Head n body os is h = absurd (cc is)
 inside_fits Begin n body os is h = absurd (cc is)
 inside_fits Settings n body os is h = absurd (cc is)
 inside_fits Ended n body os is h = absurd (cc is)
 
-open_inside : (place : Place) (n : ℕ) (body : List BodyLine) (o : Open) (os : List Open) → Fits place n body (o ∷ os) → is_inside place ≡ true
+open_inside : (place : Place) (n : ℕ) (body : List BodyLine) (o : OpenedBlock) (os : List OpenedBlock) → Fits place n body (o ∷ os) → is_inside place ≡ true
 open_inside Inside n body o os h = refl
 open_inside Head n body o os h = absurd (cc h.1)
 open_inside Begin n body o os h = absurd (cc h.1)
 open_inside Settings n body o os h = absurd (cc h.1)
 open_inside Ended n body o os h = absurd (cc h.1)
 
-at_most_four : (place : Place) (n : ℕ) (body : List BodyLine) (os : List Open) → Fits place n body os → n ≤ 4
+at_most_four : (place : Place) (n : ℕ) (body : List BodyLine) (os : List OpenedBlock) → Fits place n body os → n ≤ 4
 at_most_four Head n body os h = h.0
 at_most_four Begin n body os h = omega (arith, h.0)
 at_most_four Settings n body os h = omega (arith, h.0)
 at_most_four Inside n body os h = omega (arith, h.0)
 at_most_four Ended n body os h = h.0
 
-begin_fits : (place : Place) (n : ℕ) (body : List BodyLine) (os : List Open) → is_head place ≡ true → leb 4 n ≡ false → Fits place n body os → Fits Begin n body os
+begin_fits : (place : Place) (n : ℕ) (body : List BodyLine) (os : List OpenedBlock) → is_head place ≡ true → leb 4 n ≡ false → Fits place n body os → Fits Begin n body os
 begin_fits Head n body os is few h = (omega (arith, leb-false 4 n few), h.1)
 begin_fits Begin n body os is few h = absurd (cc is)
 begin_fits Settings n body os is few h = absurd (cc is)
 begin_fits Inside n body os is few h = absurd (cc is)
 begin_fits Ended n body os is few h = absurd (cc is)
 
-settings_fits : (place : Place) (n : ℕ) (body : List BodyLine) (os : List Open) → is_begin place ≡ true → Fits place n body os → Fits Settings n body os
+settings_fits : (place : Place) (n : ℕ) (body : List BodyLine) (os : List OpenedBlock) → is_begin place ≡ true → Fits place n body os → Fits Settings n body os
 settings_fits Begin n body os is h = h
 settings_fits Head n body os is h = absurd (cc is)
 settings_fits Settings n body os is h = absurd (cc is)
 settings_fits Inside n body os is h = absurd (cc is)
 settings_fits Ended n body os is h = absurd (cc is)
 
-body_fits : (place : Place) (n : ℕ) (body : List BodyLine) (os : List Open) → is_settings place ≡ true → Fits place n body os → Fits Inside n [] begun
+body_fits : (place : Place) (n : ℕ) (body : List BodyLine) (os : List OpenedBlock) → is_settings place ≡ true → Fits place n body os → Fits Inside n [] begun
 body_fits Settings n body os is h = (h.0, refl)
 body_fits Head n body os is h = absurd (cc is)
 body_fits Begin n body os is h = absurd (cc is)
 body_fits Inside n body os is h = absurd (cc is)
 body_fits Ended n body os is h = absurd (cc is)
 
-ended_fits : (place : Place) (n : ℕ) (body : List BodyLine) (os : List Open) → is_ended place ≡ true → Fits place n body os → Fits Ended n body os
+ended_fits : (place : Place) (n : ℕ) (body : List BodyLine) (os : List OpenedBlock) → is_ended place ≡ true → Fits place n body os → Fits Ended n body os
 ended_fits Ended n body os is h = h
 ended_fits Head n body os is h = absurd (cc is)
 ended_fits Begin n body os is h = absurd (cc is)
@@ -174,12 +174,12 @@ ended_fits Settings n body os is h = absurd (cc is)
 ended_fits Inside n body os is h = absurd (cc is)
 
 -- the same harts
-moved : {place : Place} {harts : List HartLines} {total : ℕ} {body : List BodyLine} {os : List Open} (there : Place) (lines : List BodyLine) (blocks : List Open)
+moved : {place : Place} {harts : List HartLines} {total : ℕ} {body : List BodyLine} {os : List OpenedBlock} (there : Place) (lines : List BodyLine) (blocks : List OpenedBlock)
     → HartsKept place harts total body os → Fits there (length harts) lines blocks → HartsKept there harts total lines blocks
 moved there lines blocks h fits = record { fits = fits; most = h.most; totals = h.totals }
 
 -- a line inside a body
-line_kept : (place : Place) (harts : List HartLines) (total : ℕ) (body : List BodyLine) (os : List Open) (l : BodyLine) → is_inside place ≡ true
+line_kept : (place : Place) (harts : List HartLines) (total : ℕ) (body : List BodyLine) (os : List OpenedBlock) (l : BodyLine) → is_inside place ≡ true
     → HartsKept place harts total body os → HartsKept place harts total (body ++ l ∷ []) (counted l os)
 line_kept place harts total body os l is h =
     let at = inside place (length harts) body os is h.fits in
@@ -188,7 +188,7 @@ line_kept place harts total body os l is h =
 -- ---- a brace
 
 -- the brace that closes a body
-hart_kept : (place : Place) (harts : List HartLines) (total : ℕ) (body : List BodyLine) (o : Open) (os : List Open) (h : HartLines) → h.body ≡ body → is_inside place ≡ true → ltb 8192 (total + o.length) ≡ false
+hart_kept : (place : Place) (harts : List HartLines) (total : ℕ) (body : List BodyLine) (o : OpenedBlock) (os : List OpenedBlock) (h : HartLines) → h.body ≡ body → is_inside place ≡ true → ltb 8192 (total + o.length) ≡ false
     → HartsKept place harts total body (o ∷ os) → HartsKept Ended (harts ++ h ∷ []) (saturated (total + o.length)) [] []
 hart_kept place harts total body o os h is at few kept =
     let inner = inside place (length harts) body (o ∷ os) at kept.fits in
@@ -200,7 +200,7 @@ hart_kept place harts total body o os h is at few kept =
       totals = omega (arith, kept.totals, own, one_more_hart harts h);
     }
 
-closed_kept : (k : Known) (os : List Open) → k.blocks ≡ os → HartsKept k.place k.harts k.length k.body os → is_inside k.place && is_length_above k (body_length os) ≡ false
+closed_kept : (k : Known) (os : List OpenedBlock) → k.blocks ≡ os → HartsKept k.place k.harts k.length k.body os → is_inside k.place && is_length_above k (body_length os) ≡ false
     → HartsKept (closed_in k os).place (closed_in k os).harts (closed_in k os).length (closed_in k os).body (closed_in k os).blocks
 closed_kept k [] none h few = moved Head k.body k.blocks h (at_most_four k.place (length k.harts) k.body [] h.fits, none)
 closed_kept k (o ∷ os) blocks h few = go (o.block) refl where
@@ -259,9 +259,9 @@ line_after k l at h = line_kept k.place k.harts k.length k.body k.blocks l at h.
 bodies_after : (k : Known) (l : BodyLine) → is_inside k.place ≡ true → IsKept k → line_fits (length k.names) l k.blocks ≡ true → BodiesKept (length k.names) k.harts (k.body ++ l ∷ [])
 bodies_after k l at h fits =
     let blocks = (inside k.place (length k.harts) k.body k.blocks at h.harts.fits).1 in
-    record { ended = h.rest.bodies.ended; running = fit_more (length k.names) k.body l begun h.rest.bodies.running (subst (λ (os : List Open). line_fits (length k.names) l os ≡ true) blocks fits) }
+    record { ended = h.rest.bodies.ended; running = fit_more (length k.names) k.body l begun h.rest.bodies.running (subst (λ (os : List OpenedBlock). line_fits (length k.names) l os ≡ true) blocks fits) }
 
-with_bodies : (k : Known) (l : BodyLine) (blocks : List Open) → RestKept k → BodiesKept (length k.names) k.harts (k.body ++ l ∷ []) → RestKept (record k { body = k.body ++ l ∷ []; blocks = blocks })
+with_bodies : (k : Known) (l : BodyLine) (blocks : List OpenedBlock) → RestKept k → BodiesKept (length k.names) k.harts (k.body ++ l ∷ []) → RestKept (record k { body = k.body ++ l ∷ []; blocks = blocks })
 with_bodies k l blocks h bodies = record { head = h.head; names = h.names; pc = h.pc; aligned = h.aligned; given = h.given; states = h.states; bodies = bodies }
 
 -- a line of an item that declares no name
@@ -275,7 +275,7 @@ not_ended Begin is = absurd (cc is)
 not_ended Settings is = absurd (cc is)
 not_ended Ended is = absurd (cc is)
 
-closes : (k : Known) (o : Open) (os : List Open) → is_inside k.place ≡ true → (is_inside k.place && is_closable (o ∷ os)) || is_ended k.place ≡ true → is_closable (o ∷ os) ≡ true
+closes : (k : Known) (o : OpenedBlock) (os : List OpenedBlock) → is_inside k.place ≡ true → (is_inside k.place && is_closable (o ∷ os)) || is_ended k.place ≡ true → is_closable (o ∷ os) ≡ true
 closes k o os at may = alone (is_closable (o ∷ os)) (rw (at, not_ended k.place at) at may) where
   alone : (b : Bool) → b || false ≡ true → b ≡ true
   alone true h = refl
@@ -292,14 +292,14 @@ hart_ended k n h = record {
   bodies = record { ended = all_appended (λ g. lines_fit (length k.names) g.body begun ≡ true) k.harts (record { start = start_of k; body = k.body }) h.bodies.ended h.bodies.running; running = refl };
 }
 
-closed_rest : (k : Known) (os : List Open) → k.blocks ≡ os → (is_inside k.place && is_closable os) || is_ended k.place ≡ true → IsKept k → RestKept (closed_in k os)
+closed_rest : (k : Known) (os : List OpenedBlock) → k.blocks ≡ os → (is_inside k.place && is_closable os) || is_ended k.place ≡ true → IsKept k → RestKept (closed_in k os)
 closed_rest k [] blocks may h = record { head = h.rest.head; names = h.rest.names; pc = h.rest.pc; aligned = h.rest.aligned; given = h.rest.given; states = h.rest.states; bodies = h.rest.bodies }
 closed_rest k (o ∷ os) blocks may h = go (o.block) refl where
   at : is_inside k.place ≡ true
-  at = open_inside k.place (length k.harts) k.body o os (subst (λ (bs : List Open). Fits k.place (length k.harts) k.body bs) blocks h.harts.fits)
+  at = open_inside k.place (length k.harts) k.body o os (subst (λ (bs : List OpenedBlock). Fits k.place (length k.harts) k.body bs) blocks h.harts.fits)
 
   bodies : BodiesKept (length k.names) k.harts (k.body ++ Leave ∷ [])
-  bodies = bodies_after k Leave at h (subst (λ (bs : List Open). is_closable bs ≡ true) (sym blocks) (closes k o os at may))
+  bodies = bodies_after k Leave at h (subst (λ (bs : List OpenedBlock). is_closable bs ≡ true) (sym blocks) (closes k o os at may))
 
   go : (b : Block) → o.block ≡ b → RestKept (closed_in k (o ∷ os))
   go Whole is = rw is (hart_ended k o.length h.rest)
@@ -317,7 +317,7 @@ head_after k ram pool tables flags vectors sets words head h = record {
 }
 
 -- another place, with nothing else changed
-place_after : (k : Known) (place : Place) (body : List BodyLine) (blocks : List Open) → RestKept k → lines_fit (length k.names) body begun ≡ true → HartsKept place k.harts k.length body blocks → IsKept (record k { place = place; body = body; blocks = blocks })
+place_after : (k : Known) (place : Place) (body : List BodyLine) (blocks : List OpenedBlock) → RestKept k → lines_fit (length k.names) body begun ≡ true → HartsKept place k.harts k.length body blocks → IsKept (record k { place = place; body = body; blocks = blocks })
 place_after k place body blocks h fits harts = record {
   rest = record { head = h.head; names = h.names; pc = h.pc; aligned = h.aligned; given = h.given; states = h.states; bodies = record { ended = h.bodies.ended; running = fits } };
   harts = harts;
@@ -439,7 +439,7 @@ reached_kept (Behind k next line bytes last before is) = judged_kept (judged_by 
 
 -- ---- lengths
 
-closes_at : (os : List Open) (n : ℕ) → body_length os ≡ Some n → kept_length os ≡ n
+closes_at : (os : List OpenedBlock) (n : ℕ) → body_length os ≡ Some n → kept_length os ≡ n
 closes_at [] n is = absurd (cc is)
 closes_at (o ∷ os) n is = go (o.block) is where
   go : (b : Block) → ◌≡◌ {A = Option ℕ} (elim b [ Whole ↦ Some (o.length) | _ ↦ None ]) (Some n) → o.length ≡ n
@@ -449,7 +449,7 @@ closes_at (o ∷ os) n is = go (o.block) is where
   go Choice is = absurd (cc is)
   go (Alternative w) is = absurd (cc is)
 
-closes_inside : (place : Place) (m : ℕ) (body : List BodyLine) (os : List Open) (n : ℕ) → body_length os ≡ Some n → Fits place m body os → kept_length os ≡ lines_length body
+closes_inside : (place : Place) (m : ℕ) (body : List BodyLine) (os : List OpenedBlock) (n : ℕ) → body_length os ≡ Some n → Fits place m body os → kept_length os ≡ lines_length body
 closes_inside place m body [] n is h = absurd (cc is)
 closes_inside place m body (o ∷ os) n is h = ap kept_length (inside place m body (o ∷ os) (open_inside place m body o os h) h).1
 
@@ -479,7 +479,7 @@ some_hart : (n : ℕ) → not (eqb n 0) ≡ true → 1 ≤ n
 some_hart n h = omega (arith, eqb-false n 0 (not_true _ h))
 
 -- a hart has ended where a text may end
-close_last : (k : Known) (os : List Open) → os ≡ [] → 1 ≤ length k.harts → 1 ≤ length (closed_in k os).harts
+close_last : (k : Known) (os : List OpenedBlock) → os ≡ [] → 1 ≤ length k.harts → 1 ≤ length (closed_in k os).harts
 close_last k [] none h = h
 close_last k (o ∷ os) none h = absurd (cc none)
 
@@ -501,7 +501,7 @@ other_words k line (Data a w) bytes ts at spells =
     let long : 8 ≤ length (uncommented bytes) = data_is_long (uncommented bytes) a w (at ∙ ap (λ (x : List Token). Some x) spells) in
     omega (arith, one_longer (number a) (number w) k.words, long, length-take (length_until 35 bytes) bytes)
 other_words k line Close bytes ts at spells = omega (arith, ap (λ (es : List (ℕ × ℕ)). length es) (closed k.blocks)) where
-  closed : (os : List Open) → (closed_in k os).words ≡ k.words
+  closed : (os : List OpenedBlock) → (closed_in k os).words ≡ k.words
   closed [] = refl
   closed (o ∷ os) = go (o.block) refl where
     go : (b : Block) → o.block ≡ b → (closed_in k (o ∷ os)).words ≡ k.words

@@ -15,7 +15,7 @@ use Rattle.tpl_ast.specs.Bodies.{BodyLine, Leaf, FetchFault, EnterSeq, EnterRepe
 use Rattle.tpl_ast.specs.Choices.{all_true, all_ways, can_pick, fit_in, is_fit, weight_of}
 use Rattle.tpl_ast.specs.Leaves.{is_leaf}
 use Rattle.tpl_ast.specs.Lengths.{length_of_body, saturated}
-use Rattle.tpl_lang.specs.Known.{Alternative, Choice, Open, Sequence, Times}
+use Rattle.tpl_lang.specs.Known.{Alternative, Choice, OpenedBlock, Sequence, Times}
 use Rattle.tpl_lang.specs.Faults.{is_closable, ways_in}
 use Rattle.tpl_lang.specs.Statements.{opened_as}
 use Rattle.tpl_ast.specs.Templates.{are_weights, is_fetch_outcome, stands, stands_in}
@@ -28,7 +28,7 @@ and_true a b h k = rw (h, k) refl
 
 -- ---- lines
 
-abbrev pub line_fits : ℕ → BodyLine → List Open → Bool
+abbrev pub line_fits : ℕ → BodyLine → List OpenedBlock → Bool
 line_fits n (Leaf line wishes) os = is_leaf n wishes
 line_fits n (FetchFault line causes) os = list_all is_fetch_outcome causes
 line_fits n (EnterRepeat times) os = leb times 8192
@@ -38,11 +38,11 @@ line_fits n Leave os = is_closable os
 line_fits n EnterSeq os = true
 line_fits n (EnterChoose line) os = true
 
-abbrev pub lines_fit : ℕ → List BodyLine → List Open → Bool
+abbrev pub lines_fit : ℕ → List BodyLine → List OpenedBlock → Bool
 lines_fit n [] os = true
 lines_fit n (l ∷ lines) os = line_fits n l os && lines_fit n lines (counted l os)
 
-pub fit_both : (n : ℕ) (xs ys : List BodyLine) (os : List Open) → lines_fit n (xs ++ ys) os ≡ true → (lines_fit n xs os ≡ true) × (lines_fit n ys (counted_all xs os) ≡ true)
+pub fit_both : (n : ℕ) (xs ys : List BodyLine) (os : List OpenedBlock) → lines_fit n (xs ++ ys) os ≡ true → (lines_fit n xs os ≡ true) × (lines_fit n ys (counted_all xs os) ≡ true)
 fit_both n [] ys os h = (refl, h)
 fit_both n (x ∷ xs) ys os h =
     let a = both_true (line_fits n x os) _ h in
@@ -50,7 +50,7 @@ fit_both n (x ∷ xs) ys os h =
     (and_true _ _ a.0 b.0, b.1)
 
 -- a line more
-pub fit_more : (n : ℕ) (xs : List BodyLine) (l : BodyLine) (os : List Open) → lines_fit n xs os ≡ true → line_fits n l (counted_all xs os) ≡ true → lines_fit n (xs ++ l ∷ []) os ≡ true
+pub fit_more : (n : ℕ) (xs : List BodyLine) (l : BodyLine) (os : List OpenedBlock) → lines_fit n xs os ≡ true → line_fits n l (counted_all xs os) ≡ true → lines_fit n (xs ++ l ∷ []) os ≡ true
 fit_more n [] l os h is = and_true _ _ is refl
 fit_more n (x ∷ xs) l os h is =
     let a = both_true (line_fits n x os) _ h in
@@ -59,16 +59,16 @@ fit_more n (x ∷ xs) l os h is =
 -- ---- items
 
 abbrev Stands : Item → Type 0
-Stands i = (n : ℕ) (os : List Open) → lines_fit n (lines_of_item i) os ≡ true → stands n i ≡ true
+Stands i = (n : ℕ) (os : List OpenedBlock) → lines_fit n (lines_of_item i) os ≡ true → stands n i ≡ true
 
-items_stand : (es : List (Proved Stands)) (n : ℕ) (os : List Open) → lines_fit n (lines_of_body (items_of es)) os ≡ true → all_true (map (stands n) (items_of es)) ≡ true
+items_stand : (es : List (Proved Stands)) (n : ℕ) (os : List OpenedBlock) → lines_fit n (lines_of_body (items_of es)) os ≡ true → all_true (map (stands n) (items_of es)) ≡ true
 items_stand [] n os h = refl
 items_stand (e ∷ es) n os h =
     let a = fit_both n (lines_of_item e.0) (lines_of_body (items_of es)) os h in
     and_true _ _ (e.1 n os a.0) (items_stand es n (counted_all (lines_of_item e.0) os) a.1)
 
 -- with the brace behind them
-block_stands : (es : List (Proved Stands)) (n : ℕ) (os : List Open) → lines_fit n (lines_of_body (items_of es) ++ Leave ∷ []) os ≡ true → all_true (map (stands n) (items_of es)) ≡ true
+block_stands : (es : List (Proved Stands)) (n : ℕ) (os : List OpenedBlock) → lines_fit n (lines_of_body (items_of es) ++ Leave ∷ []) os ≡ true → all_true (map (stands n) (items_of es)) ≡ true
 block_stands es n os h = items_stand es n os (fit_both n (lines_of_body (items_of es)) (Leave ∷ []) os h).0
 
 -- ---- choices
@@ -89,7 +89,7 @@ weight_known weighted w rest h is = go (ltb 0 w) refl where
 ways_stand : (g : ℕ × Vec Item Global → ℕ × Vec (List BodyLine) Global) (k : ℕ × Vec Item Global → ℕ × Vec Bool Global) (h : ℕ × Vec (Proved Stands) Global → ℕ × Vec Item Global)
     → (n : ℕ) → ((v : ℕ × Vec Item Global) → (g v).1.items ≡ map lines_of_item v.1.items) → ((v : ℕ × Vec Item Global) → (k v).1.items ≡ map (stands n) v.1.items)
     → ((w : ℕ × Vec (Proved Stands) Global) → (h w).1.items ≡ items_of w.1.items) → ((v : ℕ × Vec Item Global) → (g v).0 ≡ v.0) → ((v : ℕ × Vec Item Global) → (k v).0 ≡ v.0)
-    → (ws : List (ℕ × Vec (Proved Stands) Global)) (longest ways : ℕ) (weighted : Bool) (os : List Open)
+    → (ws : List (ℕ × Vec (Proved Stands) Global)) (longest ways : ℕ) (weighted : Bool) (os : List OpenedBlock)
     → lines_fit n (lines_of_ways (map g (map h ws))) (choice longest ways weighted ∷ os) ≡ true
     → is_closable (counted_all (lines_of_ways (map g (map h ws))) (choice longest ways weighted ∷ os)) ≡ true
     → WaysStand ways weighted (map k (map h ws))
@@ -104,17 +104,17 @@ ways_stand g k h n lines bools items gw kw (w ∷ ws) longest ways weighted os f
     let body : List BodyLine = joined (g (h w)).1.items in
     let rest : List BodyLine = lines_of_ways (map g (map h ws)) in
     let size : ℕ = saturated (length_of_body (items_of w.1.items)) in
-    let stack : List Open = opened_as (Alternative weight) ∷ choice longest ways weighted ∷ os in
-    let next : List Open = choice (max longest size) (ways + 1) (weighted || ltb 0 weight) ∷ os in
+    let stack : List OpenedBlock = opened_as (Alternative weight) ∷ choice longest ways weighted ∷ os in
+    let next : List OpenedBlock = choice (max longest size) (ways + 1) (weighted || ltb 0 weight) ∷ os in
     let a = both_true (leb weight 65535 && ltb ways 64) _ fits in
     let small = both_true (leb weight 65535) (ltb ways 64) a.0 in
     let b = fit_both n body (Leave ∷ rest) stack a.1 in
     let inner : (g (h w)).1.items ≡ map lines_of_item (items_of w.1.items) = lines (h w) ∙ ap (map lines_of_item) (items w) in
     let same : body ≡ lines_of_body (items_of w.1.items) = ap joined inner in
     let left : counted_all body stack ≡ made (Alternative weight) size ∷ choice longest ways weighted ∷ os = ap (λ (xs : List BodyLine). counted_all xs stack) same ∙ body_in_block (items_of w.1.items) (Alternative weight) (choice longest ways weighted ∷ os) in
-    let c = both_true (is_closable (made (Alternative weight) size ∷ choice longest ways weighted ∷ os)) (lines_fit n rest next) (subst (λ (st : List Open). lines_fit n (Leave ∷ rest) st ≡ true) left b.1) in
+    let c = both_true (is_closable (made (Alternative weight) size ∷ choice longest ways weighted ∷ os)) (lines_fit n rest next) (subst (λ (st : List OpenedBlock). lines_fit n (Leave ∷ rest) st ≡ true) left b.1) in
     let behind : counted_all (body ++ Leave ∷ rest) stack ≡ counted_all rest next = counted_both body (Leave ∷ rest) stack ∙ ap (counted_all (Leave ∷ rest)) left in
-    let more = ways_stand g k h n lines bools items gw kw ws (max longest size) (ways + 1) (weighted || ltb 0 weight) os c.1 (subst (λ (st : List Open). is_closable st ≡ true) behind ends) in
+    let more = ways_stand g k h n lines bools items gw kw ws (max longest size) (ways + 1) (weighted || ltb 0 weight) os c.1 (subst (λ (st : List OpenedBlock). is_closable st ≡ true) behind ends) in
     let own : all_true (map (stands n) (items_of w.1.items)) ≡ true = items_stand w.1.items n stack (subst (λ (xs : List BodyLine). lines_fit n xs stack ≡ true) same b.0) in
     let told : (k (h w)).1.items ≡ map (stands n) (items_of w.1.items) = bools (h w) ∙ ap (map (stands n)) (items w) in
     let weights : (k (h w)).0 ≡ weight = kw (h w) ∙ sym (gw (h w)) in
@@ -139,7 +139,7 @@ alone false h = absurd (cc h)
 choice_holds : (g : ℕ × Vec Item Global → ℕ × Vec (List BodyLine) Global) (k : ℕ × Vec Item Global → ℕ × Vec Bool Global) (h : ℕ × Vec (Proved Stands) Global → ℕ × Vec Item Global)
     → (n : ℕ) → ((v : ℕ × Vec Item Global) → (g v).1.items ≡ map lines_of_item v.1.items) → ((v : ℕ × Vec Item Global) → (k v).1.items ≡ map (stands n) v.1.items)
     → ((w : ℕ × Vec (Proved Stands) Global) → (h w).1.items ≡ items_of w.1.items) → ((v : ℕ × Vec Item Global) → (g v).0 ≡ v.0) → ((v : ℕ × Vec Item Global) → (k v).0 ≡ v.0)
-    → (ws : List (ℕ × Vec (Proved Stands) Global)) (os : List Open) → lines_fit n (lines_of_ways (map g (map h ws)) ++ Leave ∷ []) (opened_as Choice ∷ os) ≡ true
+    → (ws : List (ℕ × Vec (Proved Stands) Global)) (os : List OpenedBlock) → lines_fit n (lines_of_ways (map g (map h ws)) ++ Leave ∷ []) (opened_as Choice ∷ os) ≡ true
     → leb 1 (weight_of (map k (map h ws))) && (leb (length (map k (map h ws))) 64 && (are_weights (map k (map h ws)) && all_ways (map k (map h ws)))) ≡ true
 choice_holds g k h n lines bools items gw kw ws os fits =
     let a = fit_both n (lines_of_ways (map g (map h ws))) (Leave ∷ []) (opened_as Choice ∷ os) fits in
@@ -147,7 +147,7 @@ choice_holds g k h n lines bools items gw kw ws os fits =
 
 -- ---- every item
 
-stands_by : (z : Item-F Item) → ((n : ℕ) (os : List Open) → lines_fit n (lines_in (map-Item _ _ lines_of_item z)) os ≡ true → stands_in n (map-Item _ _ (stands n) z) ≡ true) → Stands (roll-Item z)
+stands_by : (z : Item-F Item) → ((n : ℕ) (os : List OpenedBlock) → lines_fit n (lines_in (map-Item _ _ lines_of_item z)) os ≡ true → stands_in n (map-Item _ _ (stands n) z) ≡ true) → Stands (roll-Item z)
 stands_by z same n os h =
     fold-roll-Item Bool (stands_in n) z
     ∙ same n os (subst (λ (lines : List BodyLine). lines_fit n lines os ≡ true) (fold-roll-Item (List BodyLine) lines_in z) h)
@@ -166,7 +166,7 @@ step x (layers.Choose line ways) is = subst (λ (z : Item-F Item). Stands (roll-
 item_stands : (i : Item) → Stands i
 item_stands = ind-Item Stands step
 
-pub body_stands : (n : ℕ) (items : List Item) (os : List Open) → lines_fit n (lines_of_body items) os ≡ true → all_true (map (stands n) items) ≡ true
+pub body_stands : (n : ℕ) (items : List Item) (os : List OpenedBlock) → lines_fit n (lines_of_body items) os ≡ true → all_true (map (stands n) items) ≡ true
 body_stands n items os h =
     subst (λ (is : List Item). all_true (map (stands n) is) ≡ true) (items_back item_stands items)
     (items_stand (proved item_stands items) n os (subst (λ (is : List Item). lines_fit n (lines_of_body is) os ≡ true) (sym (items_back item_stands items)) h))

@@ -23,7 +23,7 @@ use Rattle.tpl_lang.specs.declared.phrase.Element.TheVariants.{One, Range}
 use Rattle.tpl_lang.specs.declared.phrase.OutcomeElement.{OutcomeElement}
 use Rattle.tpl_lang.specs.declared.phrase.OutcomeElement.TheVariants.{Retire, Cause}
 use Rattle.tpl_ast.specs.Templates.{holds, is_number_among, size_of}
-use Rattle.tpl_lang.specs.Known.{Block, Whole, Times, Choice, Open, Place, Head, Begin, Settings, Inside, Ended, Known, name_among, is_declared}
+use Rattle.tpl_lang.specs.Known.{Block, Whole, Times, Choice, OpenedBlock, Place, Head, Begin, Settings, Inside, Ended, Known, name_among, is_declared}
 
 -- Kind 1, a byte that is not allowed, is told by `is_bad_byte` of `Lines`, before a statement is read.
 
@@ -57,17 +57,17 @@ abbrev pub is_choice : Block → Bool
 is_choice Choice = true
 is_choice _ = false
 
-abbrev pub is_repeat : Open → Bool
+abbrev pub is_repeat : OpenedBlock → Bool
 is_repeat o = elim (o.block) [
   | Times n ↦ true
   | _ ↦ false
 ]
 
-abbrev pub is_in_choice : List Open → Bool
+abbrev pub is_in_choice : List OpenedBlock → Bool
 is_in_choice [] = false
 is_in_choice (o ∷ os) = is_choice o.block
 
-abbrev pub takes_items : List Open → Bool
+abbrev pub takes_items : List OpenedBlock → Bool
 takes_items [] = false
 takes_items (o ∷ os) = not (is_choice o.block)
 
@@ -76,7 +76,7 @@ abbrev pub is_item_place : Known → Bool
 is_item_place k = is_inside k.place && takes_items k.blocks
 
 -- the innermost block can be closed: a choice needs an alternative, and a weight
-abbrev pub is_closable : List Open → Bool
+abbrev pub is_closable : List OpenedBlock → Bool
 is_closable [] = true
 is_closable (o ∷ os) = not (is_choice o.block) || (nat_lt 0 o.ways && o.weighted)
 
@@ -286,7 +286,7 @@ is_deep k p = opens p && nat_lt most_blocks (length k.blocks)
 
 -- ---- kind 9: the brace closes the body, and the length over all harts is above that of a test
 
-abbrev pub body_length : List Open → Option ℕ
+abbrev pub body_length : List OpenedBlock → Option ℕ
 body_length [] = None
 body_length (o ∷ os) = elim (o.block) [
   | Whole ↦ Some (o.length)
@@ -327,7 +327,7 @@ is_phrase_long (Do ws) = nat_lt most_atoms (length ws) || list_any is_wish_long 
 is_phrase_long (Fault os) = nat_lt most_elements (length os)
 is_phrase_long _ = false
 
-abbrev pub ways_in : List Open → ℕ
+abbrev pub ways_in : List OpenedBlock → ℕ
 ways_in [] = 0
 ways_in (o ∷ os) = o.ways
 

@@ -16,7 +16,7 @@ pub data Block : Type 0 where
   Alternative : ℕ → Block  -- its weight
 
 -- a block that is open: its length so far, of a choice that of the longest alternative; of a choice how many alternatives are closed, and whether one of them has a weight
-pub record Open : Type 0 where
+pub record OpenedBlock : Type 0 where
   pub block : Block
   pub length : ℕ
   pub ways : ℕ
@@ -50,7 +50,7 @@ pub record Known : Type 0 where
   pub given : List (ℕ × ℕ)
   pub body : List BodyLine
   -- its open blocks, innermost first
-  pub blocks : List Open
+  pub blocks : List OpenedBlock
 
 -- before the first line
 abbrev pub nothing : Known

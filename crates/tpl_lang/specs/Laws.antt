@@ -81,14 +81,14 @@ TemplatesKeepLimits = (text : List ℕ) (t : Template) → Parses text t → Kee
 abbrev pub LeavesAreKnown : Type 0
 LeavesAreKnown = (count : ℕ) (ws : List Wish) → is_leaf count ws ≡ true → IsLeaf count (atoms_of ws)
 
--- ---- the lengths that bodies are line_parsed by
+-- ---- the lengths that bodies are judged by
 
 -- what can be known: nothing before the first line, and what is known behind a line that has no fault there
 pub data IsReached : Known → Type 0 where
   Before : IsReached nothing
   Behind : (k next : Known) (line : ℕ) (bytes : List ℕ) (last : Bool) → IsReached k → line_parsed k line bytes last ≡ Ok next → IsReached next
 
--- the length by which a brace that closes a body is line_parsed is that of the items whose lines stand in it, and that of the ended harts is theirs together
+-- the length by which a brace that closes a body is judged is that of the items whose lines stand in it, and that of the ended harts is theirs together
 pub record KeepsLengths (k : Known) : Type 0 where
   pub body : (items : List Item) (n : ℕ) → body_length k.blocks ≡ Some n → lines_of_body items ≡ k.body → n ≡ saturated (length_of_body items)
   pub harts : (hs : List HartDecl) → map hart_lines hs ≡ k.harts → k.length ≡ saturated (length_of_harts hs)
@@ -110,7 +110,7 @@ StatementsAreSpelled = (tokens : List Token) (p : Phrase) → (statement_of toke
 
 -- ---- the least kind
 
--- a statement has a fault of the kind; that its bytes are allowed was line_parsed before
+-- a statement has a fault of the kind; that its bytes are allowed was judged before
 abbrev pub has_fault : Known → Bool → Phrase → Kind → Bool
 has_fault k last p kinds.BadByte = false
 has_fault k last p kinds.Unexpected = not (allows k p) || (last && not (is_last k p))

@@ -11,24 +11,24 @@ use Rattle.tpl_ast.specs.Bodies.{BodyLine, Leaf, FetchFault, EnterSeq, EnterRepe
 use Rattle.tpl_ast.specs.Lengths.{saturated}
 use Rattle.tpl_lang.specs.Sets.{number, resolved, domain_of, outcome_number, points, listed, fours}
 use Rattle.tpl_lang.specs.Words.{csr_of}
-use Rattle.tpl_lang.specs.Known.{Block, Whole, Sequence, Times, Choice, Alternative, Open, Head, Begin, Settings, Inside, Ended, Known, index_among}
+use Rattle.tpl_lang.specs.Known.{Block, Whole, Sequence, Times, Choice, Alternative, OpenedBlock, Head, Begin, Settings, Inside, Ended, Known, index_among}
 use Rattle.tpl_lang.specs.Faults.{key_of_csr}
 
 -- ---- lengths: a leaf is 1, a label 0, a sequence the sum, a repeat its times by its body, at least 1, a choice 1 and its longest alternative
 
-abbrev pub longer : ℕ → Open → Open
+abbrev pub longer : ℕ → OpenedBlock → OpenedBlock
 longer n o = record o { length = saturated (o.length + n) }
 
-abbrev pub add_length : ℕ → List Open → List Open
+abbrev pub add_length : ℕ → List OpenedBlock → List OpenedBlock
 add_length n [] = []
 add_length n (o ∷ os) = longer n o ∷ os
 
-abbrev pub add_way : ℕ → ℕ → List Open → List Open
+abbrev pub add_way : ℕ → ℕ → List OpenedBlock → List OpenedBlock
 add_way w n [] = []
 add_way w n (o ∷ os) = record { block = o.block; length = max o.length n; ways = o.ways + 1; weighted = o.weighted || nat_lt 0 w } ∷ os
 
 -- the blocks around one that is closed
-abbrev pub closing : Block → ℕ → List Open → List Open
+abbrev pub closing : Block → ℕ → List OpenedBlock → List OpenedBlock
 closing Whole n os = os
 closing Sequence n os = add_length n os
 closing (Times times) n os = add_length (saturated (times * max 1 n)) os
@@ -65,14 +65,14 @@ with_line k l = record k { body = k.body ++ l ∷ [] }
 abbrev pub with_item : Known → BodyLine → ℕ → Known
 with_item k l n = let next = with_line k l in record next { blocks = add_length n k.blocks }
 
-abbrev pub opened_as : Block → Open
+abbrev pub opened_as : Block → OpenedBlock
 opened_as block = record { block = block; length = 0; ways = 0; weighted = false }
 
 abbrev pub with_block : Known → BodyLine → Block → Known
 with_block k l block = let next = with_line k l in record next { blocks = opened_as block ∷ k.blocks }
 
 -- a block inside the body is closed
-abbrev pub without_block : Known → Open → List Open → Known
+abbrev pub without_block : Known → OpenedBlock → List OpenedBlock → Known
 without_block k o os = let next = with_line k Leave in record next { blocks = closing o.block o.length os }
 
 abbrev pub value_at : List (ℕ × ℕ) → ℕ → ℕ
@@ -108,13 +108,13 @@ with_hart k n = record k {
   blocks = [];
 }
 
-abbrev pub closed_block : Known → Open → List Open → Known
+abbrev pub closed_block : Known → OpenedBlock → List OpenedBlock → Known
 closed_block k o os = elim (o.block) [
   | Whole ↦ with_hart k (o.length)
   | _ ↦ without_block k o os
 ]
 
-abbrev pub closed_in : Known → List Open → Known
+abbrev pub closed_in : Known → List OpenedBlock → Known
 closed_in k [] = record k { place = Head }
 closed_in k (o ∷ os) = closed_block k o os
 

@@ -15,7 +15,7 @@ use Rattle.tpl_ast.specs.declared.template.Item.TheFolds.{fold-roll-Item}
 use Rattle.tpl_ast.specs.declared.template.Wish.{Wish}
 use Rattle.tpl_ast.specs.Bodies.{BodyLine, Leaf, FetchFault, EnterSeq, EnterRepeat, EnterChoose, EnterWay, LabelOf, Leave, lines_in, lines_of_body, lines_of_item, lines_of_ways}
 use Rattle.tpl_lang.specs.Known as language
-use Rattle.tpl_lang.specs.Known.{Open, Whole}
+use Rattle.tpl_lang.specs.Known.{OpenedBlock, Whole}
 use Rattle.tpl_lang.specs.Faults.{is_repeat}
 use Rattle.tpl_state.specs.declared.body.Block.TheVariants as blocks
 use Rattle.tpl_state.specs.declared.body.OpenBlock.{OpenBlock}
@@ -33,11 +33,11 @@ pub open_push : (bs : List OpenBlock) (b : OpenBlock) → lines_of_open (bs ++ b
 open_push [] b = append-nil (lines_of_block b.block)
 open_push (x ∷ bs) b = ap (λ (s : List BodyLine). lines_of_block x.block ++ s) (open_push bs b) ∙ sym (append_assoc (lines_of_block x.block) (lines_of_open bs) (lines_of_block b.block))
 
-pub stacked_push : (bs : List OpenBlock) (b : OpenBlock) (os : List Open) → stacked (bs ++ b ∷ []) os ≡ open_of b ∷ stacked bs os
+pub stacked_push : (bs : List OpenBlock) (b : OpenBlock) (os : List OpenedBlock) → stacked (bs ++ b ∷ []) os ≡ open_of b ∷ stacked bs os
 stacked_push [] b os = refl
 stacked_push (x ∷ bs) b os = stacked_push bs b (open_of x ∷ os)
 
-pub stacked_length : (bs : List OpenBlock) (os : List Open) → length (stacked bs os) ≡ length bs + length os
+pub stacked_length : (bs : List OpenBlock) (os : List OpenedBlock) → length (stacked bs os) ≡ length bs + length os
 stacked_length [] os = omega arith
 stacked_length (b ∷ bs) os = stacked_length bs (open_of b ∷ os) ∙ omega arith
 
@@ -77,7 +77,7 @@ pub weighted_push : (ws : List (ℕ × Vec Item Global)) (w : ℕ × Vec Item Gl
 weighted_push [] w = or-false (nat_lt 0 w.0)
 weighted_push (v ∷ ws) w = ap (λ (b : Bool). nat_lt 0 v.0 || b) (weighted_push ws w) ∙ sym (or_assoc (nat_lt 0 v.0) (list_any (λ v. nat_lt 0 v.0) ws) (nat_lt 0 w.0))
 
-outermost : (os : List Open) → fits_in Whole os ≡ true → os ≡ []
+outermost : (os : List OpenedBlock) → fits_in Whole os ≡ true → os ≡ []
 outermost [] h = refl
 outermost (o ∷ os) h = absurd cc
 
@@ -111,7 +111,7 @@ moved true false z = refl
 moved false true z = refl
 moved false false z = refl
 
-any_stacked : (bs : List OpenBlock) (os : List Open) → list_any is_repeat (stacked bs os) ≡ (list_any (λ b. is_repeat (open_of b)) bs || list_any is_repeat os)
+any_stacked : (bs : List OpenBlock) (os : List OpenedBlock) → list_any is_repeat (stacked bs os) ≡ (list_any (λ b. is_repeat (open_of b)) bs || list_any is_repeat os)
 any_stacked [] os = refl
 any_stacked (b ∷ bs) os = any_stacked bs (open_of b ∷ os) ∙ moved (list_any (λ b. is_repeat (open_of b)) bs) (is_repeat (open_of b)) (list_any is_repeat os)
 

@@ -12,7 +12,7 @@ use Rattle.sv_walk.specs.Translation.{is_translated, root_address, second_addres
 use Rattle.row_parts.specs.declared.row.Row.{Row}
 use Rattle.row_parts.specs.declared.row.RowEnd.{RowEnd}
 use Rattle.row_parts.specs.declared.row.RowEnd.TheVariants.{Pa, Fault, Outside}
-use Rattle.row_parts.specs.Internal.Classes.{seen_at}
+use Rattle.row_parts.specs.Classes.{seen_at}
 use Rattle.row_parts.specs.Gaps.{counts}
 use Rattle.addr_rows.specs.Walks.{has_value}
 use Rattle.fetch_ways.specs.Ways.{is_free_walk}

@@ -10,7 +10,7 @@ use Rattle.gen_search.specs.declared.walk.Leaf.{Leaf}
 use Rattle.gen_search.specs.declared.walk.Walk.{Walk}
 use Rattle.gen_search.specs.Search.{ComesTo, Dead, Outcome, Rules, SearchResult, Tries, Walks, WalksFrom, draw_made, in_turn}
 use Rattle.gen_search.specs.Fit.{AreFit}
-use Rattle.gen_search.specs.Internal.Places.{AreMarked, AreOpen, Inside, laid}
+use Rattle.gen_search.specs.Places.{AreMarked, AreOpen, Inside, laid}
 
 -- everything that is kept of a walk where the number of the whole that stands is known
 pub record IsWell (high : ℕ) (w : Walk) : Type 0 where

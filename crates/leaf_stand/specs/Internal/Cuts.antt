@@ -6,7 +6,7 @@ use Rattle.tpl_ast.specs.declared.template.Var.TheVariants as vars
 use Rattle.fd_prob.specs.declared.slot.Slot.{Slot}
 use Rattle.fd_prob.specs.declared.slot.Slot.TheVariants as slots
 use Rattle.fd_prob.specs.Slots.{slot_number}
-use Rattle.leaf_link.specs.Internal.Problems.{bias_cut}
+use Rattle.leaf_link.specs.Problems.{bias_cut}
 use Rattle.leaf_link.specs.Extras.{passes_cuts}
 use Rattle.leaf_stand.specs.declared.stand.Stand.{Stand}
 use Rattle.leaf_stand.specs.Stands.{turn_of}

@@ -10,11 +10,11 @@ use Rattle.fd_prob.specs.declared.slot.Slot.{Slot}
 use Rattle.fd_prob.specs.declared.slot.Slot.TheVariants as slots
 use Rattle.fd_prob.specs.declared.slot.TheConstants.{SLOTS}
 use Rattle.data_goals.specs.declared.accesses.Accesses.{Accesses}
-use Rattle.leaf_link.specs.Values.{has_address}
+use Rattle.rv_isa.specs.Fields.{has_address}
 use Rattle.rv_isa.specs.Numbers.{op_number}
 use Rattle.leaf_link.specs.Firsts.{IsDomain, first_domain}
 use Rattle.leaf_stand.specs.declared.stand.Stand.{Stand}
-use Rattle.leaf_stand.specs.Internal.Sets.{AreEach}
+use Rattle.leaf_stand.specs.Sets.{AreEach}
 use Rattle.leaf_stand.specs.Stands.{turn_of}
 
 -- new page table entries, where they are told; 0 alone where they are not

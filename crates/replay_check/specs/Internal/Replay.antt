@@ -8,9 +8,9 @@ use Rattle.tpl_admit.specs.declared.certificate.Cert.{Cert}
 use Rattle.tpl_ast.specs.declared.template.HartState.{HartState}
 use Rattle.tpl_admit.specs.Starts.{start_of, trace_of, is_given}
 use Rattle.tpl_admit.specs.Solo.{solo, solo_run, knows_also, knows_after, IsRight, AreRight}
-use Rattle.replay_check.specs.Failures.{IsWrong, GoesWrong, AllAreRight, AllEndAsTold}
+use Rattle.replay_check.specs.Failures.{IsWrong, GoesWrong, AllAreRight, AllEndAsPrinted}
 use Rattle.tpl_admit.specs.Validity.{EndsAsPrinted, MemoryEndsAsPrinted}
-use Rattle.given_start.specs.Internal.Knowledge.{knows_of, whole_of}
+use Rattle.given_start.specs.Knowledge.{knows_of, whole_of}
 use Rattle.replay_check.specs.Internal.Memory.{AreInWords}
 
 -- two records are the same, field by field
@@ -73,6 +73,6 @@ pub record IsFixedTold (s : HartState) (k : ℕ) (h : Hart) : Type 0 where
 -- each hart alone does what is printed, and harts and memory end as is printed
 pub record IsReplayed (c : Cert) : Type 0 where
   pub steps : AllAreRight c
-  pub ends : AllEndAsTold c
+  pub ends : AllEndAsPrinted c
   pub memory : MemoryEndsAsPrinted c
   pub words : (k : ℕ) → AreInWords (trace_of c k)

@@ -9,7 +9,7 @@ use Rattle.tpl_ast.specs.declared.template.Region.{Region}
 use Rattle.tpl_ast.specs.States.{is_key, is_in_ram}
 use Rattle.tpl_admit.specs.declared.certificate.Cert.{Cert}
 use Rattle.tpl_admit.specs.Starts.{fixed_in, start_of, lookup}
-use Rattle.given_start.specs.Internal.Knowledge.{known_of, knows_of, fixed_now}
+use Rattle.given_start.specs.Knowledge.{known_of, knows_of, fixed_now}
 use Rattle.rv_system.specs.Fills.{even_place, filled}
 
 -- a hart with this number has the fixed parts and the places of a state, and the fill in all others

@@ -1,7 +1,7 @@
 -- Runs but for the numbers that a second pattern matches, and lists of such pieces.
 use Rattle.std.specs.Prelude.{◌≡◌, ℕ, ◌+◌, ◌-◌, ◌%◌, ◌^◌, ◌<◌, ◌≤◌, Bool, false, ◌&&◌, not, List, [], ◌∷◌, length, drop, get_or, Option, Some, None, IsNone}
 use Rattle.std.specs.List.{list_any}
-use Rattle.set_pieces.specs.Internal.Counting.{one}
+use Rattle.set_pieces.specs.Counting.{one}
 use Rattle.set_pieces.specs.Internal.Patterns.{is_matched}
 use Rattle.set_pieces.specs.Internal.Runs.{in_run}
 use Rattle.set_pieces.specs.declared.piece.Piece.{Piece}

@@ -2,7 +2,7 @@ use Rattle.std.proofs.Common.{◌/◌, ◌&&◌, Bool, take, get_or, nat_eq, sym
 use Rattle.std.proofs.lemmas.List.Folds.{list_any_more}
 use Rattle.dom_set.specs.Elements.{is_in}
 use Rattle.foot_map.specs.Races.{is_blocked}
-use Rattle.data_bytes.specs.Frames.{in_frames}
+use Rattle.rv_mem.specs.Frames.{in_frames}
 use Rattle.data_bytes.proofs.Framing.{shared}
 use Rattle.data_bytes.proofs.barred.barred.Goals as goal
 

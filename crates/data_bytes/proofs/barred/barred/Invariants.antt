@@ -1,7 +1,7 @@
 use Rattle.std.proofs.Common.{◌≡◌, ◌&&◌, ◌<◌, ◌^◌, ℕ, take}
 use Rattle.dom_set.specs.Elements.{is_in}
 use Rattle.foot_map.specs.Races.{is_blocked}
-use Rattle.data_bytes.specs.Frames.{in_frames}
+use Rattle.rv_mem.specs.Frames.{in_frames}
 use Rattle.data_bytes.proofs.barred.barred.Given as goal
 
 abbrev pub invariant-loop-frame : goal.invariant-loop-frame

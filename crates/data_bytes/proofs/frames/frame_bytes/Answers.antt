@@ -1,7 +1,7 @@
 use Rattle.std.proofs.Common.{◌≡◌, ◌∙◌, arith}
 use Rattle.std.proofs.lemmas.Grind.{common_steps}
 use Rattle.dom_set.specs.Elements.{is_within}
-use Rattle.data_bytes.specs.Frames.{in_frames}
+use Rattle.rv_mem.specs.Frames.{in_frames}
 use Rattle.data_bytes.proofs.Sets.{runs_are}
 use Rattle.data_bytes.proofs.frames.frame_bytes.Goals as goal
 

@@ -1,6 +1,6 @@
 use Rattle.std.proofs.Common.{◌≡◌, ℕ, take}
 use Rattle.dom_set.specs.Elements.{is_within}
-use Rattle.data_bytes.specs.Frames.{in_frames}
+use Rattle.rv_mem.specs.Frames.{in_frames}
 use Rattle.data_bytes.proofs.frames.frame_bytes.Given as goal
 
 abbrev pub invariant-loop-frame : goal.invariant-loop-frame

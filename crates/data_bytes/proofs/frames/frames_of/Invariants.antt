@@ -1,6 +1,7 @@
 use Rattle.std.proofs.Common.{◌≡◌, ℕ, take}
 use Rattle.std.specs.List.{list_any}
-use Rattle.data_bytes.specs.Frames.{in_frames, in_frames_from, AreFrames}
+use Rattle.rv_mem.specs.Frames.{in_frames}
+use Rattle.data_bytes.specs.Frames.{in_frames_from, AreFrames}
 use Rattle.data_bytes.proofs.frames.frames_of.Given as goal
 
 abbrev pub invariant-loop-run : goal.invariant-loop-run

@@ -1,5 +1,5 @@
 use Rattle.std.proofs.Common.{◌/◌, ◌||◌, Bool, ap, ◌∙◌, arith}
-use Rattle.data_bytes.specs.Frames.{in_frames}
+use Rattle.rv_mem.specs.Frames.{in_frames}
 use Rattle.data_bytes.proofs.Framing.{cut_at}
 use Rattle.data_bytes.proofs.frames.push_frames.Goals as goal
 

@@ -1,5 +1,6 @@
 use Rattle.std.proofs.Common.{◌≡◌, ◌+◌, ◌/◌, ◌<◌, ◌≤◌, ◌&&◌, ◌||◌, ℕ, leb, ltb}
-use Rattle.data_bytes.specs.Frames.{in_frames, AreFrames}
+use Rattle.rv_mem.specs.Frames.{in_frames}
+use Rattle.data_bytes.specs.Frames.{AreFrames}
 use Rattle.data_bytes.proofs.frames.push_frames.Given as goal
 
 abbrev pub invariant-loop-number : goal.invariant-loop-number

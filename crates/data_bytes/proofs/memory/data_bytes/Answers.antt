@@ -4,7 +4,7 @@ use Rattle.rv_script.specs.declared.access.Role.TheVariants.{Load, Store}
 use Rattle.foot_map.specs.Races.{is_blocked}
 use Rattle.rv_mem.specs.Part.{part_at}
 use Rattle.rv_mem.specs.Seen.{is_untouched}
-use Rattle.data_bytes.specs.Frames.{in_frames}
+use Rattle.rv_mem.specs.Frames.{in_frames}
 use Rattle.data_bytes.proofs.Seeing.{asked, and_true}
 use Rattle.data_bytes.proofs.memory.data_bytes.Goals as goal
 

@@ -1,5 +1,5 @@
 use Rattle.std.proofs.Common.{◌/◌, ◌&&◌, not, nat_eq}
-use Rattle.data_bytes.specs.Frames.{in_frames}
+use Rattle.rv_mem.specs.Frames.{in_frames}
 use Rattle.data_bytes.proofs.Sets.{left_of, minus_test}
 use Rattle.data_bytes.proofs.memory.fresh.Goals as goal
 

@@ -1,7 +1,7 @@
 use Rattle.std.proofs.Common.{◌/◌, ◌&&◌, Bool, not, nat_eq, ap, ◌∙◌}
 use Rattle.dom_set.specs.Elements.{is_in}
 use Rattle.rv_mem.specs.Part.{part_at}
-use Rattle.data_bytes.specs.Frames.{in_frames}
+use Rattle.rv_mem.specs.Frames.{in_frames}
 use Rattle.data_bytes.proofs.Sets.{runs_are}
 use Rattle.data_bytes.proofs.Seeing.{untouched_is}
 use Rattle.data_bytes.proofs.memory.seen_bytes.Goals as goal

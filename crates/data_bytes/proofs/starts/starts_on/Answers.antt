@@ -1,6 +1,6 @@
 use Rattle.std.proofs.Common.{◌≡◌, ℕ, sym, subst, arith}
 use Rattle.dom_set.specs.Elements.{is_in}
-use Rattle.data_bytes.specs.Starts.{any_byte}
+use Rattle.rv_script.specs.Bytes.{any_byte}
 use Rattle.data_bytes.proofs.Starting.{pair, four, is_four}
 use Rattle.data_bytes.proofs.starts.starts_on.Goals as goal
 

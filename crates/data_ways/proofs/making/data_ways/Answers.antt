@@ -6,7 +6,7 @@ use Rattle.row_parts.specs.Rows.{Adds, when}
 use Rattle.addr_rows.specs.Combinations.{ways}
 use Rattle.addr_rows.specs.Scenes.{setting_with}
 use Rattle.data_ways.specs.declared.barring.NewRoot.{NewRoot}
-use Rattle.data_ways.specs.Making.{rows_have}
+use Rattle.data_ways.specs.Internal.Making.{rows_have}
 use Rattle.data_ways.proofs.Collected.{collected}
 use Rattle.data_ways.proofs.making.data_ways.Goals as goal
 
@@ -26,9 +26,9 @@ returns g c = λ t ground.
       stores = c.rows_serve_leaves.ensures.stores;
     })
     (record {
-      tables = subst (λ (xs : List ℕ). All (λ t. t < 2 ^ 32) xs) c.deref.ensures.value c.words.ensures.tables;
-      pool = subst (λ (xs : List ℕ). All (λ p. p < 2 ^ 32) xs) c.deref-2.ensures.value c.words.ensures.pool;
-      flags = subst (λ (xs : List ℕ). All (λ b. b < 256) xs) c.deref-3.ensures.value c.words.ensures.flags;
+      tables = subst (λ (xs : List ℕ). All (λ t. t < 2 ^ 32) xs) c.deref.ensures.value c.form_law.ensures.tables;
+      pool = subst (λ (xs : List ℕ). All (λ p. p < 2 ^ 32) xs) c.deref-2.ensures.value c.form_law.ensures.pool;
+      flags = subst (λ (xs : List ℕ). All (λ b. b < 256) xs) c.deref-3.ensures.value c.form_law.ensures.flags;
     })
     c.requires
     (subst (λ (k : Kind). Adds [] c.in_ok-found.found.items (λ x root leaf. when (is_in c.args.pages.now x) (ways at (setting_with c.args.ram.now c.args.view k c.args.forms.now) x root leaf))) c.kind_of.ensures c.in_ok-found.ensures)

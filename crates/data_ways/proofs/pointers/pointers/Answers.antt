@@ -1,9 +1,9 @@
 use Rattle.std.proofs.Common.{ℕ, ◌≡◌, ◌/◌, ◌^◌, ◌∙◌, ◌&&◌, List, ap, sym, subst, arith}
 use Rattle.std.specs.List.{list_any}
 use Rattle.rv_mem.specs.declared.words.Seen.{Seen}
-use Rattle.row_parts.specs.Internal.Classes.{TableOf, has_class}
+use Rattle.row_parts.specs.Classes.{TableOf, has_class}
 use Rattle.row_parts.specs.Items.{GivesEach}
-use Rattle.data_ways.specs.Tables.{leads_on}
+use Rattle.data_ways.specs.Internal.Tables.{leads_on}
 use Rattle.data_ways.proofs.Parted.{pointed}
 use Rattle.data_ways.proofs.pointers.pointers.Goals as goal
 

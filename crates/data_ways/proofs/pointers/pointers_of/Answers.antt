@@ -1,6 +1,6 @@
 use Rattle.std.proofs.Common.{◌/◌, ◌^◌, ◌&&◌}
-use Rattle.row_parts.specs.Internal.Classes.{has_class}
-use Rattle.data_ways.specs.Tables.{leads_on}
+use Rattle.row_parts.specs.Classes.{has_class}
+use Rattle.data_ways.specs.Internal.Tables.{leads_on}
 use Rattle.data_ways.proofs.Parted.{kinds_further}
 use Rattle.data_ways.proofs.pointers.pointers_of.Goals as goal
 

@@ -1,7 +1,7 @@
 use Rattle.std.proofs.Common.{◌≡◌, ℕ, ◌/◌, ◌<◌, ◌^◌, Bool, ◌&&◌, take}
 use Rattle.std.specs.List.{list_any}
-use Rattle.row_parts.specs.Internal.Classes.{has_class}
-use Rattle.data_ways.specs.Tables.{any_pointer, leads_on}
+use Rattle.row_parts.specs.Classes.{has_class}
+use Rattle.data_ways.specs.Internal.Tables.{any_pointer, leads_on}
 use Rattle.data_ways.proofs.pointers.pointers_of.Given as goal
 
 abbrev pub invariant-loop-seen : goal.invariant-loop-seen

@@ -1,7 +1,7 @@
 use Rattle.std.proofs.Common.{ℕ, ◌/◌, ◌^◌, List, sym, subst}
 use Rattle.rv_mem.specs.declared.words.Seen.{Seen}
 use Rattle.rv_mem.specs.declared.words.Seen.TheVariants.{Untouched}
-use Rattle.row_parts.specs.Internal.Classes.{TableOf}
+use Rattle.row_parts.specs.Classes.{TableOf}
 use Rattle.data_ways.proofs.Parted.{untouched_is}
 use Rattle.data_ways.proofs.pointers.untouched.Goals as goal
 

@@ -1,6 +1,6 @@
 use Rattle.std.proofs.Common.{◌≡◌, ◌*◌, ◌==◌, bit_and, sym, subst}
 use Rattle.row_parts.specs.declared.classes.Level.{Level}
-use Rattle.data_ways.specs.Tables.{index_at}
+use Rattle.data_ways.specs.Internal.Tables.{index_at}
 use Rattle.data_ways.proofs.Parted.{root_pattern, second_pattern}
 use Rattle.data_ways.proofs.walker.pattern.Goals as goal
 

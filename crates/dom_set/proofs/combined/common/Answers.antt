@@ -1,6 +1,6 @@
 use Rattle.std.proofs.Common.{List, ℕ, ◌*◌, drop, ap, arith}
 use Rattle.set_pieces.specs.declared.piece.Piece.{Piece}
-use Rattle.set_pieces.specs.Internal.Counting.{one}
+use Rattle.set_pieces.specs.Counting.{one}
 use Rattle.set_pieces.specs.Internal.Pieces.{in_piece, times}
 use Rattle.set_pieces.proofs.Times.{times_rest}
 use Rattle.dom_set.proofs.Walks.{shared_alive}

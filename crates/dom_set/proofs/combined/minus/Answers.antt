@@ -1,6 +1,6 @@
 use Rattle.std.proofs.Common.{List, cond, ap, ◌∙◌, arith}
 use Rattle.set_pieces.specs.declared.piece.Piece.{Piece}
-use Rattle.set_pieces.specs.Internal.Counting.{one}
+use Rattle.set_pieces.specs.Counting.{one}
 use Rattle.set_pieces.specs.Internal.Pieces.{in_piece, holds, times}
 use Rattle.dom_set.proofs.Walks.{left_alive, left_within, none_left, parts_left}
 use Rattle.dom_set.proofs.combined.minus.Goals as goal

@@ -1,5 +1,5 @@
 use Rattle.std.proofs.Common.{Bool, ◌&&◌, ap, arith}
-use Rattle.set_pieces.specs.Internal.Counting.{one}
+use Rattle.set_pieces.specs.Counting.{one}
 use Rattle.set_pieces.specs.Internal.Patterns.{is_matched}
 use Rattle.set_pieces.proofs.Without.{both_parts, no_both}
 use Rattle.dom_set.proofs.combined.push_both.Goals as goal

@@ -1,5 +1,5 @@
 use Rattle.std.proofs.Common.{◌≡◌, ◌+◌, drop}
-use Rattle.set_pieces.specs.Internal.Counting.{total}
+use Rattle.set_pieces.specs.Counting.{total}
 use Rattle.set_pieces.specs.Internal.Pieces.{times}
 use Rattle.dom_set.proofs.lists.count_below.Given as goal
 

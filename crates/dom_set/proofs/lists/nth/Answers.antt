@@ -1,5 +1,5 @@
 use Rattle.std.proofs.Common.{◌≡◌, ◌+◌, ap, ◌∙◌, arith}
-use Rattle.set_pieces.specs.Internal.Counting.{total}
+use Rattle.set_pieces.specs.Counting.{total}
 use Rattle.set_pieces.specs.Internal.Pieces.{times}
 use Rattle.set_pieces.proofs.Totals.{total_none, total_next}
 use Rattle.dom_set.proofs.lists.nth.Goals as goal

@@ -2,7 +2,7 @@ use Rattle.std.proofs.Common.{◌≡◌, ℕ, ◌+◌, ◌<◌, ◌≤◌, ◌�
 use Rattle.std.proofs.lemmas.Bool.{cases_lt, false≢true}
 use Rattle.std.proofs.lemmas.List.{drop_all, get_or-drop, get_or_read, length-drop}
 use Rattle.set_pieces.specs.declared.piece.Piece.{Piece}
-use Rattle.set_pieces.specs.Internal.Counting.{one}
+use Rattle.set_pieces.specs.Counting.{one}
 use Rattle.set_pieces.specs.Internal.Pieces.{in_piece, times, holds, IsMultiples}
 use Rattle.set_pieces.proofs.Times.{rest_is, times_push}
 use Rattle.dom_set.proofs.Merging.{apart_from_rest, or_regroup, no_more}

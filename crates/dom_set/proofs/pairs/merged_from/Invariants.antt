@@ -1,6 +1,6 @@
 use Rattle.std.proofs.Common.{◌≡◌, ℕ, ◌+◌, ◌<◌, ◌≤◌, ◌||◌, length, get_or, drop}
 use Rattle.set_pieces.specs.declared.piece.Piece.{Piece}
-use Rattle.set_pieces.specs.Internal.Counting.{one}
+use Rattle.set_pieces.specs.Counting.{one}
 use Rattle.set_pieces.specs.Internal.Pieces.{in_piece, times, holds, IsMultiples}
 use Rattle.dom_set.proofs.pairs.merged_from.Given as goal
 

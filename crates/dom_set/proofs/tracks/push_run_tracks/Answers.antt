@@ -1,7 +1,7 @@
 use Rattle.std.proofs.Common.{◌≡◌, ◌+◌, true, Option, inl, inr, subst, ◌∙◌}
 use Rattle.std.proofs.lemmas.Bool.{or_cases, and_from}
 use Rattle.set_pieces.specs.declared.run.Run.{Run}
-use Rattle.set_pieces.specs.Internal.Counting.{one}
+use Rattle.set_pieces.specs.Counting.{one}
 use Rattle.set_pieces.specs.Internal.Patterns.{matches}
 use Rattle.set_pieces.specs.Internal.Runs.{in_run, is_in_run}
 use Rattle.dom_set.proofs.Tracked.{one_half, run_matched}

@@ -1,7 +1,7 @@
 use Rattle.std.proofs.lemmas.Result.{IfOk-weaker}
 use Rattle.fd_prob.specs.declared.problem.Case.{Case}
 use Rattle.fd_solve.specs.Internal.Marks.{marked_case}
-use Rattle.fd_solve.proofs.Barred.{never_made}
+use Rattle.fd_solve.proofs.Barring.{never_made}
 use Rattle.fd_solve.proofs.Equivalence.{least_of_equivalent}
 use Rattle.fd_solve.proofs.Marking.{marked_case_whole}
 use Rattle.fd_solve.proofs.cases.solve_marked.Goals as goal

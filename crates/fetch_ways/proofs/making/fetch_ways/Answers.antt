@@ -17,9 +17,9 @@ returns g c = λ t ground.
       fetches = c.rows_serve_leaves.ensures.fetches;
     })
     (record {
-      tables = subst (λ (xs : List ℕ). All (λ t. t < 2 ^ 32) xs) c.deref.ensures.value c.words.ensures.tables;
-      pool = subst (λ (xs : List ℕ). All (λ p. p < 2 ^ 32) xs) c.deref-2.ensures.value c.words.ensures.pool;
-      flags = subst (λ (xs : List ℕ). All (λ b. b < 256) xs) c.deref-3.ensures.value c.words.ensures.flags;
+      tables = subst (λ (xs : List ℕ). All (λ t. t < 2 ^ 32) xs) c.deref.ensures.value c.form_law.ensures.tables;
+      pool = subst (λ (xs : List ℕ). All (λ p. p < 2 ^ 32) xs) c.deref-2.ensures.value c.form_law.ensures.pool;
+      flags = subst (λ (xs : List ℕ). All (λ b. b < 256) xs) c.deref-3.ensures.value c.form_law.ensures.flags;
     })
     c.requires c.ranges.pc.fits c.in_ok-page.ensures c.in_ok-found.ensures c.in_ok-firsts.ensures
     (c.deref-5.ensures.value ∙ c.in_ok-push.ensures.items)

@@ -2,7 +2,7 @@ use Rattle.std.proofs.Common.{◌≡◌, ◌≤◌, ℕ, List, length, sym, subs
 use Rattle.std.specs.List.{slice_get}
 use Rattle.gen_search.specs.declared.choice.Choice.{Choice}
 use Rattle.gen_search.specs.Fit.{AreFit}
-use Rattle.gen_search.specs.Internal.Places.{AreMarked, AreOpen, laid}
+use Rattle.gen_search.specs.Places.{AreMarked, AreOpen, laid}
 use Rattle.gen_search.specs.Ready.{AllowsAll, AreChoicesReady, AreReady}
 use Rattle.gen_search.specs.Wholes.{wholes}
 use Rattle.gen_search.proofs.Kept.{dead_inside, inside_marked, inside_open, marked_le, rolled_get, rolled_length, rolled_whole}

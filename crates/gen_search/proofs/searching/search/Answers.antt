@@ -4,7 +4,7 @@ use Rattle.tpl_ast.specs.declared.template.HartDecl.{HartDecl}
 use Rattle.rand_pcg.specs.Lcg.{Lcg}
 use Rattle.gen_search.specs.declared.draws.Tally.{Tally}
 use Rattle.gen_search.specs.Search.{Outcome, Finished, GaveUp, Done, NoTest, done, fresh, gave_up, gives_up}
-use Rattle.gen_search.specs.Internal.Places.{laid}
+use Rattle.gen_search.specs.Places.{laid}
 use Rattle.gen_search.specs.Ready.{AreChoicesReady, AreReady}
 use Rattle.gen_search.specs.Internal.Walks.{Ahead, LeafAhead, Leads}
 use Rattle.gen_search.specs.Wholes.{wholes}

@@ -1,5 +1,5 @@
 use Rattle.std.proofs.Common.{◌≤◌, length, ◌∙◌, arith}
-use Rattle.gen_search.specs.Internal.Places.{laid}
+use Rattle.gen_search.specs.Places.{laid}
 use Rattle.gen_search.specs.Wholes.{wholes}
 use Rattle.gen_search.proofs.Kept.{back_kept, get_kept, inside_more, kept_longer, marked_le, marked_up, wholes_length}
 use Rattle.gen_search.proofs.LeafTurns.{turn_taken, turn_too_large, turn_unfit}

@@ -6,8 +6,8 @@ use Rattle.gen_search.specs.declared.choice.Choice.{Choice}
 use Rattle.tpl_ast.specs.declared.template.Item.{Item}
 use Rattle.gen_search.specs.Search.{copies, of_hart}
 use Rattle.tpl_ast.specs.Choices.{all_true, is_fit}
-use Rattle.gen_search.specs.Internal.Steps.{longest_steps, steps_of_body}
-use Rattle.gen_search.specs.Internal.Places.{AreMarked, AreOpen, IsOpen, laid, steps_left, untried}
+use Rattle.gen_search.specs.Steps.{longest_steps, steps_of_body}
+use Rattle.gen_search.specs.Places.{AreMarked, AreOpen, IsOpen, laid, steps_left, untried}
 use Rattle.gen_search.specs.Ready.{AreAllowed, AreChoicesReady, parts_of_body}
 use Rattle.gen_search.specs.Wholes.{wholes}
 use Rattle.gen_search.proofs.Blocks.{way_steps}

@@ -3,8 +3,8 @@ use Rattle.tpl_ast.specs.declared.template.Item.{Item}
 use Rattle.gen_search.specs.Search.{Finished, Walks, finished}
 use Rattle.std.specs.List.{slice_get}
 use Rattle.tpl_ast.specs.Choices.{are_ways_fit, can_pick}
-use Rattle.gen_search.specs.Internal.Steps.{longest_steps, steps_of}
-use Rattle.gen_search.specs.Internal.Places.{laid, steps_left}
+use Rattle.gen_search.specs.Steps.{longest_steps, steps_of}
+use Rattle.gen_search.specs.Places.{laid, steps_left}
 use Rattle.gen_search.specs.Internal.Walks.{with_draws}
 use Rattle.gen_search.specs.Wholes.{wholes}
 use Rattle.gen_search.proofs.Items.{choice_steps, choose_entered, choose_walks, is_a_fault, is_a_leaf, label_walks, next_fit, repeat_entered, repeat_walks, seq_entered, seq_walks}

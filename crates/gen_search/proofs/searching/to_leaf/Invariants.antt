@@ -1,6 +1,6 @@
 use Rattle.std.proofs.Common.{◌≡◌, ℕ, length}
 use Rattle.std.specs.List.{slice_get}
-use Rattle.gen_search.specs.Internal.Places.{steps_left}
+use Rattle.gen_search.specs.Places.{steps_left}
 use Rattle.gen_search.specs.Search.{Outcome}
 use Rattle.gen_search.specs.Internal.Walks.{Ahead, IsWell, with_draws}
 use Rattle.gen_search.specs.Ready.{IsReady}

@@ -1,7 +1,7 @@
 use Rattle.std.proofs.Common.{ℕ, List, Option, ap, ◌∙◌}
 use Rattle.rv_csr.specs.State.{CsrValues}
 use Rattle.rv_hart.specs.Registers.{no_registers}
-use Rattle.given_start.specs.Internal.Knowledge.{known_at}
+use Rattle.given_start.specs.Knowledge.{known_at}
 use Rattle.given_start.proofs.Knowledge.{known_new}
 use Rattle.given_start.proofs.harts.bare_hart.Goals as goal
 

@@ -1,6 +1,6 @@
 use Rattle.std.proofs.Common.{◌≡◌, length, sym, ap, ◌∙◌, rules}
 use Rattle.rv_csr.specs.State.{CsrValues}
-use Rattle.given_start.specs.Internal.Knowledge.{known_at}
+use Rattle.given_start.specs.Knowledge.{known_at}
 use Rattle.given_start.proofs.Lazy.{lazy_of, key_positive}
 use Rattle.given_start.proofs.Knowledge.{known_reg_set, known_csr_set, untouched_named}
 use Rattle.given_start.proofs.harts.give.Goals as goal

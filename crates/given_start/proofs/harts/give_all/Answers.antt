@@ -1,6 +1,6 @@
 use Rattle.std.proofs.Common.{ℕ, get_or, drop, ◌+◌, ◌∙◌}
 use Rattle.std.proofs.lemmas.List.{drop_more}
-use Rattle.given_start.specs.Internal.Knowledge.{known_of}
+use Rattle.given_start.specs.Knowledge.{known_of}
 use Rattle.given_start.proofs.Given.{left_next, given_next}
 use Rattle.given_start.proofs.harts.give_all.Goals as goal
 

@@ -1,7 +1,7 @@
 use Rattle.std.proofs.Common.{List, ◌≡◌, ℕ, drop}
 use Rattle.tpl_ast.specs.declared.template.Region.{Region}
 use Rattle.tpl_admit.specs.Starts.{lookup}
-use Rattle.given_start.specs.Internal.Knowledge.{known_of, fixed_now}
+use Rattle.given_start.specs.Knowledge.{known_of, fixed_now}
 use Rattle.given_start.proofs.Given.{or_else, AreLeft}
 use Rattle.given_start.proofs.harts.give_all.Given as goal
 

@@ -1,6 +1,6 @@
 use Rattle.std.proofs.Common.{List, ℕ, sym, subst}
 use Rattle.fd_prob.specs.declared.slot.TheConstants.{SLOTS}
-use Rattle.leaf_stand.specs.Internal.Sets.{AreDomains}
+use Rattle.leaf_stand.specs.Sets.{AreDomains}
 use Rattle.leaf_stand.specs.Stands.{domain_at, turn_of}
 use Rattle.leaf_stand.specs.Internal.Ways.{shape_with}
 use Rattle.leaf_stand.proofs.Single.{case_same}

@@ -2,7 +2,8 @@ use Rattle.std.proofs.Common.{arith, ap, ◌∙◌, length, ◌+◌, ◌++◌, �
 use Rattle.std.proofs.lemmas.List.{length-append}
 use Rattle.fd_prob.specs.declared.slot.TheConstants.{SLOTS}
 use Rattle.leaf_link.specs.Cases.{domain}
-use Rattle.leaf_stand.specs.Internal.Sets.{AreDomains, IsSetOf}
+use Rattle.data_bytes.specs.Sets.{IsSetOf}
+use Rattle.leaf_stand.specs.Sets.{AreDomains}
 use Rattle.leaf_stand.specs.Stands.{turn_of}
 use Rattle.leaf_stand.proofs.Lists.{add_domain, all_domains}
 use Rattle.leaf_pose.specs.Internal.Csrs.{access_way}

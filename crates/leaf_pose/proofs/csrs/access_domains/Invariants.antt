@@ -1,7 +1,7 @@
 use Rattle.std.proofs.Common.{◌≡◌, ℕ, List, ◌++◌, drop, length}
 use Rattle.fd_prob.specs.declared.slot.TheConstants.{SLOTS}
 use Rattle.leaf_link.specs.Cases.{domain}
-use Rattle.leaf_stand.specs.Internal.Sets.{AreDomains}
+use Rattle.leaf_stand.specs.Sets.{AreDomains}
 use Rattle.leaf_stand.specs.Stands.{turn_of}
 use Rattle.leaf_pose.specs.Internal.Csrs.{access_way}
 use Rattle.leaf_pose.proofs.csrs.access_domains.Given as goal

@@ -1,7 +1,7 @@
 use Rattle.std.proofs.Common.{List, ℕ, refl, sym, subst}
 use Rattle.fd_prob.specs.declared.slot.TheConstants.{SLOTS}
 use Rattle.leaf_pose.specs.Fetches.{entries_at}
-use Rattle.leaf_stand.specs.Internal.Sets.{AreDomains}
+use Rattle.leaf_stand.specs.Sets.{AreDomains}
 use Rattle.leaf_stand.specs.Stands.{turn_of}
 use Rattle.leaf_pose.proofs.Fetching.{entries_fit}
 use Rattle.leaf_pose.proofs.fetches.entries_case.Goals as goal

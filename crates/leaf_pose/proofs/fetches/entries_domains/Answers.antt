@@ -2,7 +2,8 @@ use Rattle.std.proofs.Common.{arith, ap, ◌∙◌, length, ◌+◌, ◌++◌, �
 use Rattle.std.proofs.lemmas.List.{length-append}
 use Rattle.fd_prob.specs.declared.slot.TheConstants.{SLOTS}
 use Rattle.leaf_pose.specs.Fetches.{entries_at}
-use Rattle.leaf_stand.specs.Internal.Sets.{AreEach, IsSetOf}
+use Rattle.data_bytes.specs.Sets.{IsSetOf}
+use Rattle.leaf_stand.specs.Sets.{AreEach}
 use Rattle.leaf_stand.specs.Stands.{turn_of}
 use Rattle.leaf_stand.proofs.Lists.{add_domain, all_domains}
 use Rattle.leaf_pose.proofs.fetches.entries_domains.Goals as goal

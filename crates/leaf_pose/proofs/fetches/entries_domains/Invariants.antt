@@ -1,7 +1,8 @@
 use Rattle.std.proofs.Common.{◌≡◌, ℕ, List, ◌++◌, drop, length}
 use Rattle.fd_prob.specs.declared.slot.TheConstants.{SLOTS}
 use Rattle.leaf_pose.specs.Fetches.{entries_at}
-use Rattle.leaf_stand.specs.Internal.Sets.{AreEach, IsSetOf}
+use Rattle.data_bytes.specs.Sets.{IsSetOf}
+use Rattle.leaf_stand.specs.Sets.{AreEach}
 use Rattle.leaf_stand.specs.Stands.{turn_of}
 use Rattle.leaf_pose.proofs.fetches.entries_domains.Given as goal
 

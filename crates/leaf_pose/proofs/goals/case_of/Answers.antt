@@ -1,7 +1,7 @@
 use Rattle.std.proofs.Common.{List, ℕ, ◌++◌, sym, subst, ap, ◌∙◌}
 use Rattle.fd_prob.specs.declared.slot.TheConstants.{SLOTS}
 use Rattle.leaf_stand.specs.declared.shape.Shape.{Shape}
-use Rattle.leaf_stand.specs.Internal.Sets.{AreDomains}
+use Rattle.leaf_stand.specs.Sets.{AreDomains}
 use Rattle.leaf_pose.specs.Goals.{goal_rels, near_domain, place_rels}
 use Rattle.leaf_pose.proofs.Accessing.{goal_case_same}
 use Rattle.leaf_pose.proofs.goals.case_of.Goals as goal

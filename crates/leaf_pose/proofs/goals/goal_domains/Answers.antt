@@ -1,7 +1,8 @@
 use Rattle.std.proofs.Common.{arith, ap, ◌∙◌, length, ◌+◌, ◌++◌, ◌∷◌, [], sym, subst, List, ℕ, drop}
 use Rattle.std.proofs.lemmas.List.{length-append}
 use Rattle.fd_prob.specs.declared.slot.TheConstants.{SLOTS}
-use Rattle.leaf_stand.specs.Internal.Sets.{AreDomains, IsSetOf}
+use Rattle.data_bytes.specs.Sets.{IsSetOf}
+use Rattle.leaf_stand.specs.Sets.{AreDomains}
 use Rattle.leaf_stand.proofs.Lists.{add_domain, all_domains}
 use Rattle.leaf_pose.specs.Goals.{near_domain}
 use Rattle.leaf_pose.proofs.goals.goal_domains.Goals as goal

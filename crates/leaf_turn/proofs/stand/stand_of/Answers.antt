@@ -1,5 +1,5 @@
 use Rattle.std.proofs.Common.{ℕ, ◌&&◌, ◌||◌, List, ap, ◌∙◌, refl}
-use Rattle.leaf_link.specs.Turns.{in_frames}
+use Rattle.rv_mem.specs.Frames.{in_frames}
 use Rattle.leaf_link.specs.Cases.{is_some_word}
 use Rattle.leaf_turn.specs.Grounds.{is_free_fetch}
 use Rattle.part_state.specs.State.{here}

@@ -6,7 +6,7 @@ use Rattle.rv_script.specs.declared.access.Role.TheVariants.{Fetch}
 use Rattle.rv_mem.specs.Part.{part_at}
 use Rattle.foot_map.specs.Touches.{has}
 use Rattle.part_machine.specs.declared.notes.Note.{Note}
-use Rattle.part_machine.specs.Internal.Notes.{touched, any_masked, IsWordOf, IsWithinWord}
+use Rattle.part_machine.specs.Notes.{touched, any_masked, IsWordOf, IsWithinWord}
 use Rattle.part_machine.proofs.Noting.{touch_step, mask_step, more_step, append_places}
 use Rattle.part_machine.proofs.notes.add_all.Goals as goal
 

@@ -3,7 +3,7 @@ use Rattle.std.specs.Prelude.{All}
 use Rattle.rv_script.specs.declared.access.Role.{Role}
 use Rattle.rv_mem.specs.Part.{part_at}
 use Rattle.foot_map.specs.Touches.{has}
-use Rattle.part_machine.specs.Internal.Notes.{any_masked, touched, IsWordOf, IsWithinWord}
+use Rattle.part_machine.specs.Notes.{any_masked, touched, IsWordOf, IsWithinWord}
 use Rattle.part_machine.proofs.notes.add_all.Given as goal
 
 abbrev pub invariant-loop-access : goal.invariant-loop-access

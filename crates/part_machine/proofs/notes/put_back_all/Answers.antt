@@ -6,7 +6,7 @@ use Rattle.rv_mem.specs.declared.words.Seen.{Seen}
 use Rattle.rv_mem.specs.declared.words.Seen.TheVariants.{Known}
 use Rattle.rv_script.specs.declared.access.Role.TheVariants.{Fetch}
 use Rattle.part_machine.specs.declared.notes.Note.{Note}
-use Rattle.part_machine.specs.Internal.Notes.{IsKnownAt, put_back, with_seen}
+use Rattle.part_machine.specs.Notes.{IsKnownAt, put_back, with_seen}
 use Rattle.part_machine.proofs.Noting.{known_with}
 use Rattle.part_machine.proofs.notes.put_back_all.Goals as goal
 

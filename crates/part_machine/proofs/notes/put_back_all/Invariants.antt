@@ -1,7 +1,7 @@
 use Rattle.std.proofs.Common.{◌≡◌, ℕ, drop}
 use Rattle.std.specs.Prelude.{All}
 use Rattle.rv_mem.specs.Part.{part_at}
-use Rattle.part_machine.specs.Internal.Notes.{IsKnownAt, put_back}
+use Rattle.part_machine.specs.Notes.{IsKnownAt, put_back}
 use Rattle.part_machine.proofs.notes.put_back_all.Given as goal
 
 -- what is still to be put back leaves what is wanted

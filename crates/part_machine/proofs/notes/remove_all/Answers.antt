@@ -3,7 +3,7 @@ use Rattle.std.proofs.lemmas.List.{drop_all, drop_more}
 use Rattle.rv_script.specs.declared.access.Role.TheVariants.{Fetch}
 use Rattle.foot_map.specs.Touches.{has}
 use Rattle.part_machine.specs.declared.notes.Note.{Note}
-use Rattle.part_machine.specs.Internal.Notes.{taken_out}
+use Rattle.part_machine.specs.Notes.{taken_out}
 use Rattle.part_machine.proofs.Noting.{take_step, take_none}
 use Rattle.part_machine.proofs.notes.remove_all.Goals as goal
 

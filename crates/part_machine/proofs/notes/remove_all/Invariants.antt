@@ -1,7 +1,7 @@
 use Rattle.std.proofs.Common.{◌≡◌, ℕ, drop}
 use Rattle.rv_script.specs.declared.access.Role.{Role}
 use Rattle.foot_map.specs.Touches.{has}
-use Rattle.part_machine.specs.Internal.Notes.{taken_out}
+use Rattle.part_machine.specs.Notes.{taken_out}
 use Rattle.part_machine.proofs.notes.remove_all.Given as goal
 
 -- what is still to be taken out leaves what is wanted

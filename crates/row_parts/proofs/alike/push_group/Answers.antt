@@ -14,7 +14,7 @@ sort_values-requires g c =
 pub returns-clause-count : goal.returns-clause-count
 returns-clause-count g c = λ w.
     let group : Group = record { entry = c.args.entry; values = c.in_ok-values.values } in
-    let is : is_in c.in_ok-values.values w ≡ is_in c.sort_values.new.alike.items w = c.in_ok-values.ensures w ∙ ap (λ (vs : List ℕ). is_in vs w) c.deref.ensures.value in
+    let is : is_in c.in_ok-values.values w ≡ is_in c.sort_values.new.alike.items w = c.in_ok-values.ensures.each w ∙ ap (λ (vs : List ℕ). is_in vs w) c.deref.ensures.value in
     ap (λ (gs : List Group). times_held gs w + times_in c.sort_values.new.others.items w) c.in_ok-push-2.ensures.items
     ∙ group_count c.args.groups.now.items group c.sort_values.new.alike.items c.sort_values.new.others.items c.args.values.now c.push.new.self.items c.new-others.result.items c.args.entry w is
     (c.in_ok-sort_values.ensures.count w) (c.in_ok-push.ensures.items ∙ ap (λ (vs : List ℕ). vs ++ c.args.entry ∷ []) c.new-alike.ensures.items) c.new-others.ensures.items (c.requires.once w)
@@ -25,4 +25,4 @@ returns-clause-alike g c =
     let group : Group = record { entry = c.args.entry; values = c.in_ok-values.values } in
     subst (λ (gs : List Group). All (IsAlike ends) gs) (sym c.in_ok-push-2.ensures.items)
     (group_alike ends c.args.groups.now.items group c.sort_values.new.alike.items c.requires.alike
-    (λ w. c.in_ok-values.ensures w ∙ ap (λ (vs : List ℕ). is_in vs w) c.deref.ensures.value) c.in_ok-sort_values.ensures.alike)
+    (λ w. c.in_ok-values.ensures.each w ∙ ap (λ (vs : List ℕ). is_in vs w) c.deref.ensures.value) c.in_ok-sort_values.ensures.alike)

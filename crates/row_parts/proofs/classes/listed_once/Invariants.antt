@@ -1,7 +1,7 @@
 use Rattle.std.proofs.Common.{◌≡◌, ◌||◌, List, drop}
 use Rattle.rv_mem.specs.declared.words.Seen.{Seen}
 use Rattle.dom_set.specs.Counting.{one}
-use Rattle.row_parts.specs.Internal.Classes.{any_seen, times_seen}
+use Rattle.row_parts.specs.Classes.{any_seen, times_seen}
 use Rattle.row_parts.proofs.classes.listed_once.Given as goal
 
 pub record Kept (kept rest table : List Seen) : Type 0 where

@@ -1,5 +1,5 @@
 use Rattle.std.proofs.Common.{◌≡◌, ℕ, ◌<◌, Some, length, slice_get}
-use Rattle.row_parts.specs.Internal.Classes.{entry_at}
+use Rattle.row_parts.specs.Classes.{entry_at}
 use Rattle.row_parts.proofs.classes.table_in.Given as goal
 
 abbrev pub invariant-loop-i : goal.invariant-loop-i

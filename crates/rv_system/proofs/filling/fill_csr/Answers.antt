@@ -1,6 +1,6 @@
 use Rattle.std.proofs.Common.{length, sym, ap, ◌∙◌}
 use Rattle.rv_csr.specs.State.{CsrValues}
-use Rattle.given_start.specs.Internal.Knowledge.{known_at, known_of}
+use Rattle.given_start.specs.Knowledge.{known_at, known_of}
 use Rattle.given_start.proofs.Lazy.{lazy_of}
 use Rattle.given_start.proofs.Knowledge.{known_csr_set, known_large}
 use Rattle.rv_system.proofs.Filled.{place_given, place_kept}

@@ -1,7 +1,7 @@
 use Rattle.std.proofs.Common.{ℕ, List, ◌&&◌, leb, get_or, ap, ◌∙◌, arith}
 use Rattle.std.proofs.lemmas.List.{take_all}
 use Rattle.tpl_ast.specs.States.{is_key, is_legal_place}
-use Rattle.given_start.specs.Internal.Knowledge.{known_of}
+use Rattle.given_start.specs.Knowledge.{known_of}
 use Rattle.rv_system.proofs.Filled.{is_listed, next_key, passes_at, third_passes, with_places}
 use Rattle.rv_system.proofs.filling.fill_csrs.Goals as goal
 

@@ -1,5 +1,5 @@
 use Rattle.std.proofs.Common.{◌≡◌, ◌≢◌, length, sym, ◌∙◌, rules, arith}
-use Rattle.given_start.specs.Internal.Knowledge.{known_of}
+use Rattle.given_start.specs.Knowledge.{known_of}
 use Rattle.given_start.proofs.Knowledge.{known_reg_set, known_small}
 use Rattle.rv_system.proofs.Filled.{place_given, place_kept}
 use Rattle.rv_system.proofs.filling.fill_register.Goals as goal

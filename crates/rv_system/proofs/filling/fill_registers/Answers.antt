@@ -1,5 +1,5 @@
 use Rattle.std.proofs.Common.{◌≡◌, ℕ, ◌&&◌, leb, ltb, ap, ◌∙◌, arith}
-use Rattle.given_start.specs.Internal.Knowledge.{known_of}
+use Rattle.given_start.specs.Knowledge.{known_of}
 use Rattle.rv_system.proofs.Filled.{next_register, with_places}
 use Rattle.rv_system.proofs.filling.fill_registers.Goals as goal
 

@@ -1,6 +1,6 @@
 use Rattle.std.proofs.Common.{◌≡◌, ℕ, List, ◌&&◌, leb, ltb}
 use Rattle.tpl_ast.specs.declared.template.Region.{Region}
-use Rattle.given_start.specs.Internal.Knowledge.{known_of, fixed_now}
+use Rattle.given_start.specs.Knowledge.{known_of, fixed_now}
 use Rattle.rv_system.proofs.Filled.{with_places}
 use Rattle.rv_system.proofs.filling.fill_registers.Given as goal
 

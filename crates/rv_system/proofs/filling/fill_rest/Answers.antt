@@ -1,5 +1,5 @@
 use Rattle.std.proofs.Common.{◌∙◌}
-use Rattle.given_start.specs.Internal.Knowledge.{known_of}
+use Rattle.given_start.specs.Knowledge.{known_of}
 use Rattle.rv_system.proofs.Filled.{all_given}
 use Rattle.rv_system.proofs.filling.fill_rest.Goals as goal
 

@@ -1,6 +1,6 @@
 use Rattle.std.proofs.Common.{◌∙◌}
 use Rattle.tpl_admit.specs.Starts.{lookup}
-use Rattle.given_start.specs.Internal.Knowledge.{known_of}
+use Rattle.given_start.specs.Knowledge.{known_of}
 use Rattle.rv_system.proofs.Filled.{AreGiven, given_as, given_known, given_value}
 use Rattle.rv_system.proofs.filling.filled_hart.Goals as goal
 

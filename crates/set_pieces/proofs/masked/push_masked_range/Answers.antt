@@ -1,5 +1,5 @@
 use Rattle.std.proofs.Common.{ℕ, ◌+◌, ◌&&◌, not, leb, ltb, bit_and, ◌∙◌}
-use Rattle.set_pieces.specs.Internal.Counting.{one}
+use Rattle.set_pieces.specs.Counting.{one}
 use Rattle.set_pieces.specs.Internal.Pieces.{times}
 use Rattle.set_pieces.proofs.masked.push_masked_range.Goals as goal
 

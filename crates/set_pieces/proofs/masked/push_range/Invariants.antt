@@ -1,5 +1,5 @@
 use Rattle.std.proofs.Common.{◌≡◌, ℕ, ◌+◌, ◌-◌, ◌^◌, ◌<◌, ◌≤◌, ◌&&◌, not, bit_and, nat_le, nat_lt}
-use Rattle.set_pieces.specs.Internal.Counting.{one}
+use Rattle.set_pieces.specs.Counting.{one}
 use Rattle.set_pieces.specs.Internal.Patterns.{matches, is_matched}
 use Rattle.set_pieces.specs.Internal.Pieces.{times}
 use Rattle.set_pieces.proofs.masked.push_range.Given as goal

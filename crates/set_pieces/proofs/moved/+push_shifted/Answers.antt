@@ -1,5 +1,5 @@
 use Rattle.std.proofs.Common.{◌≡◌, ℕ, ◌+◌, ◌-◌, ◌%◌, ◌^◌, ap, ◌∙◌, arith}
-use Rattle.set_pieces.specs.Internal.Counting.{one}
+use Rattle.set_pieces.specs.Counting.{one}
 use Rattle.set_pieces.specs.Internal.Patterns.{matches}
 use Rattle.set_pieces.specs.Internal.Runs.{in_span, in_run, is_in_run}
 use Rattle.set_pieces.proofs.Pieces.{halves_are, all_words}

@@ -1,6 +1,6 @@
 use Rattle.std.proofs.Common.{ℕ, ◌+◌, ◌-◌, ◌%◌, ◌^◌, ◌&&◌, not, Option, sym, ap, ◌∙◌}
 use Rattle.set_pieces.specs.declared.pattern.Pattern.{Pattern}
-use Rattle.set_pieces.specs.Internal.Counting.{one}
+use Rattle.set_pieces.specs.Counting.{one}
 use Rattle.set_pieces.specs.Internal.Patterns.{is_matched}
 use Rattle.set_pieces.specs.Internal.Runs.{in_run}
 use Rattle.set_pieces.specs.Internal.Pieces.{in_piece, times}

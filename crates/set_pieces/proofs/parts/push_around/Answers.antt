@@ -1,5 +1,5 @@
 use Rattle.std.proofs.Common.{◌≡◌, Bool, ◌&&◌, ap, ◌∙◌, arith}
-use Rattle.set_pieces.specs.Internal.Counting.{one}
+use Rattle.set_pieces.specs.Counting.{one}
 use Rattle.set_pieces.specs.Internal.Patterns.{matches}
 use Rattle.set_pieces.specs.Internal.Runs.{in_span, in_run}
 use Rattle.set_pieces.specs.Internal.Pieces.{in_piece, is_held}

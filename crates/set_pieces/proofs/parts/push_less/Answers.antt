@@ -1,5 +1,5 @@
 use Rattle.std.proofs.Common.{ap, arith}
-use Rattle.set_pieces.specs.Internal.Counting.{one}
+use Rattle.set_pieces.specs.Counting.{one}
 use Rattle.set_pieces.specs.Internal.Runs.{is_in_run}
 use Rattle.set_pieces.proofs.Without.{less_parts}
 use Rattle.set_pieces.proofs.parts.push_less.Goals as goal

@@ -1,5 +1,5 @@
 use Rattle.std.proofs.Common.{◌≡◌, ℕ, ◌+◌, ◌&&◌}
-use Rattle.set_pieces.specs.Internal.Counting.{one}
+use Rattle.set_pieces.specs.Counting.{one}
 use Rattle.set_pieces.specs.Internal.Patterns.{matches_below}
 use Rattle.set_pieces.specs.Internal.Pieces.{in_piece, times}
 use Rattle.set_pieces.proofs.parts.push_missed.Given as goal

@@ -1,6 +1,6 @@
 use Rattle.std.proofs.Common.{◌&&◌, Option, ap, ◌∙◌, arith}
 use Rattle.set_pieces.specs.declared.pattern.Pattern.{Pattern}
-use Rattle.set_pieces.specs.Internal.Counting.{one}
+use Rattle.set_pieces.specs.Counting.{one}
 use Rattle.set_pieces.specs.Internal.Patterns.{is_matched}
 use Rattle.set_pieces.specs.Internal.Pieces.{in_piece}
 use Rattle.set_pieces.proofs.Without.{and_no}

@@ -1,5 +1,5 @@
 use Rattle.std.proofs.Common.{◌+◌, Bool, sym, ap, ◌∙◌, arith}
-use Rattle.set_pieces.specs.Internal.Counting.{one}
+use Rattle.set_pieces.specs.Counting.{one}
 use Rattle.set_pieces.specs.Internal.Patterns.{matches}
 use Rattle.set_pieces.specs.Internal.Pieces.{in_piece, times}
 use Rattle.set_pieces.proofs.Without.{narrow_same, within_all, and_no}

@@ -1,5 +1,5 @@
 use Rattle.std.proofs.Common.{◌≡◌, ℕ, ◌<◌, ◌≤◌}
-use Rattle.row_parts.specs.Internal.Classes.{entry_at}
+use Rattle.row_parts.specs.Classes.{entry_at}
 use Rattle.addr_rows.proofs.root_entries.RootEntries.are_entries_same.Given as goal
 
 abbrev pub invariant-loop-i : goal.invariant-loop-i

@@ -1,5 +1,5 @@
 use Rattle.std.proofs.Common.{true, List, sym, ap, ◌∙◌}
-use Rattle.row_parts.specs.Internal.Classes.{has_index}
+use Rattle.row_parts.specs.Classes.{has_index}
 use Rattle.addr_rows.specs.Combinations.{rooted}
 use Rattle.row_parts.specs.Rows.{End, when}
 use Rattle.addr_rows.specs.Scenes.{setting_of}

@@ -2,7 +2,7 @@ use Rattle.std.proofs.Common.{◌≡◌, ℕ, ◌+◌, ◌*◌, ◌/◌, ◌%◌
 use Rattle.std.specs.Prelude.{IfSome}
 use Rattle.dom_set.specs.Elements.{is_in}
 use Rattle.rv_mem.specs.declared.words.Seen.{Seen}
-use Rattle.row_parts.specs.Internal.Classes.{seen_at, entry_at}
+use Rattle.row_parts.specs.Classes.{seen_at, entry_at}
 use Rattle.row_parts.specs.Rows.{End, is_of, ends_in}
 use Rattle.addr_rows.specs.Combinations.{at_second, is_own_entry, is_table, pointed}
 use Rattle.addr_rows.specs.Scenes.{setting_of, is_some}

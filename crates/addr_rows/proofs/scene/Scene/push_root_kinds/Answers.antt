@@ -1,6 +1,6 @@
 use Rattle.std.proofs.Common.{true, ◌/◌, ◌^◌, ◌&&◌}
 use Rattle.dom_set.specs.Elements.{is_in}
-use Rattle.row_parts.specs.Internal.Classes.{entry_at, same}
+use Rattle.row_parts.specs.Classes.{entry_at, same}
 use Rattle.row_parts.specs.Rows.{ends_in}
 use Rattle.addr_rows.specs.Combinations.{at_root, root_frame}
 use Rattle.addr_rows.specs.Scenes.{setting_of}

@@ -1,6 +1,6 @@
 use Rattle.std.proofs.Common.{◌/◌, ◌%◌, ◌^◌, not, ◌&&◌}
 use Rattle.dom_set.specs.Elements.{is_in}
-use Rattle.row_parts.specs.Internal.Classes.{entry_at, same}
+use Rattle.row_parts.specs.Classes.{entry_at, same}
 use Rattle.row_parts.specs.Rows.{is_of, ends_in}
 use Rattle.addr_rows.specs.Combinations.{at_second, is_table, is_own_entry}
 use Rattle.addr_rows.specs.Scenes.{setting_of, is_some}

@@ -1,8 +1,8 @@
 use Rattle.std.proofs.Common.{List, ap, ◌∙◌}
 use Rattle.row_parts.specs.declared.classes.Level.TheVariants.{Second}
 use Rattle.data_ways.specs.declared.pointers.Pointer.{Pointer}
-use Rattle.data_ways.specs.Barring.{is_stored}
-use Rattle.data_ways.specs.Tables.{any_pointer, entry_of}
+use Rattle.data_ways.specs.Internal.Barring.{is_stored}
+use Rattle.data_ways.specs.Internal.Tables.{any_pointer, entry_of}
 use Rattle.data_ways.proofs.Parted.{table_bars}
 use Rattle.data_ways.proofs.walker.Walker.barred_at.Goals as goal
 

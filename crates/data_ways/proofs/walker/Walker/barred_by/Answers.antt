@@ -1,7 +1,7 @@
 use Rattle.std.proofs.Common.{Option, Some, refl, sym, subst}
 use Rattle.data_ways.specs.declared.barring.RootTable.{RootTable}
-use Rattle.data_ways.specs.Barring.{is_stored}
-use Rattle.data_ways.specs.Tables.{IsTable}
+use Rattle.data_ways.specs.Internal.Barring.{is_stored}
+use Rattle.data_ways.specs.Internal.Tables.{IsTable}
 use Rattle.data_ways.proofs.Parted.{led_on, newly_bars, own_behind}
 use Rattle.data_ways.proofs.walker.Walker.barred_by.Goals as goal
 

@@ -1,7 +1,7 @@
 use Rattle.std.proofs.Common.{List, All, refl, sym, subst}
 use Rattle.std.proofs.lemmas.List.Elements.{All-push}
 use Rattle.data_ways.specs.declared.barring.NewRoot.{NewRoot}
-use Rattle.data_ways.specs.Tables.{IsNewRoot}
+use Rattle.data_ways.specs.Internal.Tables.{IsNewRoot}
 use Rattle.data_ways.proofs.Parted.{values_further}
 use Rattle.data_ways.proofs.walker.Walker.new_roots.Goals as goal
 

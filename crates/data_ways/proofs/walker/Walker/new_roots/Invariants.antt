@@ -1,5 +1,5 @@
 use Rattle.std.proofs.Common.{◌≡◌, ◌++◌, All, drop, map}
-use Rattle.data_ways.specs.Tables.{IsNewRoot}
+use Rattle.data_ways.specs.Internal.Tables.{IsNewRoot}
 use Rattle.data_ways.proofs.walker.Walker.new_roots.Given as goal
 
 abbrev pub invariant-loop-value : goal.invariant-loop-value

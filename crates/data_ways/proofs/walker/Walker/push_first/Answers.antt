@@ -5,8 +5,8 @@ use Rattle.addr_rows.specs.Walks.{has_value}
 use Rattle.std.proofs.lemmas.List.Folds.{list_any-append}
 use Rattle.row_parts.proofs.Lists.{or_false}
 use Rattle.data_bytes.proofs.Sets.{filter_leaves}
-use Rattle.data_ways.specs.Making.{in_ways, part_has, part_in}
-use Rattle.data_ways.specs.Tables.{is_newly_barred}
+use Rattle.data_ways.specs.Internal.Making.{in_ways, part_has, part_in}
+use Rattle.data_ways.specs.Internal.Tables.{is_newly_barred}
 use Rattle.data_ways.proofs.Told.{counted_less, own_way, taken_too, untaken}
 use Rattle.data_ways.proofs.walker.Walker.push_first.Goals as goal
 

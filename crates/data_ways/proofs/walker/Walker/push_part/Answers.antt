@@ -4,7 +4,7 @@ use Rattle.dom_set.specs.Elements.{is_in}
 use Rattle.addr_rows.specs.Walks.{has_value}
 use Rattle.row_parts.proofs.Lists.{any_done, any_rest}
 use Rattle.data_ways.specs.declared.barring.NewRoot.{NewRoot}
-use Rattle.data_ways.specs.Making.{in_ways, part_has, part_in, takes}
+use Rattle.data_ways.specs.Internal.Making.{in_ways, part_has, part_in, takes}
 use Rattle.data_ways.proofs.Told.{root_further, roots_through}
 use Rattle.data_ways.proofs.walker.Walker.push_part.Goals as goal
 

@@ -3,7 +3,7 @@ use Rattle.std.specs.List.{list_any}
 use Rattle.dom_set.specs.Elements.{is_in}
 use Rattle.data_ways.specs.declared.way.DataEnd.{DataEnd}
 use Rattle.data_ways.specs.declared.barring.NewRoot.{NewRoot}
-use Rattle.data_ways.specs.Making.{in_ways, part_has, part_in, takes}
+use Rattle.data_ways.specs.Internal.Making.{in_ways, part_has, part_in, takes}
 use Rattle.data_ways.proofs.walker.Walker.push_part.Given as goal
 
 abbrev pub invariant-loop-new : goal.invariant-loop-new

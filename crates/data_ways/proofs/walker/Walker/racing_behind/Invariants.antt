@@ -1,8 +1,8 @@
 use Rattle.std.proofs.Common.{◌≡◌, ℕ, ◌<◌, ◌^◌, Bool, ◌||◌, drop}
 use Rattle.dom_set.specs.Elements.{is_in}
 use Rattle.row_parts.specs.declared.classes.Level.TheVariants.{Second}
-use Rattle.data_ways.specs.Barring.{races}
-use Rattle.data_ways.specs.Tables.{any_pointer, entry_of}
+use Rattle.data_ways.specs.Internal.Barring.{races}
+use Rattle.data_ways.specs.Internal.Tables.{any_pointer, entry_of}
 use Rattle.data_ways.proofs.walker.Walker.racing_behind.Given as goal
 
 abbrev pub invariant-loop-pointer : goal.invariant-loop-pointer

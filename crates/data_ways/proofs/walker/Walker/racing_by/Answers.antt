@@ -1,7 +1,7 @@
 use Rattle.std.proofs.Common.{Bool, ◌&&◌, Option, Some, refl, sym, ap, ◌∙◌, subst}
 use Rattle.data_ways.specs.declared.barring.RootTable.{RootTable}
-use Rattle.data_ways.specs.Barring.{races}
-use Rattle.data_ways.specs.Tables.{IsTable, meets_behind}
+use Rattle.data_ways.specs.Internal.Barring.{races}
+use Rattle.data_ways.specs.Internal.Tables.{IsTable, meets_behind}
 use Rattle.data_ways.proofs.Parted.{own_behind, led_on}
 use Rattle.data_ways.proofs.walker.Walker.racing_by.Goals as goal
 

@@ -1,7 +1,7 @@
 use Rattle.std.proofs.Common.{ℕ, ◌+◌, ◌*◌, Bool, ◌∙◌, arith}
 use Rattle.dom_set.specs.Elements.{is_matching}
-use Rattle.data_ways.specs.Barring.{races}
-use Rattle.data_ways.specs.Tables.{index_at}
+use Rattle.data_ways.specs.Internal.Barring.{races}
+use Rattle.data_ways.specs.Internal.Tables.{index_at}
 use Rattle.data_ways.proofs.Parted.{index_further, index_small, indices_through}
 use Rattle.data_ways.proofs.walker.Walker.racing_patterns.Goals as goal
 

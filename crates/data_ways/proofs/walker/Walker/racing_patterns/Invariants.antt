@@ -1,7 +1,7 @@
 use Rattle.std.proofs.Common.{◌≡◌, ℕ, ◌<◌, ◌^◌, ◌&&◌, nat_lt}
 use Rattle.dom_set.specs.Elements.{is_matching}
-use Rattle.data_ways.specs.Barring.{races}
-use Rattle.data_ways.specs.Tables.{entry_of, index_at}
+use Rattle.data_ways.specs.Internal.Barring.{races}
+use Rattle.data_ways.specs.Internal.Tables.{entry_of, index_at}
 use Rattle.data_ways.proofs.walker.Walker.racing_patterns.Given as goal
 
 abbrev pub invariant-loop-index : goal.invariant-loop-index

@@ -2,8 +2,8 @@ use Rattle.std.proofs.Common.{◌&&◌, nat_lt}
 use Rattle.data_bytes.specs.Sets.{IsSetOf}
 use Rattle.data_bytes.specs.declared.starts.DataAccess.TheVariants.{Store}
 use Rattle.data_ways.specs.declared.way.DataEnd.TheVariants.{At}
-use Rattle.data_ways.specs.Barring.{is_stored}
-use Rattle.data_ways.specs.Tables.{entry_of, index_at}
+use Rattle.data_ways.specs.Internal.Barring.{is_stored}
+use Rattle.data_ways.specs.Internal.Tables.{entry_of, index_at}
 use Rattle.data_ways.proofs.walker.Walker.stored_at.Given as goal
 
 abbrev pub invariant-loop-index : goal.invariant-loop-index

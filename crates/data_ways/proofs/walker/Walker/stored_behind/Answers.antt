@@ -3,8 +3,8 @@ use Rattle.dom_set.specs.Elements.{is_in}
 use Rattle.row_parts.specs.declared.classes.Level.TheVariants.{Second}
 use Rattle.row_parts.proofs.Lists.{any_rest}
 use Rattle.data_bytes.proofs.Sets.{filter_leaves}
-use Rattle.data_ways.specs.Barring.{is_stored}
-use Rattle.data_ways.specs.Tables.{any_pointer, entry_of}
+use Rattle.data_ways.specs.Internal.Barring.{is_stored}
+use Rattle.data_ways.specs.Internal.Tables.{any_pointer, entry_of}
 use Rattle.data_ways.proofs.Parted.{pointer_further}
 use Rattle.data_ways.proofs.walker.Walker.stored_behind.Goals as goal
 

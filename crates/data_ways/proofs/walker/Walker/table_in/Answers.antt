@@ -2,8 +2,8 @@ use Rattle.std.proofs.Common.{List, Bool, ◌||◌, ap, ◌∙◌}
 use Rattle.dom_set.specs.Elements.{is_in}
 use Rattle.row_parts.specs.declared.classes.Level.TheVariants.{Second}
 use Rattle.data_ways.specs.declared.pointers.Pointer.{Pointer}
-use Rattle.data_ways.specs.Barring.{races}
-use Rattle.data_ways.specs.Tables.{any_pointer, entry_of}
+use Rattle.data_ways.specs.Internal.Barring.{races}
+use Rattle.data_ways.specs.Internal.Tables.{any_pointer, entry_of}
 use Rattle.data_ways.proofs.Parted.{table_is}
 use Rattle.data_ways.proofs.walker.Walker.table_in.Goals as goal
 

@@ -2,7 +2,7 @@ use Rattle.std.proofs.Common.{ℕ, ◌+◌, Bool, List, drop, map}
 use Rattle.row_parts.specs.declared.row.Row.{Row}
 use Rattle.row_parts.proofs.Lists.{any_rest}
 use Rattle.data_ways.specs.declared.barring.NewRoot.{NewRoot}
-use Rattle.data_ways.specs.Making.{in_ways, row_has, rows_have}
+use Rattle.data_ways.specs.Internal.Making.{in_ways, row_has, rows_have}
 use Rattle.data_ways.proofs.Told.{row_further}
 use Rattle.data_ways.proofs.walker.Walker.ways.Goals as goal
 

@@ -1,6 +1,6 @@
 use Rattle.std.proofs.Common.{◌≡◌, ℕ, ◌<◌, ◌^◌, Bool, ◌||◌, List, drop, map}
 use Rattle.data_ways.specs.declared.way.DataEnd.{DataEnd}
-use Rattle.data_ways.specs.Making.{in_ways, rows_have}
+use Rattle.data_ways.specs.Internal.Making.{in_ways, rows_have}
 use Rattle.data_ways.proofs.walker.Walker.ways.Given as goal
 
 abbrev pub invariant-loop-row : goal.invariant-loop-row

@@ -1,6 +1,6 @@
 use Rattle.std.proofs.Common.{Bool, ◌||◌, sym, ap, ◌∙◌}
 use Rattle.dom_set.specs.Elements.{is_in}
-use Rattle.row_parts.specs.Internal.Classes.{seen_at}
+use Rattle.row_parts.specs.Classes.{seen_at}
 use Rattle.data_ways.proofs.Parted.{one_stored}
 use Rattle.data_ways.proofs.walker.Walker.with_stored.Goals as goal
 

@@ -1,6 +1,6 @@
 use Rattle.std.proofs.Common.{◌^◌, ℕ, List, length, sym, ap, ◌∙◌, arith}
 use Rattle.set_pieces.specs.declared.piece.Piece.{Piece}
-use Rattle.set_pieces.specs.Internal.Counting.{total}
+use Rattle.set_pieces.specs.Counting.{total}
 use Rattle.set_pieces.specs.Internal.Pieces.{times}
 use Rattle.dom_set.proofs.Sets.{size_is, nth_is}
 use Rattle.dom_set.proofs.set.Set.nth.Goals as goal

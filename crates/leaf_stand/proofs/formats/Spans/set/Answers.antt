@@ -1,6 +1,7 @@
 use Rattle.std.proofs.lemmas.Result.{IfOk-weaker}
 use Rattle.dom_set.specs.Elements.{elements_of}
-use Rattle.leaf_stand.specs.Internal.Sets.{IsSetOf, in_spans}
+use Rattle.data_bytes.specs.Sets.{IsSetOf}
+use Rattle.leaf_stand.specs.Sets.{in_spans}
 use Rattle.leaf_stand.proofs.Sets.{elements_are}
 use Rattle.std.proofs.Common.{◌≡◌}
 use Rattle.leaf_stand.proofs.formats.Spans.set.Goals as goal

@@ -2,7 +2,7 @@ use Rattle.std.proofs.Common.{List, ℕ, refl, sym, subst}
 use Rattle.fd_prob.specs.declared.slot.TheConstants.{SLOTS}
 use Rattle.leaf_link.specs.Firsts.{IsDomain}
 use Rattle.leaf_stand.specs.Internal.FirstCases.{fetch_first_at}
-use Rattle.leaf_stand.specs.Internal.Sets.{AreEach}
+use Rattle.leaf_stand.specs.Sets.{AreEach}
 use Rattle.leaf_stand.proofs.Lists.{no_row}
 use Rattle.leaf_stand.proofs.stand.Stand.fetch_first_case.Goals as goal
 

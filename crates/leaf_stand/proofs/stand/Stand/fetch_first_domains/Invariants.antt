@@ -2,7 +2,7 @@ use Rattle.std.proofs.Common.{◌≡◌, ℕ, List, ◌++◌, drop, length}
 use Rattle.fd_prob.specs.declared.slot.TheConstants.{SLOTS}
 use Rattle.leaf_link.specs.Firsts.{IsDomain}
 use Rattle.leaf_stand.specs.Internal.FirstCases.{fetch_first_at}
-use Rattle.leaf_stand.specs.Internal.Sets.{AreEach}
+use Rattle.leaf_stand.specs.Sets.{AreEach}
 use Rattle.leaf_stand.proofs.stand.Stand.fetch_first_domains.Given as goal
 
 abbrev pub invariant-loop-slot : goal.invariant-loop-slot

@@ -3,7 +3,7 @@ use Rattle.std.proofs.lemmas.List.{length-append}
 use Rattle.fd_prob.specs.declared.slot.TheConstants.{SLOTS}
 use Rattle.leaf_link.specs.Firsts.{IsDomain}
 use Rattle.leaf_stand.specs.Internal.FirstCases.{first_at}
-use Rattle.leaf_stand.specs.Internal.Sets.{AreEach}
+use Rattle.leaf_stand.specs.Sets.{AreEach}
 use Rattle.leaf_stand.proofs.Lists.{add_domain, all_domains}
 use Rattle.leaf_stand.proofs.stand.Stand.first_domains.Goals as goal
 

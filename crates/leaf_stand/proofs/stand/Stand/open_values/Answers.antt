@@ -4,7 +4,7 @@ use Rattle.rv_csr.specs.declared.table.LazyRegister.{LazyRegister}
 use Rattle.rv_csr.specs.declared.table.LazyRegister.TheVariants.{Mscratch, Mtval, Sscratch, Stval}
 use Rattle.rv_hart.specs.Privileged.{lazy_address}
 use Rattle.leaf_link.specs.Turns.{may_be_old}
-use Rattle.leaf_stand.specs.Internal.Sets.{IsSetOf}
+use Rattle.data_bytes.specs.Sets.{IsSetOf}
 use Rattle.leaf_stand.specs.Stands.{turn_of}
 use Rattle.leaf_stand.proofs.Olds.{any_word, mcause_set, scause_set}
 use Rattle.leaf_stand.proofs.stand.Stand.open_values.Goals as goal

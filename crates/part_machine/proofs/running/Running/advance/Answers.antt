@@ -5,7 +5,7 @@ use Rattle.rv_script.specs.Folds.{Answer.Does}
 use Rattle.rv_hart.specs.declared.record.Record.{Record}
 use Rattle.rv_hart.specs.Changes.{IsSoundWrite}
 use Rattle.rv_hart.specs.Effects.{IsInWord, seen_after}
-use Rattle.part_machine.specs.Internal.Notes.{IsKnownAt, AreNotes, touched}
+use Rattle.part_machine.specs.Notes.{IsKnownAt, AreNotes, touched}
 use Rattle.part_machine.specs.Whole.{bare, Whole, hart_of, records_of, record_in, bare_after, next_of, stepped}
 use Rattle.part_machine.specs.Undo.{whole_of}
 use Rattle.part_machine.proofs.Undoing.{same_whole}

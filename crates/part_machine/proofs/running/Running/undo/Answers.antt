@@ -5,7 +5,7 @@ use Rattle.foot_map.specs.Touches.{has}
 use Rattle.part_machine.specs.declared.notes.Note.{Note}
 use Rattle.part_machine.specs.declared.entry.Entry.{Entry}
 use Rattle.part_machine.specs.declared.entry.Entry.TheVariants.{Step}
-use Rattle.part_machine.specs.Internal.Notes.{IsKnownAt, taken_out, put_back}
+use Rattle.part_machine.specs.Notes.{IsKnownAt, taken_out, put_back}
 use Rattle.part_machine.specs.Whole.{bare, Whole}
 use Rattle.part_machine.specs.Undo.{whole_of, undone, IsWithin}
 use Rattle.part_machine.proofs.Undoing.{same_whole}

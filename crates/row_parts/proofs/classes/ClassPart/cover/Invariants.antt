@@ -1,5 +1,5 @@
 use Rattle.std.proofs.Common.{◌≡◌, ℕ, ◌+◌, ◌<◌, ◌≤◌}
-use Rattle.row_parts.specs.Internal.Classes.{has_class}
+use Rattle.row_parts.specs.Classes.{has_class}
 use Rattle.row_parts.proofs.classes.ClassPart.cover.Given as goal
 
 abbrev pub invariant-loop-i : goal.invariant-loop-i

@@ -1,5 +1,5 @@
 use Rattle.std.proofs.Common.{◌+◌, ◌/◌, ◌^◌, ◌<◌, ◌≤◌}
-use Rattle.row_parts.specs.Internal.Classes.{low_bit}
+use Rattle.row_parts.specs.Classes.{low_bit}
 use Rattle.row_parts.proofs.TableParts.{few_entries, from_first, below_end}
 use Rattle.row_parts.proofs.classes.ClassPartChoice.judge.Goals as goal
 

@@ -1,5 +1,5 @@
 use Rattle.std.proofs.Common.{◌≡◌, ℕ, ◌+◌, ap, ◌∙◌, arith}
-use Rattle.set_pieces.specs.Internal.Counting.{one, total}
+use Rattle.set_pieces.specs.Counting.{one, total}
 use Rattle.set_pieces.specs.Internal.Patterns.{matches}
 use Rattle.set_pieces.specs.Internal.Runs.{in_run}
 use Rattle.set_pieces.proofs.Pieces.{count_none, count_some}

@@ -1,2 +1,0 @@
--- What only contracts between parts of the code, and proofs, speak of.
-pub mod Problems
